@@ -1,0 +1,6 @@
+pub mod Cases
+pub mod First
+pub mod Paired
+pub mod Totals
+pub mod Fills
+pub mod Any
