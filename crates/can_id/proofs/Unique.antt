@@ -1,0 +1,59 @@
+-- Each promise of `can_id` determines its answer: two that satisfy it are equal. Assumes nothing.
+use Prim.Native.Nat.{ℕ, _-_}
+use mathlib.Core.List.{[], _∷_}
+use mathlib.Core.Path.{_≡_, refl}
+use lib.ListN.{getD}
+use Rattle.base.proofs.Cases.{determined, determined-by}
+use Rattle.base.specs.Answer.{Answer, gives, refuses}
+use Rattle.can_id.specs.Layout.{priorityOf, pgnOf, destinationOf, sourceOf}
+use Rattle.can_id.specs.Build.{answerOf, buildOf, fresh, withPriority, withDestination}
+use Rattle.can_id.specs.declared.Destination.{Destination}
+use Rattle.can_id.specs.declared.CanIdBuilder.{CanIdBuilder}
+use Rattle.can_id.specs.declared.Built.{Built}
+use Rattle.can_id.specs.declared.Built.the-variants.{Id, Refused}
+use Rattle.can_id.specs.declared.CanIdBuildError.the-variants.{InvalidData, InvalidDestination, InvalidForBroadcast, InvalidForFocusedMessage, PsFocusMessageMustBeNull, EmptyPayload}
+
+-- ---- reading
+module _ (id : ℕ) where
+  pub priority-unique : (r s : ℕ) → r ≡ priorityOf id → s ≡ priorityOf id → r ≡ s
+  priority-unique r s = determined
+
+  pub pgn-unique : (r s : ℕ) → r ≡ pgnOf id → s ≡ pgnOf id → r ≡ s
+  pgn-unique r s = determined
+
+  pub destination-unique : (r s : Destination) → r ≡ destinationOf id → s ≡ destinationOf id → r ≡ s
+  destination-unique r s = determined
+
+  pub source-unique : (r s : ℕ) → r ≡ sourceOf id → s ≡ sourceOf id → r ≡ s
+  source-unique r s = determined
+
+-- ---- the builder and its setters
+pub fresh-unique : (pgn source : ℕ) (r s : CanIdBuilder) → r ≡ fresh pgn source → s ≡ fresh pgn source → r ≡ s
+fresh-unique pgn source r s = determined
+
+pub with-priority-unique : (b : CanIdBuilder) (p : ℕ) (r s : CanIdBuilder) → r ≡ withPriority b p → s ≡ withPriority b p → r ≡ s
+with-priority-unique b p r s = determined
+
+pub with-destination-unique : (b : CanIdBuilder) (d : ℕ) (r s : CanIdBuilder) → r ≡ withDestination b d → s ≡ withDestination b d → r ≡ s
+with-destination-unique b d r s = determined
+
+-- ---- building: the numbers give the answer back
+back : Answer ℕ → Built
+back (gives n) = Id (record { 0 = n })
+back (refuses n l) = Refused (getD (InvalidData ∷ InvalidDestination ∷ InvalidForBroadcast ∷ InvalidForFocusedMessage (getD l 0 0) ∷ PsFocusMessageMustBeNull ∷ EmptyPayload ∷ []) (n - 2) InvalidData)
+
+kept : (r : Built) → back (answerOf r) ≡ r
+unfolding back
+kept (Id id) = refl
+kept (Refused InvalidData) = refl
+kept (Refused InvalidDestination) = refl
+kept (Refused InvalidForBroadcast) = refl
+kept (Refused (InvalidForFocusedMessage pf)) = refl
+kept (Refused PsFocusMessageMustBeNull) = refl
+kept (Refused EmptyPayload) = refl
+
+pub answers-unique : (r s : Built) → answerOf r ≡ answerOf s → r ≡ s
+answers-unique r s e = determined-by answerOf back kept e refl
+
+pub build-unique : (b : CanIdBuilder) (r s : Built) → answerOf r ≡ buildOf b → answerOf s ≡ buildOf b → r ≡ s
+build-unique b r s = determined-by answerOf back kept
