@@ -1,0 +1,16 @@
+// Words and numbers on standard output.
+use libc::STDOUT_FILENO;
+
+pub fn text(words: &[u8]) {
+    io::write_all(STDOUT_FILENO, words);
+}
+
+pub fn number(n: u64) {
+    io::print_decimal(STDOUT_FILENO, n);
+}
+
+// Eight hex digits.
+pub fn identifier(id: u32) {
+    text(b"0x");
+    io::print_hex(STDOUT_FILENO, id as u64, 8);
+}
