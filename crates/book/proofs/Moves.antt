@@ -1,0 +1,51 @@
+-- What one call can do to a ledger, in five cases. A machine shows once that each of its calls is one of them; what is to hold of every call is then a lemma of five cases.
+-- Assumes nothing.
+use mathlib.Core.Bool.{Bool}
+use mathlib.Core.List.{List}
+use mathlib.Core.Option.{Option, none, some}
+use mathlib.Core.Path.{_≡_}
+use Prim.Native.Nat.{ℕ, _<_}
+use lib.ListN.{length, getD, set}
+use Rattle.base.specs.Lists.{firstAt, orElse}
+use Rattle.book.specs.Book.{Message, grown, newMessage, Place, idle, holds, Event, unlisted, badly, refused, stray, atOnce, copied, delivered, broken, Told, openingAt, Machine}
+use Rattle.base.proofs.First.{first-passes, Hit, hit, hits, misses}
+
+-- ---- a place found is within the list
+
+abbrev pub Within : ℕ → Option ℕ → Type 0
+Within k none = Unit {0}
+Within k (some i) = i < k
+
+pub within-or : (k : ℕ) (a b : Option ℕ) → Within k a → Within k b → Within k (orElse a b)
+unfolding orElse
+within-or k none b ha hb = hb
+within-or k (some i) b ha hb = ha
+
+pub within-first : {A : Type 0} (t : A → Bool) (l : List A) (d : A) → Within (length l) (firstAt t l)
+within-first t l d = go (hit (firstAt t l))
+  where
+    go : Hit (firstAt t l) → Within (length l) (firstAt t l)
+    go (hits i e) = rw e (first-passes t l d i e .inside)
+    go (misses e) = rw e tt
+
+-- ---- the five cases
+
+-- the events of a call that moves nothing
+pub data Quiet {F : Type 0} : Event F → Type 0 where
+  is-unlisted : Quiet unlisted
+  is-badly : Quiet badly
+  is-refused : Quiet refused
+  is-stray : Quiet stray
+  is-atOnce : Quiet atOnce
+
+pub data Move {F : Type 0} (late : Message F → Bool) (n : ℕ) (ps : List (Place F)) (c : F) : Told F → Type 0 where
+  stays : {e : Event F} → Quiet e → Move late n ps c (record { event = e; places = ps })
+  opens : (i : ℕ) → i < length ps → Move late n ps c (record { event = openingAt late (getD ps i (idle 0)); places = set ps i (holds (newMessage n c)) })
+  grows : (i : ℕ) (m : Message F) → i < length ps → getD ps i (idle 0) ≡ holds m → Move late n ps c (record { event = copied (grown m c); places = set ps i (holds (grown m c)) })
+  -- the place is left idle, with any number
+  delivers : (i : ℕ) (m : Message F) (kept : ℕ) → i < length ps → getD ps i (idle 0) ≡ holds m → Move late n ps c (record { event = delivered (grown m c); places = set ps i (idle kept) })
+  breaks : (i : ℕ) (m : Message F) (kept : ℕ) → i < length ps → getD ps i (idle 0) ≡ holds m → Move late n ps c (record { event = broken m; places = set ps i (idle kept) })
+
+-- every call of the machine is a move
+abbrev pub Moves : {F : Type 0} → Machine F → (F → Message F → Bool) → Type 0
+Moves {F} M late = (n : ℕ) (ps : List (Place F)) (c : F) → Move (late c) n ps c (M n ps c)
