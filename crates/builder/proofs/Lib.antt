@@ -1,0 +1,5 @@
+pub mod Copies
+pub mod NextLaws
+pub mod Unique
+pub mod NoThree
+pub mod Vectors

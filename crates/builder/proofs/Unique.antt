@@ -1,0 +1,54 @@
+-- Each promise of `builder` determines its answer: two that satisfy it are equal. Assumes nothing.
+use Prim.Native.Nat.{ℕ}
+use mathlib.Core.List.{List}
+use mathlib.Core.Path.{_≡_, refl, sym, ap, _∙_}
+use Rattle.base.proofs.Cases.{determined}
+use Rattle.can_id.specs.declared.Built.the-variants.{Refused as NotBuilt}
+use Rattle.can_id.specs.declared.Destination.{Destination}
+use Rattle.can_id.proofs.Unique.{answers-unique}
+use Rattle.builder.specs.Builder.{madeOf, withSequence, withPriority, withDestination}
+use Rattle.builder.specs.Next.{Step, kindOf, stepOf, nextOf}
+use Rattle.builder.specs.declared.FastPacketBuilder.{FastPacketBuilder}
+use Rattle.builder.specs.declared.Made.{Made}
+use Rattle.builder.specs.declared.NextKind.{NextKind}
+use Rattle.builder.specs.declared.NextKind.the-variants.{Frame, End, Refused}
+use Rattle.builder.specs.declared.Next.{Next}
+
+-- ---- the builder and its setters
+pub new-unique : (pgn source : ℕ) (to : Destination) (payload pgns : List ℕ) (held : ℕ) (r s : Made)
+    → r ≡ madeOf pgn source to payload pgns held → s ≡ madeOf pgn source to payload pgns held → r ≡ s
+new-unique pgn source to payload pgns held r s = determined
+
+module _ (b : FastPacketBuilder) where
+  pub with-sequence-id-unique : (n : ℕ) (r s : FastPacketBuilder) → r ≡ withSequence b n → s ≡ withSequence b n → r ≡ s
+  with-sequence-id-unique n r s = determined
+
+  pub with-priority-unique : (p : ℕ) (r s : FastPacketBuilder) → r ≡ withPriority b p → s ≡ withPriority b p → r ≡ s
+  with-priority-unique p r s = determined
+
+  pub to-destination-unique : (d : ℕ) (r s : FastPacketBuilder) → r ≡ withDestination b d → s ≡ withDestination b d → r ≡ s
+  to-destination-unique d r s = determined
+
+-- ---- the next frame: a kind's number and values give the kind back
+kinds : (k l : NextKind) → kindOf k ≡ kindOf l → k ≡ l
+kinds Frame Frame e = refl
+kinds Frame End e = cc
+kinds Frame (Refused f) e = cc
+kinds End Frame e = cc
+kinds End End e = refl
+kinds End (Refused f) e = cc
+kinds (Refused g) Frame e = cc
+kinds (Refused g) End e = cc
+kinds (Refused g) (Refused f) e = let b = answers-unique (NotBuilt g) (NotBuilt f) (cc) in cc
+
+back : NextKind → Step → Next
+back k t = record { kind = k; frame = t .sent; «frame_index» = t .index; «bytes_sent» = t .bytes }
+
+steps-unique : (r s : Next) → stepOf r ≡ stepOf s → r ≡ s
+unfolding back
+steps-unique r s q =
+    ap (λ (k : NextKind). back k (stepOf r)) (kinds (r .kind) (s .kind) (ap (λ (t : Step). t .kind) q))
+    ∙ ap (back (s .kind)) q
+
+pub next-frame-unique : (b : FastPacketBuilder) (index sent : ℕ) (p : List ℕ) (r s : Next) → stepOf r ≡ nextOf b index sent p → stepOf s ≡ nextOf b index sent p → r ≡ s
+next-frame-unique b index sent p r s e f = steps-unique r s (e ∙ sym f)

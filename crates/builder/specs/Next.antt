@@ -1,0 +1,99 @@
+-- The next frame: "depends on the builder, frame index and bytes sent, and is fixed for every value of those". Steps 1 to 6 of document 01.
+use Prim.Native.Nat.{ℕ, _+_, _*_, _%_, min, _-_}
+use mathlib.Core.List.{List, [], _∷_}
+use mathlib.Core.Bool.{Bool, true, false}
+use lib.ListN.{length, drop, replicate}
+use lib.Dec.{ltb, leb, eqb}
+use Rattle.base.specs.Pick.{pick}
+use Rattle.base.specs.Lists.{fill}
+use Rattle.base.specs.Answer.{Answer, gives, refuses}
+use Rattle.can_id.specs.Build.{numberOf, carriedOf, buildOf}
+use Rattle.can_id.specs.declared.CanFrame.{CanFrame}
+use Rattle.fast_packet.specs.FastPacket.{maxPayload}
+use Rattle.builder.specs.Builder.{idBuilder}
+use Rattle.builder.specs.declared.FastPacketBuilder.{FastPacketBuilder}
+use Rattle.builder.specs.declared.NextKind.{NextKind}
+use Rattle.builder.specs.declared.NextKind.the-variants.{Frame, End, Refused}
+use Rattle.builder.specs.declared.Next.{Next}
+
+-- ---- an answer in document 01's words and numbers: a frame, End, or a refusal by its number with what it carries
+pub data Kind : Type 0 where
+  frame : Kind
+  end : Kind
+  refusal : ℕ → List ℕ → Kind
+
+-- the answer, the frame or the zeros in its place, and the frame index and bytes sent that follow
+pub record Step : Type 0 where
+  pub kind : Kind
+  pub sent : CanFrame
+  pub index : ℕ
+  pub bytes : ℕ
+
+abbrev pub kindOf : NextKind → Kind
+kindOf Frame = frame
+kindOf End = end
+kindOf (Refused e) = refusal (numberOf e) (carriedOf e)
+
+abbrev pub stepOf : Next → Step
+stepOf r = record { kind = kindOf (r .kind); sent = r .frame; index = r .«frame_index»; bytes = r .«bytes_sent» }
+
+-- ---- the three answers
+abbrev pub frameOf : ℕ → List ℕ → ℕ → CanFrame
+frameOf id bytes len = record { id = record { 0 = id }; «data» = bytes; len = len }
+
+-- "an answer without a frame has zeros in its place"
+abbrev pub noFrame : CanFrame
+noFrame = frameOf 0 (replicate 8 0) 0
+
+abbrev pub sentStep : CanFrame → ℕ → ℕ → Step
+sentStep f index bytes = record { kind = frame; sent = f; index = index; bytes = bytes }
+
+abbrev pub endStep : ℕ → ℕ → Step
+endStep index bytes = record { kind = end; sent = noFrame; index = index; bytes = bytes }
+
+abbrev pub refusedStep : ℕ → List ℕ → ℕ → ℕ → Step
+refusedStep n carried index bytes = record { kind = refusal n carried; sent = noFrame; index = index; bytes = bytes }
+
+-- ---- step 6: "byte 0 is (sequence modulo 8) times 32 plus (index modulo 32)"
+abbrev pub headerOf : ℕ → ℕ → ℕ
+headerOf sequence index = sequence % 8 * 32 + index % 32
+
+-- "The frame index goes up by one and comes round from 255 to 0."
+abbrev pub indexAfter : ℕ → ℕ
+indexAfter index = (index + 1) % 256
+
+-- "If no byte was sent, byte 1 is the length and up to 6 bytes follow; .. The rest is 0xFF and the length is 8. Bytes sent goes up by the bytes taken."
+abbrev pub firstStep : ℕ → ℕ → ℕ → List ℕ → Step
+firstStep id sequence index p =
+    sentStep (frameOf id (headerOf sequence index ∷ length p ∷ fill 6 p) 8) (indexAfter index) (min 6 (length p))
+
+-- "else up to 7 follow byte 0"
+abbrev pub laterStep : ℕ → ℕ → ℕ → ℕ → List ℕ → Step
+laterStep id sequence index sent p =
+    sentStep (frameOf id (headerOf sequence index ∷ fill 7 (drop sent p)) 8) (indexAfter index) (sent + min 7 (length p - sent))
+
+-- ---- step 5: "one raw frame, the payload and then 0xFF up to eight bytes, length as the payload; bytes sent becomes the length"
+abbrev pub rawStep : ℕ → ℕ → List ℕ → Step
+rawStep id index p = sentStep (frameOf id (fill 8 p) (length p)) index (length p)
+
+-- ---- steps 4 to 6: "Payload over 223: refusal 2; bytes sent becomes the length."
+-- "Marked not fast with over 8 bytes, which no new builder is: refusal 2, bytes sent likewise."
+unfoldable pub framedStep : ℕ → FastPacketBuilder → ℕ → ℕ → List ℕ → Step
+framedStep id b index sent p =
+    pick (ltb maxPayload (length p)) (refusedStep 2 [] index (length p))
+    (pick (b .fast)
+    (pick (eqb sent 0) (firstStep id (b .«sequence_id») index p) (laterStep id (b .«sequence_id») index sent p))
+    (pick (ltb 8 (length p)) (refusedStep 2 [] index (length p)) (rawStep id index p)))
+
+-- ---- step 3: "Identifier, with priority modulo 8, refused: that refusal; bytes sent becomes the length."
+abbrev pub builtStep : Answer ℕ → FastPacketBuilder → ℕ → ℕ → List ℕ → Step
+builtStep (gives id) b index sent p = framedStep id b index sent p
+builtStep (refuses n carried) b index sent p = refusedStep n carried index (length p)
+
+-- ---- step 1: "Empty payload: refusal 7 at index 0, and the index becomes 1; at any other index, End and no change."
+-- step 2: "Bytes sent at or past the payload length: End, no change."
+unfoldable pub nextOf : FastPacketBuilder → ℕ → ℕ → List ℕ → Step
+nextOf b index sent p =
+    pick (eqb (length p) 0)
+    (pick (eqb index 0) (refusedStep 7 [] 1 sent) (endStep index sent))
+    (pick (leb (length p) sent) (endStep index sent) (builtStep (buildOf (idBuilder b)) b index sent p))

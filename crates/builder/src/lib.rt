@@ -1,0 +1,283 @@
+// Frames of a Fast Packet message, or the one raw frame of a short message, from a payload.
+ghost use mathlib.Core.Path.{_≡_};
+ghost use mathlib.Core.List.{_++_};
+ghost use Prim.Native.Nat.{_+_, _-_, _%_, _<_, _≤_, min};
+ghost use lib.ListN.{length, take, drop, replicate};
+ghost use Rattle.base.specs.Lists.{fill};
+ghost use Rattle.can_id.specs.Build.{answerOf, buildOf, numberOf, carriedOf};
+ghost use Rattle.fast_packet.specs.FastPacket.{maxPayload};
+ghost use Rattle.builder.specs.Builder.{fastOf, madeOf, withSequence, withPriority, withDestination, idBuilder};
+ghost use Rattle.builder.specs.Next.{headerOf, frameOf, stepOf, nextOf, sentStep, endStep, refusedStep, framedStep};
+use can_id::Built;
+use can_id::CanFrame;
+use can_id::CanId;
+use can_id::CanIdBuildError;
+use can_id::Destination;
+use fast_packet::FILL;
+use fast_packet::MAX_FAST_PACKET_PAYLOAD;
+
+// ---- what goes in and what comes out
+
+// What all frames of one message share. The payload travels beside it.
+pub struct FastPacketBuilder {
+    pub pgn: u32,
+    pub source_address: u8,
+    pub destination: Destination,
+    pub priority: u8,
+    pub sequence_id: u8,
+    // Fast Packet framing: any listed PGN, or a payload over 8 bytes.
+    pub fast: bool,
+}
+
+// A builder, and the number that the caller holds from now on.
+pub struct Made {
+    pub builder: FastPacketBuilder,
+    pub sequence_id: u8,
+}
+
+// What asking for the next frame found.
+pub enum NextKind {
+    Frame,
+    End,
+    Refused(CanIdBuildError),
+}
+
+// The answer, with the frame index and the bytes sent that the next question takes. Without a frame there are zeros in its place.
+pub struct Next {
+    pub kind: NextKind,
+    pub frame: CanFrame,
+    pub frame_index: u8,
+    pub bytes_sent: usize,
+}
+
+impl Next {
+    fn sent(id: CanId, data: [u8; 8], len: usize, frame_index: u8, bytes_sent: usize) -> Self
+        ensures { λ r. ⌜ stepOf r ≡ sentStep (frameOf (id .0) «data» len) «frame_index» «bytes_sent» ⌝ }
+    {
+        let frame = CanFrame {
+            id: id,
+            data: data,
+            len: len,
+        };
+        Next {
+            kind: NextKind::Frame,
+            frame: frame,
+            frame_index: frame_index,
+            bytes_sent: bytes_sent,
+        }
+    }
+
+    fn end(frame_index: u8, bytes_sent: usize) -> Self
+        ensures { λ r. ⌜ stepOf r ≡ endStep «frame_index» «bytes_sent» ⌝ }
+    {
+        let frame = CanFrame {
+            id: CanId(0),
+            data: [0; 8],
+            len: 0,
+        };
+        Next {
+            kind: NextKind::End,
+            frame: frame,
+            frame_index: frame_index,
+            bytes_sent: bytes_sent,
+        }
+    }
+
+    fn refused(error: CanIdBuildError, frame_index: u8, bytes_sent: usize) -> Self
+        ensures { λ r. ⌜ stepOf r ≡ refusedStep (numberOf error) (carriedOf error) «frame_index» «bytes_sent» ⌝ }
+    {
+        let frame = CanFrame {
+            id: CanId(0),
+            data: [0; 8],
+            len: 0,
+        };
+        Next {
+            kind: NextKind::Refused(error),
+            frame: frame,
+            frame_index: frame_index,
+            bytes_sent: bytes_sent,
+        }
+    }
+}
+
+// ---- the bytes of a frame
+
+// Byte 0: the sequence in the top three bits, the frame index in the low five.
+fn header(sequence_id: u8, frame_index: u8) -> u8
+    ensures { λ r. ⌜ r ≡ headerOf «sequence_id» «frame_index» ⌝ }
+{
+    sequence_id % 8 * 32 + frame_index % 32
+}
+
+// Byte 1 of a first frame: the payload's length.
+fn length_byte(total_len: usize) -> u8
+    requires { ⌜ «total_len» ≤ maxPayload ⌝ }
+    ensures { λ r. ⌜ r ≡ «total_len» ⌝ }
+{
+    total_len as u8
+}
+
+// The frame index goes up by one, and comes round from 255 to 0.
+fn index_after(frame_index: u8) -> u8
+    ensures { λ r. ⌜ r ≡ («frame_index» + 1) % 256 ⌝ }
+{
+    std::num::wrapping_add_u8(frame_index, 1)
+}
+
+// The lesser of two numbers.
+fn least(a: usize, b: usize) -> usize
+    ensures { λ r. ⌜ r ≡ min a b ⌝ }
+{
+    if a <= b { a } else { b }
+}
+
+// `data`, filled from `at` on, with `count` bytes of the payload there: as many as there is room for and as there are.
+fn filled(data: [u8; 8], at: usize, payload: &[u8], from: usize, count: usize) -> [u8; 8]
+    requires { ⌜ (at ≤ 8) × (from ≤ length (now payload)) × (count ≡ min (8 - at) (length (now payload) - from)) × (drop at «data» ≡ replicate (8 - at) 255) ⌝ }
+    ensures { λ r. ⌜ r ≡ take at «data» ++ fill (8 - at) (drop from (now (payload .entry))) ⌝ }
+{
+    let mut out = data;
+    let mut i: usize = 0;
+    while i < count {
+        out[at + i] = payload[from + i];
+        i += 1;
+    }
+    out
+}
+
+// ---- the builder
+
+// Whether a message goes out by Fast Packet framing.
+fn is_fast(pgns: &[u32], pgn: u32, total_len: usize) -> bool
+    ensures { λ r. ⌜ r ≡ fastOf pgn (now (pgns .entry)) «total_len» ⌝ }
+{
+    if fast_packet::is_listed(pgns, pgn) {
+        return true;
+    }
+    total_len > 8
+}
+
+impl FastPacketBuilder {
+    // A builder for a payload, with the number that the caller holds as its sequence. `pgns` are the Fast Packet PGNs.
+    pub fn new(
+        pgn: u32,
+        source_address: u8,
+        destination: Destination,
+        payload: &[u8],
+        pgns: &[u32],
+        sequence_id: u8,
+    ) -> Made
+        ensures { λ r. ⌜ r ≡ madeOf pgn «source_address» destination (now (payload .entry)) (now (pgns .entry)) «sequence_id» ⌝ }
+    {
+        let fast = is_fast(pgns, pgn, payload.len());
+        let builder = FastPacketBuilder {
+            pgn: pgn,
+            source_address: source_address,
+            destination: destination,
+            priority: CanId::DEFAULT_PRIORITY,
+            sequence_id: sequence_id % 8,
+            fast: fast,
+        };
+        Made {
+            builder: builder,
+            sequence_id: (sequence_id % 8 + 1) % 8,
+        }
+    }
+
+    // Overrides the sequence, of which the low 3 bits are kept: for tests, and for traffic that is played again.
+    pub fn with_sequence_id(mut self, sequence_id: u8) -> Self
+        ensures { λ r. ⌜ r ≡ withSequence self «sequence_id» ⌝ }
+    {
+        self.sequence_id = sequence_id % 8;
+        self
+    }
+
+    // Sets the priority, of which the low 3 bits are kept.
+    pub fn with_priority(mut self, priority: u8) -> Self
+        ensures { λ r. ⌜ r ≡ withPriority self priority ⌝ }
+    {
+        self.priority = priority % 8;
+        self
+    }
+
+    // Sets the destination, as a directed message needs it.
+    pub fn to_destination(mut self, destination_address: u8) -> Self
+        ensures { λ r. ⌜ r ≡ withDestination self «destination_address» ⌝ }
+    {
+        let next = Self {
+            pgn: self.pgn,
+            source_address: self.source_address,
+            destination: Destination::To(destination_address),
+            priority: self.priority,
+            sequence_id: self.sequence_id,
+            fast: self.fast,
+        };
+        self = next;
+        self
+    }
+
+    // The identifier of the message's frames.
+    fn identifier(self) -> Built
+        ensures { λ r. ⌜ answerOf r ≡ buildOf (idBuilder self) ⌝ }
+    {
+        let id_builder = CanId::builder(self.pgn, self.source_address).with_priority(self.priority);
+        let destination = self.destination;
+        match destination {
+            Destination::Nobody => id_builder.build(),
+            Destination::To(address) => id_builder.to_destination(address).build(),
+        }
+    }
+
+    // The frame, with the identifier.
+    fn framed(self, id: CanId, frame_index: u8, bytes_sent: usize, payload: &[u8]) -> Next
+        requires { ⌜ «bytes_sent» < length (now payload) ⌝ }
+        ensures { λ r. ⌜ stepOf r ≡ framedStep (id .0) self «frame_index» «bytes_sent» (now (payload .entry)) ⌝ }
+    {
+        let total_len = payload.len();
+        if total_len > MAX_FAST_PACKET_PAYLOAD {
+            return Next::refused(CanIdBuildError::InvalidData, frame_index, total_len);
+        }
+        let mut data = [FILL; 8];
+        let fast = self.fast;
+        if !fast {
+            if total_len > 8 {
+                return Next::refused(CanIdBuildError::InvalidData, frame_index, total_len);
+            }
+            let raw = filled(data, 0, payload, 0, total_len);
+            return Next::sent(id, raw, total_len, frame_index, total_len);
+        }
+        data[0] = header(self.sequence_id, frame_index);
+        let next_index = index_after(frame_index);
+        if bytes_sent == 0 {
+            data[1] = length_byte(total_len);
+            let taken = least(6, total_len);
+            let first = filled(data, 2, payload, 0, taken);
+            return Next::sent(id, first, 8, next_index, taken);
+        }
+        let taken = least(7, total_len - bytes_sent);
+        let later = filled(data, 1, payload, bytes_sent, taken);
+        Next::sent(id, later, 8, next_index, bytes_sent + taken)
+    }
+
+    // The next frame of a message with this payload, at a frame index and after some bytes sent.
+    pub fn next_frame(self, frame_index: u8, bytes_sent: usize, payload: &[u8]) -> Next
+        ensures { λ r. ⌜ stepOf r ≡ nextOf self «frame_index» «bytes_sent» (now (payload .entry)) ⌝ }
+    {
+        let total_len = payload.len();
+        // An empty payload has nothing to send: say so once instead of ending as if every frame had gone out.
+        if total_len == 0 {
+            if frame_index == 0 {
+                return Next::refused(CanIdBuildError::EmptyPayload, 1, bytes_sent);
+            }
+            return Next::end(frame_index, bytes_sent);
+        }
+        if bytes_sent >= total_len {
+            return Next::end(frame_index, bytes_sent);
+        }
+        let built = self.identifier();
+        match built {
+            Built::Id(id) => self.framed(id, frame_index, bytes_sent, payload),
+            Built::Refused(error) => Next::refused(error, frame_index, total_len),
+        }
+    }
+}
