@@ -3,3 +3,5 @@ pub mod NextLaws
 pub mod Unique
 pub mod NoThree
 pub mod Vectors
+pub mod Message
+pub mod Refusals

@@ -8,11 +8,14 @@ use Rattle.can_id.specs.declared.Destination.{Destination}
 use Rattle.can_id.proofs.Unique.{answers-unique}
 use Rattle.builder.specs.Builder.{madeOf, withSequence, withPriority, withDestination}
 use Rattle.builder.specs.Next.{Step, kindOf, stepOf, nextOf}
+use Rattle.builder.specs.Frames.{Turn, started, turnOf, nextTurn}
 use Rattle.builder.specs.declared.FastPacketBuilder.{FastPacketBuilder}
 use Rattle.builder.specs.declared.Made.{Made}
 use Rattle.builder.specs.declared.NextKind.{NextKind}
 use Rattle.builder.specs.declared.NextKind.the-variants.{Frame, End, Refused}
 use Rattle.builder.specs.declared.Next.{Next}
+use Rattle.builder.specs.declared.FrameIterator.{FrameIterator}
+use Rattle.builder.specs.declared.Item.{Item}
 
 -- ---- the builder and its setters
 pub new-unique : (pgn source : ℕ) (to : Destination) (payload pgns : List ℕ) (held : ℕ) (r s : Made)
@@ -28,6 +31,9 @@ module _ (b : FastPacketBuilder) where
 
   pub to-destination-unique : (d : ℕ) (r s : FastPacketBuilder) → r ≡ withDestination b d → s ≡ withDestination b d → r ≡ s
   to-destination-unique d r s = determined
+
+  pub build-unique : (r s : FrameIterator) → r ≡ started b → s ≡ started b → r ≡ s
+  build-unique r s = determined
 
 -- ---- the next frame: a kind's number and values give the kind back
 kinds : (k l : NextKind) → kindOf k ≡ kindOf l → k ≡ l
@@ -52,3 +58,24 @@ steps-unique r s q =
 
 pub next-frame-unique : (b : FastPacketBuilder) (index sent : ℕ) (p : List ℕ) (r s : Next) → stepOf r ≡ nextOf b index sent p → stepOf s ≡ nextOf b index sent p → r ≡ s
 next-frame-unique b index sent p r s e f = steps-unique r s (e ∙ sym f)
+
+-- ---- the same of the iterator, whose answer is a step and the builder
+stepIn : Item → Next
+stepIn r = record { kind = r .kind; frame = r .frame; «frame_index» = r .iterator .«frame_index»; «bytes_sent» = r .iterator .«bytes_sent» }
+
+itemOf : FastPacketBuilder → Next → Item
+itemOf b n =
+    record {
+      iterator = record { builder = b; «frame_index» = n .«frame_index»; «bytes_sent» = n .«bytes_sent» };
+      kind = n .kind;
+      frame = n .frame;
+    }
+
+turns-unique : (r s : Item) → turnOf r ≡ turnOf s → r ≡ s
+unfolding stepIn itemOf
+turns-unique r s q =
+    ap (λ (t : Turn). itemOf (t .builder) (stepIn r)) q
+    ∙ ap (itemOf (s .iterator .builder)) (steps-unique (stepIn r) (stepIn s) (ap (λ (t : Turn). t .answer) q))
+
+pub next-unique : (it : FrameIterator) (p : List ℕ) (r s : Item) → turnOf r ≡ nextTurn it p → turnOf s ≡ nextTurn it p → r ≡ s
+next-unique it p r s e f = turns-unique r s (e ∙ sym f)

@@ -1,2 +1,4 @@
 pub mod Builder
 pub mod Next
+pub mod Frames
+pub mod Message

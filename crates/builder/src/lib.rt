@@ -8,6 +8,7 @@ ghost use Rattle.can_id.specs.Build.{answerOf, buildOf, numberOf, carriedOf};
 ghost use Rattle.fast_packet.specs.FastPacket.{maxPayload};
 ghost use Rattle.builder.specs.Builder.{fastOf, madeOf, withSequence, withPriority, withDestination, idBuilder};
 ghost use Rattle.builder.specs.Next.{headerOf, frameOf, stepOf, nextOf, sentStep, endStep, refusedStep, framedStep};
+ghost use Rattle.builder.specs.Frames.{started, turnOf, nextTurn};
 use can_id::Built;
 use can_id::CanFrame;
 use can_id::CanId;
@@ -278,6 +279,55 @@ impl FastPacketBuilder {
         match built {
             Built::Id(id) => self.framed(id, frame_index, bytes_sent, payload),
             Built::Refused(error) => Next::refused(error, frame_index, total_len),
+        }
+    }
+
+    // Starts the frames of the message; each call of `next` gives the next one.
+    pub fn build(self) -> FrameIterator
+        ensures { λ r. ⌜ r ≡ started self ⌝ }
+    {
+        FrameIterator {
+            builder: self,
+            frame_index: 0,
+            bytes_sent: 0,
+        }
+    }
+}
+
+// ---- frame by frame, as a caller of the original writes it
+
+// Where the frames of a message have got to. It goes in by value, and comes back with the frame.
+pub struct FrameIterator {
+    pub builder: FastPacketBuilder,
+    pub frame_index: u8,
+    pub bytes_sent: usize,
+}
+
+// An answer, and the iterator for the next question.
+pub struct Item {
+    pub iterator: FrameIterator,
+    pub kind: NextKind,
+    pub frame: CanFrame,
+}
+
+impl FrameIterator {
+    // The next frame of the message with this payload, which is the one that the builder was made for.
+    pub fn next(self, payload: &[u8]) -> Item
+        ensures { λ r. ⌜ turnOf r ≡ nextTurn self (now (payload .entry)) ⌝ }
+    {
+        let builder = self.builder;
+        let next = builder.next_frame(self.frame_index, self.bytes_sent, payload);
+        let iterator = FrameIterator {
+            builder: builder,
+            frame_index: next.frame_index,
+            bytes_sent: next.bytes_sent,
+        };
+        let kind = next.kind;
+        let frame = next.frame;
+        Item {
+            iterator: iterator,
+            kind: kind,
+            frame: frame,
         }
     }
 }

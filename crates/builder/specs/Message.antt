@@ -1,0 +1,52 @@
+-- A whole message in closed form: how many frames, which bytes the k-th has, and how many bytes are sent before it.
+use Prim.Native.Nat.{ℕ, zero, suc, _+_, _*_, _-_, _/_, min}
+use mathlib.Core.Bool.{Bool, true, false}
+use mathlib.Core.List.{List, _∷_}
+use lib.ListN.{length, drop}
+use lib.Dec.{ltb}
+use Rattle.base.specs.Pick.{pick}
+use Rattle.base.specs.Lists.{fill}
+use Rattle.builder.specs.Next.{Step, headerOf, frameOf, sentStep, endStep, rawStep}
+use Rattle.builder.specs.Frames.{Turn, started, nextTurn}
+use Rattle.builder.specs.declared.FastPacketBuilder.{FastPacketBuilder}
+use Rattle.builder.specs.declared.FrameIterator.{FrameIterator}
+
+-- ---- asked again and again
+abbrev pub iteratorOf : Turn → FrameIterator
+iteratorOf t = record { builder = t .builder; «frame_index» = t .answer .index; «bytes_sent» = t .answer .bytes }
+
+-- the iterator after k questions
+unfoldable pub after : ℕ → FrameIterator → List ℕ → FrameIterator
+after zero it p = it
+after (suc k) it p = iteratorOf (nextTurn (after k it p) p)
+
+-- the answer to question k, counted from 0, of a builder's message
+abbrev pub answerAt : FastPacketBuilder → List ℕ → ℕ → Step
+answerAt b p k = nextTurn (after k (started b) p) p .answer
+
+-- ---- the frames of a fast message of n bytes
+-- one, and one more for every seven bytes after the first six, the last of them as full as may be
+abbrev pub framesOf : ℕ → ℕ
+framesOf n = 1 + (n - 6 + 6) / 7
+
+-- before frame k six bytes of the first and seven of each other have gone, and never more than there are
+abbrev pub sentBefore : ℕ → ℕ → ℕ
+sentBefore k n = min (7 * k - 1) n
+
+abbrev pub bytesAt : ℕ → ℕ → List ℕ → List ℕ
+bytesAt sequence zero p = headerOf sequence 0 ∷ length p ∷ fill 6 p
+bytesAt sequence (suc k) p = headerOf sequence (suc k) ∷ fill 7 (drop (7 * suc k - 1) p)
+
+-- ---- the answers: the frames one by one, and then End for good
+unfoldable pub fastAnswer : ℕ → ℕ → List ℕ → ℕ → Step
+fastAnswer id sequence p k =
+    pick (ltb k (framesOf (length p)))
+    (sentStep (frameOf id (bytesAt sequence k p) 8) (k + 1) (sentBefore (k + 1) (length p)))
+    (endStep (framesOf (length p)) (length p))
+
+unfoldable pub rawAnswer : ℕ → List ℕ → ℕ → Step
+rawAnswer id p zero = rawStep id 0 p
+rawAnswer id p (suc k) = endStep 0 (length p)
+
+unfoldable pub messageAnswer : ℕ → FastPacketBuilder → List ℕ → ℕ → Step
+messageAnswer id b p k = pick (b .fast) (fastAnswer id (b .«sequence_id») p k) (rawAnswer id p k)
