@@ -1,0 +1,12 @@
+-- `numbers::either` meets its contract: the facts on each way out pick the law of that case. Assumes nothing.
+use borrow.Author.Needs.{needs}
+use Rattle.session.proofs.PlanLaws.{choices}
+use Rattle.session.proofs.numbers.either.Statement.{statement}
+use Rattle.session.proofs.numbers.either.Tie as tie
+
+pub either-spec : {M : Type 1} → statement M
+either-spec =
+    tie.close
+    (tie.spec
+    (λ c. search (needs, choices))
+    (λ c. search (needs, choices)))

@@ -1,0 +1,5 @@
+pub mod Rules
+pub mod Frames
+pub mod Heads
+pub mod Counting
+pub mod inner

@@ -1,0 +1,32 @@
+-- What later requests vary, as parameters: the pool's limit, the test for silence, the test for the key; and document 01's own.
+use mathlib.Core.Bool.{Bool, _&&_}
+use Prim.Native.Nat.{ℕ, _-_}
+use lib.Dec.{eqb, ltb}
+
+-- "The key is (source, PGN, sequence)."
+pub record Key : Type 0 where
+  pub source : ℕ
+  pub pgn : ℕ
+  pub sequence : ℕ
+
+pub record Rules : Type 0 where
+  -- the most slots
+  pub limit : ℕ
+  -- silent over 500, by the reading now and the last time
+  pub silent : ℕ → ℕ → Bool
+  pub sameKey : Key → Key → Bool
+
+-- "A pool has 0 to 8 slots"
+abbrev pub poolLimit : ℕ
+poolLimit = 8
+
+-- "Silence is now minus last time, or 0 if now is earlier." Silent is "silent over 500". (Here a - b is 0 where b is larger.)
+unfoldable pub silence : ℕ → ℕ → Bool
+silence now last = ltb 500 (now - last)
+
+unfoldable pub keysEqual : Key → Key → Bool
+keysEqual a b = eqb (a .source) (b .source) && eqb (a .pgn) (b .pgn) && eqb (a .sequence) (b .sequence)
+
+-- document 01's own rules
+unfoldable pub base : Rules
+base = record { limit = poolLimit; silent = silence; sameKey = keysEqual }

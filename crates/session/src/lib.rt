@@ -1,0 +1,97 @@
+// One session of the Fast Packet assembler, but for its bytes: what a frame finds there, and what it makes of it. Everything here is decided on one
+// head by value. specs/ says what the tests and heads are (document 01); specs/inner/ how the code goes about a call.
+mod counting;
+mod heads;
+mod numbers;
+mod plans;
+mod search;
+
+pub use counting::count;
+pub use heads::fresh_head;
+pub use plans::decide;
+pub use search::look;
+pub use search::nothing_found;
+pub use search::place_for;
+pub use search::within_limit;
+
+// The most sessions that a pool may have.
+pub const POOL_LIMIT: usize = 8;
+
+// Maximum time without addressed message for a fast packet session.
+pub const SESSION_TIMEOUT_MS: u64 = 500;
+
+// Useful bytes a first frame carries, after the sequence and size header.
+pub const FIRST_FRAME_PAYLOAD: usize = 6;
+
+// Useful bytes a continuation frame carries, after the sequence header.
+pub const CONTINUATION_PAYLOAD: usize = 7;
+
+// A session but for its buffer.
+pub struct Head {
+    pub in_progress: bool,
+    pub source_address: u8,
+    pub sequence_id: u8,
+    pub last_frame_index: u8,
+    pub pgn: u32,
+    pub expected_size: usize,
+    pub current_size: usize,
+    pub last_seen_ms: u64,
+}
+
+// A frame as it was heard, with the clock reading at it.
+pub struct Heard {
+    pub now_ms: u64,
+    pub pgn: u32,
+    pub source_address: u8,
+    pub data: [u8; 8],
+}
+
+// The counters are cumulative. `rejected_frames` and `unknown_pgn` say that the assembler was handed traffic it does not deal with; the other
+// three say that a message was lost.
+pub struct Counters {
+    pub expired_sessions: u32,
+    pub pool_exhausted: u32,
+    pub rejected_frames: u32,
+    pub lost_fragments: u32,
+    pub unknown_pgn: u32,
+}
+
+// Which counter a frame raises.
+pub enum Mark {
+    Nothing,
+    Expired,
+    Exhausted,
+    Rejected,
+    Lost,
+    Unknown,
+}
+
+// What the caller is told. A refusal carries its number.
+pub enum Kind {
+    Refused(u8),
+    Ignored,
+    FragmentConsumed,
+    MessageComplete,
+}
+
+// What one walk over the heads finds: whether any is impossible, and the first place of each kind; POOL_LIMIT stands for none.
+pub struct Found {
+    pub bad: bool,
+    pub key: usize,
+    pub live: usize,
+    pub own: usize,
+    pub free: usize,
+}
+
+// What a frame does, made from the one head that it may change: the answer and the counter; the head after it; `count` bytes of the frame, from
+// `from` on, go to place `at` of the buffer; a message of `whole` bytes leaves the buffer, or one of `short` bytes the frame itself.
+pub struct Plan {
+    pub kind: Kind,
+    pub mark: Mark,
+    pub head: Head,
+    pub at: usize,
+    pub from: usize,
+    pub count: usize,
+    pub whole: usize,
+    pub short: usize,
+}
