@@ -1,0 +1,3 @@
+pub mod Copies
+pub mod Views
+pub mod Carries

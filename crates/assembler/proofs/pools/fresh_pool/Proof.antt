@@ -1,0 +1,16 @@
+-- `pools::fresh_pool` meets its contract. Assumes nothing.
+use borrow.Author.Needs.{needs}
+use Rattle.assembler.specs.View.{freshPool}
+use Rattle.assembler.proofs.pools.fresh_pool.Statement.{statement}
+use Rattle.assembler.proofs.pools.fresh_pool.Tie as tie
+
+returns : tie.Need-returns
+unfolding freshPool
+returns c = rw (c .fresh-head .ensures)
+
+pub fresh-pool-spec : {M : Type 1} → statement M
+fresh-pool-spec =
+    tie.close
+    (tie.spec
+    (λ c κs. search needs)
+    returns)

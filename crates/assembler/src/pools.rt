@@ -1,0 +1,48 @@
+// Making a pool.
+ghost use mathlib.Core.Path.{_≡_};
+ghost use Rattle.assembler.specs.View.{freshPool, madeOf};
+use crate::DEFAULT_SESSIONS;
+use crate::Made;
+use crate::POOL_BYTES;
+use crate::Pool;
+use session::POOL_LIMIT;
+use session::fresh_head;
+
+fn fresh_pool(size: usize) -> Pool
+    ensures { λ r. ⌜ r ≡ freshPool size ⌝ }
+{
+    let h = fresh_head();
+    let heads = [h; POOL_LIMIT];
+    Pool {
+        size: size,
+        heads: heads,
+        bytes: [0; POOL_BYTES],
+    }
+}
+
+impl Pool {
+    // A fresh pool; above the limit, refusal 1 and one without sessions.
+    pub fn new(size: usize) -> Made
+        ensures { λ r. ⌜ r ≡ madeOf size ⌝ }
+    {
+        if POOL_LIMIT < size {
+            let pool = fresh_pool(0);
+            Made {
+                refused: 1,
+                pool: pool,
+            }
+        } else {
+            let pool = fresh_pool(size);
+            Made {
+                refused: 0,
+                pool: pool,
+            }
+        }
+    }
+
+    pub fn default() -> Pool
+        ensures { λ r. ⌜ r ≡ freshPool 4 ⌝ }
+    {
+        fresh_pool(DEFAULT_SESSIONS)
+    }
+}
