@@ -14,3 +14,15 @@ pub fn identifier(id: u32) {
     text(b"0x");
     io::print_hex(STDOUT_FILENO, id as u64, 8);
 }
+
+// Seconds, and the same as hours and minutes.
+pub fn hours(seconds: u64) {
+    number(seconds);
+    text(b" s, ");
+    number(seconds / 3600);
+    text(b":");
+    let minutes = seconds / 60 % 60;
+    number(minutes / 10);
+    number(minutes % 10);
+    text(b" h");
+}

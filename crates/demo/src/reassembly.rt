@@ -1,0 +1,149 @@
+// Engine hours reassembled: an old half message, a full pool, a clock set back.
+use crate::engine;
+use crate::say;
+use assembler::Pool;
+use assembler::Received;
+use assembler::receive;
+use session::Counters;
+use session::Heard;
+use session::Kind;
+
+struct Gateway {
+    pool: Pool,
+    counters: Counters,
+}
+
+fn started(size: usize) -> Gateway {
+    let made = Pool::new(size);
+    let pool = made.pool;
+    let counters = Counters {
+        expired_sessions: 0,
+        pool_exhausted: 0,
+        rejected_frames: 0,
+        lost_fragments: 0,
+        unknown_pgn: 0,
+    };
+    Gateway {
+        pool: pool,
+        counters: counters,
+    }
+}
+
+fn show_answer(r: Received) {
+    let kind = r.kind;
+    match kind {
+        Kind::Refused(number) => {
+            say::text(b"refusal ");
+            say::number(number as u64);
+        }
+        Kind::Ignored => say::text(b"Ignored"),
+        Kind::FragmentConsumed => say::text(b"FragmentConsumed"),
+        Kind::MessageComplete => {
+            let payload = r.payload;
+            say::text(b"MessageComplete: ");
+            say::hours(engine::hours(payload));
+        }
+    }
+    say::text(b"\n");
+}
+
+// One frame of an engine record is heard.
+fn hear(g: Gateway, now_ms: u64, source: u8, sequence: u8, index: u8, hours: u32) -> Gateway {
+    say::text(b"  at ");
+    say::number(now_ms);
+    say::text(b" ms from ");
+    say::number(source as u64);
+    say::text(b", message ");
+    say::number(sequence as u64);
+    say::text(b", frame ");
+    say::number(index as u64);
+    say::text(b": ");
+    let heard = Heard {
+        now_ms: now_ms,
+        pgn: engine::PGN,
+        source_address: source,
+        data: engine::frame(hours, source, sequence, index),
+    };
+    let pool = g.pool;
+    let counters = g.counters;
+    let r = receive(pool, counters, &[engine::PGN], heard);
+    show_answer(r);
+    let left = r.pool;
+    let raised = r.counters;
+    Gateway {
+        pool: left,
+        counters: raised,
+    }
+}
+
+// The last two frames of a record, ten milliseconds apart.
+fn hear_tail(g: Gateway, now_ms: u64, source: u8, sequence: u8, hours: u32) -> Gateway {
+    let h = hear(g, now_ms, source, sequence, 2, hours);
+    hear(h, later(now_ms), source, sequence, 3, hours)
+}
+
+// All four.
+fn hear_whole(g: Gateway, now_ms: u64, source: u8, sequence: u8, hours: u32) -> Gateway {
+    let h = hear(g, now_ms, source, sequence, 0, hours);
+    let k = hear(h, later(now_ms), source, sequence, 1, hours);
+    hear_tail(k, later(later(now_ms)), source, sequence, hours)
+}
+
+fn later(now_ms: u64) -> u64 {
+    if now_ms < 1000000 {
+        now_ms + 10
+    } else {
+        now_ms
+    }
+}
+
+fn show_counters(g: Gateway) {
+    let c = g.counters;
+    say::text(b"  expired_sessions ");
+    say::number(c.expired_sessions as u64);
+    say::text(b", pool_exhausted ");
+    say::number(c.pool_exhausted as u64);
+    say::text(b", lost_fragments ");
+    say::number(c.lost_fragments as u64);
+    say::text(b"\n");
+}
+
+fn show_old_half() {
+    say::text(b"Half of a message is left open at ");
+    say::hours(0x12_FFF0);
+    say::text(b"; of the next with its number only the tail arrives\n");
+    let mut g = started(4);
+    g = hear(g, 0, 35, 5, 0, 0x12_FFF0);
+    g = hear(g, 10, 35, 5, 1, 0x12_FFF0);
+    g = hear_tail(g, 4020, 35, 5, 0x13_0000);
+    say::text(b"  (joined, the two would have read ");
+    say::hours(0x13_FFF0);
+    say::text(b")\n");
+    g = hear_whole(g, 4500, 35, 6, 0x13_0001);
+    g = hear_whole(g, 8000, 35, 5, 0x13_0004);
+    show_counters(g);
+}
+
+fn show_full_pool() {
+    say::text(b"A pool of one slot\n");
+    let mut g = started(1);
+    g = hear(g, 0, 35, 0, 0, 7200);
+    g = hear(g, 500, 36, 0, 0, 7200);
+    g = hear(g, 501, 36, 0, 0, 7200);
+    show_counters(g);
+}
+
+fn show_clock_set_back() {
+    say::text(b"The clock is set back after a first frame\n");
+    let mut g = started(4);
+    g = hear(g, 1000, 35, 0, 0, 7200);
+    g = hear(g, 0, 35, 0, 1, 7200);
+    g = hear_tail(g, 10, 35, 0, 7200);
+    show_counters(g);
+}
+
+pub fn show() {
+    show_old_half();
+    show_full_pool();
+    show_clock_set_back();
+}
