@@ -5,7 +5,7 @@ use Prim.Native.Nat.{ℕ}
 use lib.ListN.{take, drop, replicate}
 use lib.Dec.{ltb}
 use Rattle.base.specs.Answer.{gives, refuses}
-use Rattle.fast_packet.specs.FastPacket.{maxPayload}
+use Rattle.fast_packet.specs.FastPacket.{maxPayload, filledFrom}
 use Rattle.session.specs.declared.Head.{Head}
 use Rattle.session.specs.declared.Heard.{Heard}
 use Rattle.session.specs.declared.Counters.{Counters}
@@ -16,6 +16,8 @@ use Rattle.session.specs.Heads.{freshHead}
 use Rattle.assembler.specs.declared.Pool.{Pool}
 use Rattle.assembler.specs.declared.Made.{Made}
 use Rattle.assembler.specs.declared.Received.{Received}
+use Rattle.assembler.specs.declared.Answer.{Answer}
+use Rattle.assembler.specs.declared.HeardWithLength.{HeardWithLength}
 use Rattle.assembler.specs.Call.{Call}
 use Rattle.assembler.specs.Slots.{Slot, Slots}
 use Rattle.assembler.specs.Step.{Said, ignored, consumed, complete, Reply, Outcome, step}
@@ -71,11 +73,42 @@ lengthOf (gives (complete bytes n)) = n
 unfoldable pub shown : Outcome → Received
 shown o = record { kind = kindOf (o .reply); payload = payloadOf (o .reply); length = lengthOf (o .reply); pool = poolOf (o .pool); counters = o .counters }
 
+-- 01's number and values of each kind of answer, with the payload and length beside it
+unfoldable pub replyBy : Kind → List ℕ → ℕ → Reply
+replyBy (Refused n) payload length = refuses n []
+replyBy Ignored payload length = gives ignored
+replyBy FragmentConsumed payload length = gives consumed
+replyBy MessageComplete payload length = gives (complete payload length)
+
+unfoldable pub replyOf : Received → Reply
+replyOf r = replyBy (r .kind) (r .payload) (r .length)
+
 -- ---- the calls
 
 -- one call with eight bytes
 unfoldable pub receiveOf : Rules → List ℕ → Heard → Pool → Counters → Received
 receiveOf R pgns f p k = shown (step R (slotsOf p) k (record { pgns = pgns; heard = f }))
+
+-- the same without the counters, where the caller lends them
+abbrev pub answerOf : Received → Answer
+answerOf r = record { kind = r .kind; payload = r .payload; length = r .length; pool = r .pool }
+
+abbrev pub receivedOf : Answer → Counters → Received
+receivedOf a k = record { kind = a .kind; payload = a .payload; length = a .length; pool = a .pool; counters = k }
+
+-- "An added entry takes a length .., keeps the first min(length, 8) bytes, fills the rest with 0xFF"
+unfoldable pub filledFrame : HeardWithLength → Heard
+filledFrame x =
+    record {
+      «now_ms» = x .heard .«now_ms»;
+      pgn = x .heard .pgn;
+      «source_address» = x .heard .«source_address»;
+      «data» = filledFrom (x .length) (x .heard .«data»);
+    }
+
+-- ".. and goes on as above"
+unfoldable pub receiveWithLengthOf : Rules → List ℕ → HeardWithLength → Pool → Counters → Received
+receiveWithLengthOf R pgns x p k = receiveOf R pgns (filledFrame x) p k
 
 -- ---- making a pool
 

@@ -1,14 +1,21 @@
 // NMEA 2000 Fast Packet assembler: rebuilds application messages by aggregating the CAN frames of a multi-packet session.
 // What one call does is defined in specs/Step (document 01's steps, over slots); specs/View says how a pool shows its slots, and what the calls answer.
 mod bytes;
+mod lending;
 mod pools;
 mod receiving;
 
 use fast_packet::MAX_FAST_PACKET_PAYLOAD;
+pub use lending::answer_of;
+pub use lending::counters_of;
+pub use lending::process_frame;
+pub use lending::process_frame_with_length;
 pub use receiving::handles;
 pub use receiving::receive;
+pub use receiving::receive_with_length;
 use session::Counters;
 use session::Head;
+use session::Heard;
 use session::Kind;
 use session::POOL_LIMIT;
 
@@ -30,6 +37,12 @@ pub struct Pool {
 pub struct Made {
     pub refused: u8,
     pub pool: Pool,
+}
+
+// A heard frame with its length: of its eight bytes the first `length` were sent.
+pub struct HeardWithLength {
+    pub heard: Heard,
+    pub length: usize,
 }
 
 // What a call answers, with the counters after it. Without a message the payload is zeros and the length 0.

@@ -1,0 +1,60 @@
+// The calls with the counters lent: one thin function over each by-value core reads the record, and writes back what the core says of it.
+ghost use mathlib.Core.Path.{_≡_};
+ghost use Rattle.session.specs.Rules.{base};
+ghost use Rattle.assembler.specs.View.{receiveOf, receiveWithLengthOf, answerOf};
+use crate::Answer;
+use crate::HeardWithLength;
+use crate::Pool;
+use crate::Received;
+use crate::receiving::receive;
+use crate::receiving::receive_with_length;
+use session::Counters;
+use session::Heard;
+
+pub fn counters_of(r: Received) -> Counters
+    ensures { λ s. ⌜ s ≡ r .counters ⌝ }
+{
+    let c = r.counters;
+    c
+}
+
+pub fn answer_of(r: Received) -> Answer
+    ensures { λ s. ⌜ s ≡ answerOf r ⌝ }
+{
+    let kind = r.kind;
+    let payload = r.payload;
+    let pool = r.pool;
+    Answer {
+        kind: kind,
+        payload: payload,
+        length: r.length,
+        pool: pool,
+    }
+}
+
+// Process a CAN frame that may belong to a Fast Packet session. `pgns` is the list of Fast Packet PGNs; a PGN outside it is ignored.
+pub fn process_frame(pool: Pool, counters: &mut Counters, pgns: &[u32], heard: Heard) -> Answer
+    ensures { λ r. ⌜ (r ≡ answerOf (receiveOf base (now (pgns .entry)) heard pool (now (counters .entry))))
+        × (now (counters .exit) ≡ receiveOf base (now (pgns .entry)) heard pool (now (counters .entry)) .counters) ⌝ }
+{
+    let c = *counters;
+    let out = receive(pool, c, pgns, heard);
+    *counters = counters_of(out);
+    answer_of(out)
+}
+
+// The same for a frame with a length: its first bytes, and 0xFF after them.
+pub fn process_frame_with_length(
+    pool: Pool,
+    counters: &mut Counters,
+    pgns: &[u32],
+    x: HeardWithLength,
+) -> Answer
+    ensures { λ r. ⌜ (r ≡ answerOf (receiveWithLengthOf base (now (pgns .entry)) x pool (now (counters .entry))))
+        × (now (counters .exit) ≡ receiveWithLengthOf base (now (pgns .entry)) x pool (now (counters .entry)) .counters) ⌝ }
+{
+    let c = *counters;
+    let out = receive_with_length(pool, c, pgns, x);
+    *counters = counters_of(out);
+    answer_of(out)
+}
