@@ -2,3 +2,4 @@ pub mod Copies
 pub mod Views
 pub mod Carries
 pub mod Types
+pub mod Vectors

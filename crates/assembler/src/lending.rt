@@ -1,7 +1,7 @@
 // The calls with the counters lent: one thin function over each by-value core reads the record, and writes back what the core says of it.
 ghost use mathlib.Core.Path.{_≡_};
 ghost use Rattle.session.specs.Rules.{base};
-ghost use Rattle.assembler.specs.View.{receiveOf, receiveWithLengthOf, answerOf};
+ghost use Rattle.assembler.specs.View.{receiveOf, receiveWithLengthOf, answerOf, receivedOf};
 use crate::Answer;
 use crate::HeardWithLength;
 use crate::Pool;
@@ -11,14 +11,14 @@ use crate::receiving::receive_with_length;
 use session::Counters;
 use session::Heard;
 
-pub fn counters_of(r: Received) -> Counters
+fn counters_of(r: Received) -> Counters
     ensures { λ s. ⌜ s ≡ r .counters ⌝ }
 {
     let c = r.counters;
     c
 }
 
-pub fn answer_of(r: Received) -> Answer
+fn answer_of(r: Received) -> Answer
     ensures { λ s. ⌜ s ≡ answerOf r ⌝ }
 {
     let kind = r.kind;
@@ -57,4 +57,42 @@ pub fn process_frame_with_length(
     let out = receive_with_length(pool, c, pgns, x);
     *counters = counters_of(out);
     answer_of(out)
+}
+
+fn joined(a: Answer, counters: Counters) -> Received
+    ensures { λ r. ⌜ r ≡ receivedOf a counters ⌝ }
+{
+    let kind = a.kind;
+    let payload = a.payload;
+    let pool = a.pool;
+    Received {
+        kind: kind,
+        payload: payload,
+        length: a.length,
+        pool: pool,
+        counters: counters,
+    }
+}
+
+// `process_frame` for callers that hold the counters by value, as a program or an exported function does.
+pub fn process_frame_through(pool: Pool, counters: Counters, pgns: &[u32], heard: Heard) -> Received
+    ensures { λ r. ⌜ r ≡ receiveOf base (now (pgns .entry)) heard pool counters ⌝ }
+{
+    let mut c = counters;
+    let a = process_frame(pool, &mut c, pgns, heard);
+    joined(a, c)
+}
+
+// The same for a frame with a length.
+pub fn process_frame_with_length_through(
+    pool: Pool,
+    counters: Counters,
+    pgns: &[u32],
+    x: HeardWithLength,
+) -> Received
+    ensures { λ r. ⌜ r ≡ receiveWithLengthOf base (now (pgns .entry)) x pool counters ⌝ }
+{
+    let mut c = counters;
+    let a = process_frame_with_length(pool, &mut c, pgns, x);
+    joined(a, c)
 }

@@ -6,10 +6,10 @@ mod pools;
 mod receiving;
 
 use fast_packet::MAX_FAST_PACKET_PAYLOAD;
-pub use lending::answer_of;
-pub use lending::counters_of;
 pub use lending::process_frame;
+pub use lending::process_frame_through;
 pub use lending::process_frame_with_length;
+pub use lending::process_frame_with_length_through;
 pub use receiving::handles;
 pub use receiving::receive;
 pub use receiving::receive_with_length;
