@@ -3,3 +3,5 @@ pub mod Views
 pub mod Carries
 pub mod Types
 pub mod Vectors
+pub mod Unique
+pub mod Keeps

@@ -3,3 +3,4 @@ pub mod Slots
 pub mod Step
 pub mod Runs
 pub mod View
+pub mod Possible
