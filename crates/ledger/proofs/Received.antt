@@ -1,0 +1,99 @@
+-- A run of the public call is a run of the steps: its pool shows the same slots, its counters are the same, and it says the same.
+-- Assumes nothing.
+use mathlib.Core.Bool.{Bool}
+use mathlib.Core.List.{List, [], _∷_, _++_, map}
+use mathlib.Core.Path.{_≡_, refl, sym, ap, subst, _∙_}
+use Prim.Native.Nat.{ℕ, zero, suc, _+_, _≤_, _<_}
+use native.Mathlib.Omega.{arith}
+use lib.ListN.{length, take, drop, replicate, take-append-drop, length-replicate}
+use lib.Dec.{ltb}
+use borrow.Author.Tests.{le-ltb}
+use Rattle.base.proofs.Paired.{All2, nil, cons}
+use Rattle.fast_packet.specs.FastPacket.{maxPayload}
+use Rattle.session.specs.declared.Head.{Head}
+use Rattle.session.specs.Rules.{Rules, poolLimit}
+use Rattle.session.specs.Heads.{freshHead}
+use Rattle.session.specs.Counting.{most}
+use Rattle.assembler.specs.Call.{Call, CallOk}
+use Rattle.assembler.specs.Slots.{Slot, Slots, freshSlot}
+use Rattle.assembler.specs.Step.{step}
+use Rattle.assembler.specs.Runs.{World, after, call, calls}
+use Rattle.assembler.specs.View.{slotsFrom, slotsOf, headOf, shown, receiveOf, freshPool, madeIf, madeOf}
+use Rattle.assembler.proofs.Views.{Sized, none, more, sized-append, view-forth}
+use Rattle.ledger.specs.Ledger.{Ledger, Place, tellOne, tell, numbered, blank}
+use Rattle.ledger.specs.Demand3 as demand
+use Rattle.ledger.specs.Demand3.{AllOk}
+use Rattle.ledger.specs.Runs.{State, start, sayingOf, next, receives, seenIn, replySays, seenOf}
+use Rattle.ledger.proofs.Shows.{Shows, room-of}
+use Rattle.ledger.proofs.Run.{Follows, begun, follows-begun, follows-call, step-rest, numbered-tell}
+
+-- ---- slots of 223 bytes each
+
+all2-sized : (R : Rules) {ps : List Place} {ss : List Slot} → All2 (Shows R) ps ss → Sized ss
+all2-sized R nil = none
+all2-sized R (cons {a} {b} h t) = more (room-of R a b h) (all2-sized R t)
+
+-- the slots past the size
+abbrev rest : Slots → List Slot
+rest q = drop (q .size) (q .slots)
+
+sized : (R : Rules) (w : World) (L : Ledger) → Follows R w L → Sized (rest (w .pool)) → Sized (w .pool .slots)
+sized R w L f h = subst Sized (take-append-drop (w .pool .size) (w .pool .slots)) (sized-append (all2-sized R (f .shows)) h)
+
+fresh-long : length (freshSlot .buffer) ≡ maxPayload
+unfolding freshSlot
+fresh-long = length-replicate {A = ℕ} maxPayload 0
+
+sized-replicate : (n : ℕ) → Sized (replicate n freshSlot)
+sized-replicate zero = none
+sized-replicate (suc n) = more fresh-long (sized-replicate n)
+
+sized-drop : (n : ℕ) {ss : List Slot} → Sized ss → Sized (drop n ss)
+sized-drop zero h = h
+sized-drop (suc n) none = none
+sized-drop (suc n) (more e h) = sized-drop n h
+
+-- ---- a state of the public call and a state of the steps
+
+pub record Same (z : State) (w : World) : Type 0 where
+  pub pool : slotsOf (z .pool) ≡ w .pool
+  pub counters : z .counters ≡ w .counters
+  pub said : z .said ≡ map replySays (w .replies)
+
+heads-within : (n : ℕ) (hs : List Head) (bs : List ℕ) → map headOf (take n (slotsFrom hs bs)) ≡ take n hs
+unfolding headOf slotsFrom
+heads-within zero hs bs = refl
+heads-within (suc n) [] bs = refl
+heads-within (suc n) (h ∷ hs) bs = ap (_∷_ h) (heads-within n hs (drop maxPayload bs))
+
+-- ... then the same is seen of both
+pub same-seen : (z : State) (w : World) → Same z w → seenIn z ≡ seenOf w
+unfolding seenIn seenOf slotsOf
+same-seen z w s = rw (← s .pool, ← s .counters, ← s .said, heads-within (z .pool .size) (z .pool .heads) (z .pool .bytes))
+
+module _ (R : Rules) where
+  next-same : (z : State) (w : World) (c : Call) → Same z w → Sized (call (step R) w c .pool .slots) → Same (next z (receiveOf R (c .pgns) (c .heard) (z .pool) (z .counters))) (call (step R) w c)
+  unfolding next call after receiveOf shown sayingOf replySays
+  next-same z w c s h =
+      rw (s .pool, s .counters) (record { pool = view-forth (step R (w .pool) (w .counters) c .pool) h; counters = refl; said = ap (_∷_ (replySays (step R (w .pool) (w .counters) c .reply))) (s .said) })
+
+  runs-same : (z : State) (w : World) (L : Ledger) {cs : List Call} → AllOk R cs → Follows R w L → Sized (rest (w .pool)) → Same z w → numbered L + length cs ≤ most → Same (receives (receiveOf R) z cs) (calls (step R) w cs)
+  unfolding receives calls
+  runs-same z w L demand.none f h s l = s
+  runs-same z w L (demand.more {c} {cs} ok oks) f h s l =
+      let w′ : World = call (step R) w c in
+      let f′ : Follows R w′ (tell (tellOne R) L c) = follows-call R w L c ok f (omega arith) in
+      let h′ : Sized (rest (w′ .pool)) = rw (step-rest R w L c ok f) h in
+      runs-same (next z (receiveOf R (c .pgns) (c .heard) (z .pool) (z .counters))) w′ (tell (tellOne R) L c) oks f′ h′ (next-same z w c s (sized R w′ (tell (tellOne R) L c) f′ h′)) (omega (arith, numbered-tell R L c))
+
+made-fresh : (n : ℕ) → n ≤ poolLimit → madeOf n .pool ≡ freshPool n
+unfolding madeOf madeIf
+made-fresh n h = rw (le-ltb poolLimit n h)
+
+start-same : (n : ℕ) → n ≤ poolLimit → Same (start n) (begun poolLimit n)
+unfolding start begun
+start-same n h = rw (made-fresh n h) (record { pool = unfold freshPool slotsOf slotsFrom freshSlot in refl; counters = refl; said = refl })
+
+pub run-same : (R : Rules) (n : ℕ) → n ≤ R .limit → n ≤ poolLimit → {cs : List Call} → AllOk R cs → length cs ≤ most → Same (receives (receiveOf R) (start n) cs) (calls (step R) (begun poolLimit n) cs)
+run-same R n h g oks l =
+    runs-same R (start n) (begun poolLimit n) (blank n) oks (follows-begun R poolLimit n h g) (unfold begun in sized-drop n (sized-replicate poolLimit)) (start-same n g) (unfold numbered blank in omega arith)

@@ -1,0 +1,1 @@
+// Demand 3: the ledger of the calls closes. Definitions and theorems over those of `assembler`; no code.
