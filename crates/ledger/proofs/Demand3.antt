@@ -1,17 +1,22 @@
 -- Demand 3, proved: of the public call at document 01's own rules, and at every test for silence and for the key; and of the steps at every limit too.
 -- Assumes nothing.
 use mathlib.Core.List.{List}
+use mathlib.Core.Path.{_≡_, refl, ap, _∙_}
 use Prim.Native.Nat.{ℕ, _≤_}
+use lib.ListN.{length}
 use Rattle.session.specs.Rules.{Rules, poolLimit, base}
 use Rattle.session.specs.Counting.{most}
+use Rattle.session.specs.declared.Counters.{Counters}
 use Rattle.assembler.specs.Call.{Call}
 use Rattle.assembler.specs.Slots.{freshSlots}
 use Rattle.assembler.specs.Step.{step}
 use Rattle.assembler.specs.Runs.{fresh, calls}
-use Rattle.assembler.specs.View.{receiveOf}
+use Rattle.assembler.specs.declared.Received.{Received}
+use Rattle.assembler.specs.declared.Answer.{Answer}
+use Rattle.assembler.specs.View.{receiveOf, receivedOf}
 use Rattle.ledger.specs.Ledger.{ledgerOf}
-use Rattle.ledger.specs.Demand3.{Demand3}
-use Rattle.ledger.specs.Runs.{start, receives, received, stepped}
+use Rattle.ledger.specs.Demand3.{Demand3, AllOk, Agreed, Admitted}
+use Rattle.ledger.specs.Runs.{State, start, next, receives, seenIn, received, Promised, Ran, stop, on, stepped}
 use Rattle.ledger.proofs.Run.{begun, follows, agreed}
 use Rattle.ledger.proofs.Admission.{admitted}
 use Rattle.ledger.proofs.Received.{same-seen, run-same}
@@ -35,3 +40,18 @@ demand-3-rules R n h g cs oks l =
 pub demand-3 : (n : ℕ) → n ≤ poolLimit → Demand3 base n (received (receiveOf base) n)
 unfolding base
 demand-3 n h = demand-3-rules base n h h
+
+-- ---- the same of `process_frame`, to which the counters are lent
+
+promised-is : (R : Rules) (c : Call) (z : State) (a : Answer) (k : Counters) → Promised R c z a k → receivedOf a k ≡ receiveOf R (c .pgns) (c .heard) (z .pool) (z .counters)
+promised-is R c z a k p = rw (p .0, p .1)
+
+ran-is : (R : Rules) {z y : State} {cs : List Call} → Ran R z cs y → y ≡ receives (receiveOf R) z cs
+unfolding receives
+ran-is R stop = refl
+ran-is R (on {z} {y} {c} {cs} {a} {k} p r) = ran-is R r ∙ ap (λ (x : Received). receives (receiveOf R) (next z x) cs) (promised-is R c z a k p)
+
+-- wherever calls that keep the promise of `process_frame` come to from a new pool and zero counters, what is seen there agrees with the ledger
+pub demand-3-process-frame : (n : ℕ) → n ≤ poolLimit → {cs : List Call} {y : State} → Ran base (start n) cs y → AllOk base cs → length cs ≤ 4294967295
+    → Agreed (seenIn y) (ledgerOf base n cs) × ((c : Call) → Admitted base (seenIn y) (ledgerOf base n cs) c)
+demand-3-process-frame n h {cs} r oks l = rw (ran-is base r) (unfold Demand3 received in demand-3 n h cs oks l)

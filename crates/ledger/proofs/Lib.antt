@@ -5,3 +5,8 @@ pub mod Run
 pub mod Admission
 pub mod Received
 pub mod Demand3
+pub mod Moments
+pub mod Bench
+pub mod Trials
+pub mod Parts
+pub mod Wrong

@@ -1,24 +1,25 @@
--- What is seen after a run of the public call, each call given the pool and counters that the last one left; and after a run of the steps.
+-- What is seen after a run of calls, each given the pool and counters that the last one left: of the receive call by value, of `process_frame`, and of
+-- the steps over slots.
 use mathlib.Core.List.{List, [], _∷_, map}
+use mathlib.Core.Path.{_≡_}
 use Prim.Native.Nat.{ℕ}
 use lib.ListN.{take}
-use Rattle.session.specs.declared.Head.{Head}
 use Rattle.session.specs.declared.Heard.{Heard}
 use Rattle.session.specs.declared.Counters.{Counters}
-use Rattle.session.specs.Rules.{Rules, base}
+use Rattle.session.specs.Rules.{Rules}
 use Rattle.session.specs.Counting.{freshCounters}
 use Rattle.assembler.specs.declared.Pool.{Pool}
-use Rattle.assembler.specs.declared.Made.{Made}
 use Rattle.assembler.specs.declared.Received.{Received}
+use Rattle.assembler.specs.declared.Answer.{Answer}
 use Rattle.assembler.specs.Call.{Call}
-use Rattle.assembler.specs.Slots.{Slot, within}
-use Rattle.assembler.specs.Step.{Reply, step}
+use Rattle.assembler.specs.Slots.{within}
+use Rattle.assembler.specs.Step.{Reply}
 use Rattle.assembler.specs.Runs.{Assembler, World, fresh, calls}
-use Rattle.assembler.specs.View.{headOf, kindOf, payloadOf, lengthOf, receiveOf, madeOf}
+use Rattle.assembler.specs.View.{headOf, kindOf, payloadOf, lengthOf, receiveOf, answerOf, receivedOf, madeOf}
 use Rattle.ledger.specs.Ledger.{Saying}
 use Rattle.ledger.specs.Demand3.{Seen}
 
--- ---- the public call
+-- ---- the receive call, by value
 
 -- what a receive call gives, by its contract
 abbrev pub Receive : Type 0
@@ -50,6 +51,17 @@ seenIn z = record { said = z .said; heads = take (z .pool .size) (z .pool .heads
 -- what is seen after these calls, from a new pool of n slots
 unfoldable pub received : Receive → ℕ → List Call → Seen
 received f n cs = seenIn (receives f (start n) cs)
+
+-- ---- `process_frame`, to which the counters are lent
+
+-- its `ensures`: what it promises of its answer, and of the counters that it leaves
+abbrev pub Promised : Rules → Call → State → Answer → Counters → Type 0
+Promised R c z a k = (a ≡ answerOf (receiveOf R (c .pgns) (c .heard) (z .pool) (z .counters))) × (k ≡ receiveOf R (c .pgns) (c .heard) (z .pool) (z .counters) .counters)
+
+-- a run from one state to another, each of whose calls keeps its promise
+pub data Ran (R : Rules) : State → List Call → State → Type 0 where
+  stop : {z : State} → Ran R z [] z
+  on : {z y : State} {c : Call} {cs : List Call} {a : Answer} {k : Counters} → Promised R c z a k → Ran R (next z (receivedOf a k)) cs y → Ran R z (c ∷ cs) y
 
 -- ---- the steps, over slots
 

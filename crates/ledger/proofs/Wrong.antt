@@ -1,0 +1,231 @@
+-- Wrong assemblers, each a receive call with one thing changed, and for each a run of which demand 3 does not hold.
+-- Assumes nothing.
+use mathlib.Core.Bool.{Bool, true, false}
+use mathlib.Core.List.{List, [], _∷_, _++_, map, reverse}
+use mathlib.Core.Path.{_≡_, refl, ap}
+use Prim.Native.Nat.{ℕ}
+use native.Mathlib.Omega.{arith}
+use lib.ListN.{getD, take, set}
+use lib.Seq.{paste}
+use lib.Dec.{ltb, lit<, lit≤}
+use Rattle.session.specs.declared.Head.{Head}
+use Rattle.session.specs.declared.Heard.{Heard}
+use Rattle.session.specs.declared.Kind.{Kind}
+use Rattle.session.specs.declared.Kind.the-variants as kind
+use Rattle.session.specs.declared.Mark.the-variants.{Expired, Lost}
+use Rattle.session.specs.Rules.{base}
+use Rattle.session.specs.Frames.{firstBytes, nextBytes}
+use Rattle.session.specs.Heads.{openedHead}
+use Rattle.session.specs.Counting.{freshCounters}
+use Rattle.assembler.specs.declared.Pool.{Pool}
+use Rattle.assembler.specs.declared.Received.{Received}
+use Rattle.assembler.specs.Slots.{Slot, openedSlot, resetSlot}
+use Rattle.assembler.specs.View.{zeros, receiveOf}
+use Rattle.ledger.specs.Ledger.{answerOf, ledgerOf, tally, held, one, Reclaimed, BadSize}
+use Rattle.ledger.specs.Demand3.{Demand3, inProgress}
+use Rattle.ledger.specs.Runs.{Receive, received}
+use Rattle.ledger.proofs.Bench.{ran, told, frame, announces, goes-on}
+use Rattle.ledger.proofs.Trials.{pair, pair-ok, twice, twice-ok, firsts, firsts-ok, lengthSaid, byteSaid}
+use Rattle.ledger.proofs.Parts.{Parts, wholeOf, untouched, slotsBy, markBy, saidBy, outcomeBy, stepBy, by}
+
+-- ---- one that reassembles the first message and only says FragmentConsumed later
+
+unfoldable pub completes : Kind → Bool
+completes (kind.Refused n) = false
+completes kind.Ignored = false
+completes kind.FragmentConsumed = false
+completes kind.MessageComplete = true
+
+unfoldable pub mute : Bool → Received → Received
+mute true a = record { kind = kind.FragmentConsumed; payload = zeros; length = 0; pool = a .pool; counters = a .counters }
+mute false a = a
+
+-- it marks the pool's last slot, past the size, once it has delivered
+unfoldable pub marker : Head
+marker =
+    record {
+      «in_progress» = false;
+      «source_address» = 1;
+      «sequence_id» = 0;
+      «last_frame_index» = 0;
+      pgn = 0;
+      «expected_size» = 0;
+      «current_size» = 0;
+      «last_seen_ms» = 0;
+    }
+
+unfoldable pub marked : Bool → Received → Received
+marked true a = record { kind = a .kind; payload = a .payload; length = a .length; pool = record { size = a .pool .size; heads = set (a .pool .heads) 7 marker; bytes = a .pool .bytes }; counters = a .counters }
+marked false a = a
+
+unfoldable pub isMarked : Pool → Bool
+isMarked p = ltb 0 (getD (p .heads) 7 marker .«source_address»)
+
+unfoldable pub lazy : Receive
+lazy pgns f p k = let a = receiveOf base pgns f p k in mute (isMarked p) (marked (completes (a .kind)) a)
+
+lazy-says : lengthSaid (received lazy 4 twice .said) ≡ 0
+unfolding ran twice announces goes-on frame lazy mute completes marker marked isMarked lengthSaid
+lazy-says = refl
+
+twice-says : lengthSaid (map answerOf (ledgerOf base 4 twice .entries)) ≡ 7
+unfolding told twice announces goes-on frame lengthSaid
+twice-says = refl
+
+pub rejects-lazy : Demand3 base 4 (received lazy 4) → ⊥
+unfolding Demand3
+rejects-lazy d =
+    omega (arith, ap lengthSaid (d twice twice-ok (unfold twice in lit≤ tt) .0 .answers), lazy-says, twice-says)
+
+-- ---- one that makes its counters up
+
+unfoldable pub madeUp : Receive
+madeUp pgns f p k = let a = receiveOf base pgns f p k in record { kind = a .kind; payload = a .payload; length = a .length; pool = a .pool; counters = freshCounters }
+
+madeUp-counts : received madeUp 4 (firsts 224) .counters .«rejected_frames» ≡ 0
+unfolding ran firsts announces frame madeUp
+madeUp-counts = refl
+
+bad-counts : tally BadSize one (ledgerOf base 4 (firsts 224)) ≡ 1
+unfolding told firsts announces frame
+bad-counts = refl
+
+pub rejects-made-up : Demand3 base 4 (received madeUp 4) → ⊥
+unfolding Demand3
+rejects-made-up d =
+    omega (arith, d (firsts 224) (firsts-ok 224) (unfold firsts in lit≤ tt) .0 .rejected, madeUp-counts, bad-counts)
+
+-- ---- a message with two fates: delivered, and its slot still in progress
+
+unfoldable pub twoFates : Parts
+twoFates = record { opening = openedSlot; atOnce = untouched; breaking = resetSlot; ending = λ (s : Slot). s; straying = Lost; delivering = wholeOf }
+
+twoFates-holds : inProgress (received (by twoFates) 1 (pair 1 1) .heads) ≡ 1
+unfolding ran pair announces goes-on frame by stepBy outcomeBy slotsBy markBy saidBy wholeOf twoFates
+twoFates-holds = refl
+
+delivered-held : held one (ledgerOf base 1 (pair 1 1)) ≡ 0
+unfolding told pair announces goes-on frame
+delivered-held = refl
+
+pub rejects-two-fates : Demand3 base 1 (received (by twoFates) 1) → ⊥
+unfolding Demand3
+rejects-two-fates d = omega (arith, d (pair 1 1) (pair-ok 1 1 (lit< tt)) (unfold pair in lit≤ tt) .0 .holding, twoFates-holds, delivered-held)
+
+-- ---- a message with none: a short first frame with its key closes its session, and nothing says so
+
+unfoldable pub noFate : Parts
+noFate = record { opening = openedSlot; atOnce = map resetSlot; breaking = resetSlot; ending = resetSlot; straying = Lost; delivering = wholeOf }
+
+noFate-holds : inProgress (received (by noFate) 1 (firsts 6) .heads) ≡ 0
+unfolding ran firsts announces frame by stepBy outcomeBy slotsBy markBy saidBy wholeOf noFate
+noFate-holds = refl
+
+short-held : held one (ledgerOf base 1 (firsts 6)) ≡ 1
+unfolding told firsts announces frame
+short-held = refl
+
+pub rejects-no-fate : Demand3 base 1 (received (by noFate) 1) → ⊥
+unfolding Demand3
+rejects-no-fate d = omega (arith, d (firsts 6) (firsts-ok 6) (unfold firsts in lit≤ tt) .0 .holding, noFate-holds, short-held)
+
+-- ---- a late continuation counted as expired
+
+unfoldable pub countsLate : Parts
+countsLate = record { opening = openedSlot; atOnce = untouched; breaking = resetSlot; ending = resetSlot; straying = Expired; delivering = wholeOf }
+
+countsLate-counts : received (by countsLate) 1 (pair 1 501) .counters .«expired_sessions» ≡ 1
+unfolding ran pair announces goes-on frame by stepBy outcomeBy slotsBy markBy saidBy wholeOf untouched countsLate
+countsLate-counts = refl
+
+none-reclaimed : tally Reclaimed one (ledgerOf base 1 (pair 1 501)) ≡ 0
+unfolding told pair announces goes-on frame
+none-reclaimed = refl
+
+pub rejects-counts-late : Demand3 base 1 (received (by countsLate) 1) → ⊥
+unfolding Demand3
+rejects-counts-late d = omega (arith, d (pair 1 501) (pair-ok 1 501 (lit< tt)) (unfold pair in lit≤ tt) .0 .expired, countsLate-counts, none-reclaimed)
+
+-- ---- a broken session left open
+
+unfoldable pub leavesOpen : Parts
+leavesOpen = record { opening = openedSlot; atOnce = untouched; breaking = λ (s : Slot). s; ending = resetSlot; straying = Lost; delivering = wholeOf }
+
+leavesOpen-holds : inProgress (received (by leavesOpen) 1 (pair 2 1) .heads) ≡ 1
+unfolding ran pair announces goes-on frame by stepBy outcomeBy slotsBy markBy saidBy wholeOf untouched leavesOpen
+leavesOpen-holds = refl
+
+broken-held : held one (ledgerOf base 1 (pair 2 1)) ≡ 0
+unfolding told pair announces goes-on frame
+broken-held = refl
+
+pub rejects-leaves-open : Demand3 base 1 (received (by leavesOpen) 1) → ⊥
+unfolding Demand3
+rejects-leaves-open d = omega (arith, d (pair 2 1) (pair-ok 2 1 (lit< tt)) (unfold pair in lit≤ tt) .0 .holding, leavesOpen-holds, broken-held)
+
+-- ---- reversed bytes
+
+pair-says : byteSaid 0 (map answerOf (ledgerOf base 1 (pair 1 1) .entries)) ≡ 1
+unfolding told pair announces goes-on frame byteSaid
+pair-says = refl
+
+unfoldable pub backwards : Parts
+backwards = record { opening = openedSlot; atOnce = untouched; breaking = resetSlot; ending = resetSlot; straying = Lost; delivering = λ (f : Heard) (s : Slot). reverse (wholeOf f s) }
+
+backwards-says : byteSaid 0 (received (by backwards) 1 (pair 1 1) .said) ≡ 7
+unfolding ran pair announces goes-on frame by stepBy outcomeBy slotsBy markBy saidBy wholeOf untouched backwards byteSaid
+backwards-says = refl
+
+pub rejects-backwards : Demand3 base 1 (received (by backwards) 1) → ⊥
+unfolding Demand3
+rejects-backwards d = omega (arith, ap (byteSaid 0) (d (pair 1 1) (pair-ok 1 1 (lit< tt)) (unfold pair in lit≤ tt) .0 .answers), backwards-says, pair-says)
+
+-- ---- a message not cut: all seven bytes of its last frame
+
+unfoldable pub notCut : Parts
+notCut =
+    record {
+      opening = openedSlot;
+      atOnce = untouched;
+      breaking = resetSlot;
+      ending = resetSlot;
+      straying = Lost;
+      delivering = λ (f : Heard) (s : Slot). take (s .head .«current_size») (s .buffer) ++ nextBytes f;
+    }
+
+notCut-says : lengthSaid (received (by notCut) 1 (pair 1 1) .said) ≡ 13
+unfolding ran pair announces goes-on frame by stepBy outcomeBy slotsBy markBy saidBy untouched notCut lengthSaid
+notCut-says = refl
+
+pair-length : lengthSaid (map answerOf (ledgerOf base 1 (pair 1 1) .entries)) ≡ 7
+unfolding told pair announces goes-on frame lengthSaid
+pair-length = refl
+
+pub rejects-not-cut : Demand3 base 1 (received (by notCut) 1) → ⊥
+unfolding Demand3
+rejects-not-cut d = omega (arith, ap lengthSaid (d (pair 1 1) (pair-ok 1 1 (lit< tt)) (unfold pair in lit≤ tt) .0 .answers), notCut-says, pair-length)
+
+-- ---- a byte lost: five of the first frame's six are stored
+
+unfoldable pub losesByte : Parts
+losesByte =
+    record {
+      opening = λ (f : Heard) (s : Slot). record { head = openedHead f; buffer = paste (s .buffer) 0 (firstBytes f) 5 };
+      atOnce = untouched;
+      breaking = resetSlot;
+      ending = resetSlot;
+      straying = Lost;
+      delivering = wholeOf;
+    }
+
+losesByte-says : byteSaid 5 (received (by losesByte) 1 (pair 1 1) .said) ≡ 0
+unfolding ran pair announces goes-on frame by stepBy outcomeBy slotsBy markBy saidBy wholeOf untouched losesByte byteSaid
+losesByte-says = refl
+
+sixth-says : byteSaid 5 (map answerOf (ledgerOf base 1 (pair 1 1) .entries)) ≡ 6
+unfolding told pair announces goes-on frame byteSaid
+sixth-says = refl
+
+pub rejects-loses-byte : Demand3 base 1 (received (by losesByte) 1) → ⊥
+unfolding Demand3
+rejects-loses-byte d = omega (arith, ap (byteSaid 5) (d (pair 1 1) (pair-ok 1 1 (lit< tt)) (unfold pair in lit≤ tt) .0 .answers), losesByte-says, sixth-says)
