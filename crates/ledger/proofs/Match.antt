@@ -8,7 +8,7 @@ use Prim.Native.Nat.{ℕ, _≤_}
 use native.Mathlib.Omega.{arith}
 use lib.ListN.{length, getD, set, length-set}
 use lib.Dec.{eqb, ltb, leb}
-use borrow.Author.Tests.{leb-false, ltb-false}
+use borrow.Author.Tests.{leb-true, leb-false, ltb-false}
 use Rattle.base.specs.Answer.{gives}
 use Rattle.base.specs.Lists.{firstAt, orElse, any}
 use Rattle.base.proofs.First.{first-passes}
@@ -29,10 +29,10 @@ use Rattle.assembler.specs.View.{kindOf, payloadOf, lengthOf}
 use Rattle.ledger.specs.Ledger.{Message, Place, idle, holds, keyHeld, late, free, freeOfSource, liveHeld, takenBy, grown}
 use Rattle.ledger.specs.Ledger.{Event, unlisted, badly, refused, stray, atOnce, opening, restarting, reclaiming, copied, delivered, broken}
 use Rattle.ledger.specs.Ledger.{Told, nothingMoved, endLate, openingAt, left, full, itsTurn, tellOpen, tellShort, tellSized, tellFull, tellTurn, tellHeld, tellContinue, tellIndex, tellListed, tellOne}
-use Rattle.ledger.specs.Ledger.{bytesOf, ownBytes, announced, briefly, wholly, delivery, answerTo}
+use Rattle.ledger.specs.Ledger.{bytesOf, ownBytes, announced, briefly, wholly, delivery, answerTo, lengthDue}
 use Rattle.ledger.specs.Runs.{replySays}
 use Rattle.ledger.proofs.Moves.{within-taken}
-use Rattle.ledger.proofs.Shows.{Shows, HeldSlot, room-of, held-source, key-same, late-same, free-same, freeOfSource-same, live-same, possible, reset-shows, opened-shows, copied-room, full-same, copied-shows, cut-same, copied-source, turn-same, short-cut}
+use Rattle.ledger.proofs.Shows.{Shows, HeldSlot, room-of, held-source, key-same, late-same, free-same, freeOfSource-same, live-same, possible, reset-shows, opened-shows, copied-room, full-same, copied-shows, cut-same, copied-source, turn-same, short-cut, short-due, whole-due}
 
 -- which counter an event of the ledger marks
 unfoldable pub markOf : Event → Mark
@@ -73,6 +73,7 @@ module _ (R : Rules) where
     pub kept : length (slotsAfter (c .heard) ss e) ≡ length ss
     pub shows : All2 (Shows R) (t .places) (slotsAfter (c .heard) ss e)
     pub says : replySays (gives (saidOf (c .heard) ss e)) ≡ answerTo c (t .event)
+    pub due : lengthOf (gives (saidOf (c .heard) ss e)) ≡ lengthDue c (t .event)
     pub marks : act.markOf e ≡ markOf (t .event)
 
   late-marks : (b : Bool) (m : Message) → expiredMark b ≡ markOf (endLate b m)
@@ -95,6 +96,16 @@ module _ (R : Rules) where
   opening-says c (idle from) = refl
   opening-says c (holds m) = late-says (late R c m) c m
 
+  late-due : (b : Bool) (c : Call) (m : Message) → 0 ≡ lengthDue c (endLate b m)
+  unfolding lengthDue endLate
+  late-due true c m = refl
+  late-due false c m = refl
+
+  opening-due : (c : Call) (p : Place) → 0 ≡ lengthDue c (openingAt (late R c) p)
+  unfolding openingAt lengthDue
+  opening-due c (idle from) = refl
+  opening-due c (holds m) = late-due (late R c m) c m
+
   or-false : (a b : Bool) → (a || b) ≡ false → b ≡ false
   or-false true b e = absurd (true≢false e)
   or-false false b e = e
@@ -105,45 +116,47 @@ module _ (R : Rules) where
 
   module _ (n : ℕ) (c : Call) (ok : CallOk R c) {ps : List Place} {ss : List Slot} (h : All2 (Shows R) ps ss) where
     match-open : 7 ≤ sizeOf (c .heard) → sizeOf (c .heard) ≤ maxPayload → (o : Option ℕ) → Within (length ps) o → Match c ss (tellOpen R n ps c o) (opensAt R (c .heard) ss o)
-    unfolding tellOpen opensAt nothingMoved slotsAfter saidOf act.markOf markOf replySays kindOf payloadOf lengthOf answerTo briefly
-    match-open low high none u = record { kept = refl; shows = h; says = refl; marks = refl }
+    unfolding tellOpen opensAt nothingMoved slotsAfter saidOf act.markOf markOf replySays kindOf payloadOf lengthOf answerTo briefly lengthDue
+    match-open low high none u = record { kept = refl; shows = h; says = refl; due = refl; marks = refl }
     match-open low high (some i) u =
         let q : Shows R (getD ps i (idle 0)) (slotAt ss i) = all2-at h i u (idle 0) freshSlot in
         record {
           kept = simp length-set;
           shows = all2-set h i (opened-shows R n c (slotAt ss i) ok low high (room-of R (getD ps i (idle 0)) (slotAt ss i) q));
           says = opening-says c (getD ps i (idle 0));
+          due = opening-due c (getD ps i (idle 0));
           marks = opening-marks c (getD ps i (idle 0)) (slotAt ss i) q;
         }
 
     match-short : (b : Bool) → leb (sizeOf (c .heard)) 6 ≡ b → sizeOf (c .heard) ≤ maxPayload → Match c ss (tellShort b R n ps c) (firstShort b R (c .heard) ss)
-    unfolding tellShort firstShort nothingMoved slotsAfter saidOf act.markOf markOf replySays kindOf payloadOf lengthOf answerTo message wholly delivery bytesOf
-    match-short true e high = record { kept = refl; shows = h; says = rw (short-cut R c ok); marks = refl }
+    unfolding tellShort firstShort nothingMoved slotsAfter saidOf act.markOf markOf replySays kindOf payloadOf lengthOf answerTo message wholly delivery bytesOf lengthDue
+    match-short true e high = record { kept = refl; shows = h; says = rw (short-cut R c ok); due = short-due R c ok (leb-true (sizeOf (c .heard)) 6 e); marks = refl }
     match-short false e high =
         subst (λ (o : Option ℕ). Match c ss (tellOpen R n ps c (takenBy R c ps)) (opensAt R (c .heard) ss o)) (chosen-same c h)
         (match-open (leb-false (sizeOf (c .heard)) 6 e) high (takenBy R c ps) (within-taken R c ps))
 
     match-sized : (b : Bool) → badSize (c .heard) ≡ b → Match c ss (tellSized b R n ps c) (firstSized b R (c .heard) ss)
-    unfolding tellSized firstSized nothingMoved slotsAfter saidOf act.markOf markOf replySays kindOf payloadOf lengthOf answerTo briefly
-    match-sized true e = record { kept = refl; shows = h; says = refl; marks = refl }
+    unfolding tellSized firstSized nothingMoved slotsAfter saidOf act.markOf markOf replySays kindOf payloadOf lengthOf answerTo briefly lengthDue
+    match-sized true e = record { kept = refl; shows = h; says = refl; due = refl; marks = refl }
     match-sized false e = match-short (leb (sizeOf (c .heard)) 6) refl (good-size c e)
 
     module _ (i : ℕ) (m : Message) (q : HeldSlot R m (slotAt ss i)) where
       match-full : (b : Bool) → itsTurn c m ≡ true → full (grown m c) ≡ b → Match c ss (tellFull b ps i (grown m c)) (copyAt b i)
-      unfolding tellFull copyAt slotsAfter saidOf act.markOf markOf replySays kindOf payloadOf lengthOf answerTo briefly message wholly delivery
+      unfolding tellFull copyAt slotsAfter saidOf act.markOf markOf replySays kindOf payloadOf lengthOf answerTo briefly message wholly delivery lengthDue
       match-full true turn e =
           record {
             kept = simp length-set;
             shows = all2-set h i (reset-shows R (grown m c) (copiedSlot (c .heard) (slotAt ss i)) (copied-source R c m (slotAt ss i) q) (copied-room R c m (slotAt ss i) ok q));
             says = rw (cut-same R c m (slotAt ss i) ok q e) (unfold grown ownBytes bytesOf announced in refl);
+            due = whole-due R c m (slotAt ss i) ok q;
             marks = refl;
           }
-      match-full false turn e = record { kept = simp length-set; shows = all2-set h i (copied-shows R c m (slotAt ss i) ok q turn e); says = refl; marks = refl }
+      match-full false turn e = record { kept = simp length-set; shows = all2-set h i (copied-shows R c m (slotAt ss i) ok q turn e); says = refl; due = refl; marks = refl }
 
       match-turn : (b : Bool) → itsTurn c m ≡ b → Match c ss (tellTurn b ps c i m) (turnAt b (c .heard) i (slotAt ss i .head))
-      unfolding tellTurn turnAt slotsAfter saidOf act.markOf markOf replySays kindOf payloadOf lengthOf answerTo briefly
+      unfolding tellTurn turnAt slotsAfter saidOf act.markOf markOf replySays kindOf payloadOf lengthOf answerTo briefly lengthDue
       match-turn true turn = rw (full-same R c m (slotAt ss i) ok q (full (grown m c)) refl) (match-full (full (grown m c)) turn refl)
-      match-turn false turn = record { kept = simp length-set; shows = all2-set h i (reset-shows R m (slotAt ss i) (held-source R m (slotAt ss i) q) (q .room)); says = refl; marks = refl }
+      match-turn false turn = record { kept = simp length-set; shows = all2-set h i (reset-shows R m (slotAt ss i) (held-source R m (slotAt ss i) q) (q .room)); says = refl; due = refl; marks = refl }
 
     match-held : (i : ℕ) (p : Place) → Shows R p (slotAt ss i) → liveHeld R c p ≡ true → Match c ss (tellHeld ps c i p) (turnAt (inTurn (c .heard) (slotAt ss i .head)) (c .heard) i (slotAt ss i .head))
     unfolding tellHeld liveHeld
@@ -151,8 +164,8 @@ module _ (R : Rules) where
     match-held i (holds m) q live = rw (← turn-same R c m (slotAt ss i) q) (match-turn i m q (itsTurn c m) refl)
 
     match-continue : (o : Option ℕ) → firstAt (liveHeld R c) ps ≡ o → Match c ss (tellContinue ps c o) (continuesAt (c .heard) ss o)
-    unfolding tellContinue continuesAt nothingMoved slotsAfter saidOf act.markOf markOf replySays kindOf payloadOf lengthOf answerTo briefly
-    match-continue none e = record { kept = refl; shows = h; says = refl; marks = refl }
+    unfolding tellContinue continuesAt nothingMoved slotsAfter saidOf act.markOf markOf replySays kindOf payloadOf lengthOf answerTo briefly lengthDue
+    match-continue none e = record { kept = refl; shows = h; says = refl; due = refl; marks = refl }
     match-continue (some i) e =
         let found = first-passes (liveHeld R c) ps (idle 0) i e in match-held i (getD ps i (idle 0)) (all2-at h i (found .inside) (idle 0) freshSlot) (found .passed)
 
@@ -162,8 +175,8 @@ module _ (R : Rules) where
     match-index false = rw (← live-found c h) (match-continue (firstAt (liveHeld R c) ps) refl)
 
     match-listed : (b : Bool) → Match c ss (tellListed b R n ps c) (byList b R (c .heard) ss)
-    unfolding tellListed byList nothingMoved slotsAfter saidOf act.markOf markOf replySays kindOf payloadOf lengthOf answerTo briefly
-    match-listed false = record { kept = refl; shows = h; says = refl; marks = refl }
+    unfolding tellListed byList nothingMoved slotsAfter saidOf act.markOf markOf replySays kindOf payloadOf lengthOf answerTo briefly lengthDue
+    match-listed false = record { kept = refl; shows = h; says = refl; due = refl; marks = refl }
     match-listed true = match-index (eqb (indexOf (c .heard)) 0)
 
     pub match : Match c ss (tellOne R n ps c) (eventOf R ss c)

@@ -28,7 +28,7 @@ use Rattle.assembler.specs.Step as act
 use Rattle.assembler.specs.Step.{eventOf, slotsAfter, outcome, stepIf, step}
 use Rattle.assembler.specs.Runs.{World, after, call, calls}
 use Rattle.assembler.specs.View.{headOf}
-use Rattle.ledger.specs.Ledger.{Message, Place, idle, holds, late, Told, tellOne, Entry, Ledger, numbered, written, tell, tells, blank, ledgerOf, briefly, wholly, delivery, answerTo, answerOf}
+use Rattle.ledger.specs.Ledger.{Message, Place, idle, holds, late, Told, tellOne, Entry, Ledger, numbered, written, tell, tells, blank, ledgerOf, briefly, wholly, delivery, answerTo, answerOf, lengthOwed, lengthSaid}
 use Rattle.ledger.specs.Ledger.{Event, unlisted, badly, refused, stray, atOnce, opening, restarting, reclaiming, copied, delivered, broken}
 use Rattle.ledger.specs.Ledger.{Broken, Reclaimed, Refused, Stray, BadSize, Unlisted, columnNumber, post, posts, one, asNumber, onlyIf, weighs, posted, entryWeight, tally, heldAt, held}
 use Rattle.ledger.specs.Demand3.{refusal, isRefused, inProgress, Agreed, AllOk, none, more}
@@ -76,6 +76,7 @@ pub record Follows (R : Rules) (w : World) (L : Ledger) : Type 0 where
   pub enough : w .pool .size ≤ length (w .pool .slots)
   pub shows : All2 (Shows R) (L .places) (within (w .pool))
   pub answers : map replySays (w .replies) ≡ map answerOf (L .entries)
+  pub lengths : map lengthSaid (map replySays (w .replies)) ≡ map lengthOwed (L .entries)
   pub counts : Counted (w .counters) L
 
 fresh-shows : (R : Rules) → IdleSlot R 0 freshSlot
@@ -99,6 +100,7 @@ follows-begun R k n h g =
       enough = omega (arith, length-replicate k freshSlot);
       shows = rw (take-replicate n k freshSlot g) (all2-replicate (Shows R) (idle 0) freshSlot (fresh-shows R) n);
       answers = refl;
+      lengths = refl;
       counts = counted-blank n;
     }
 
@@ -122,13 +124,14 @@ module _ (R : Rules) (w : World) (L : Ledger) (c : Call) (ok : CallOk R c) (h : 
   slots-length = matched .kept ∙ length-take-le (w .pool .size) (w .pool .slots) (h .enough)
 
   follows-outcome : numbered L < most → Follows R (after (outcome (c .heard) happened (w .pool) (w .counters)) (w .replies)) (written L c told)
-  unfolding after outcome written answerOf
+  unfolding after outcome written answerOf lengthSaid lengthOwed replySays
   follows-outcome l =
       record {
         size = h .size;
         enough = omega (arith, length-append (slotsAfter (c .heard) (within (w .pool)) happened) (drop (w .pool .size) (w .pool .slots)), slots-length);
         shows = rw (take-at (slotsAfter (c .heard) (within (w .pool)) happened) (drop (w .pool .size) (w .pool .slots)) (w .pool .size) slots-length) (matched .shows);
         answers = cc (matched .says, h .answers);
+        lengths = cc (matched .due, h .lengths);
         counts = rw (matched .marks) (counted-event (w .counters) L c (told .places) (told .event) l (h .counts));
       }
 
@@ -197,6 +200,7 @@ agreed R n cs w f =
     record {
       answers = f .answers;
       own = owns (tellOne R) (late R) (moves R) n cs .own;
+      lengths = f .lengths;
       accepted = rw (f .answers) (none-refused (ledgerOf R n cs .entries));
       fates = balanced (tellOne R) (late R) (moves R) n cs;
       once = opened-once (tellOne R) n cs;

@@ -198,3 +198,13 @@ module _ (R : Rules) where
 
   pub short-cut : (c : Call) → CallOk R c → take 6 (firstBytes (c .heard)) ≡ firstBytes (c .heard)
   short-cut c ok = take-all 6 (firstBytes (c .heard)) (omega (arith, first-length c ok))
+
+  -- the length of a message is the announced size: of one delivered at once ...
+  pub short-due : (c : Call) → CallOk R c → sizeOf (c .heard) ≤ 6 → length (take (sizeOf (c .heard)) (firstBytes (c .heard))) ≡ sizeOf (c .heard)
+  short-due c ok h = length-take-le (sizeOf (c .heard)) (firstBytes (c .heard)) (omega (arith, first-length c ok))
+
+  -- ... and of one delivered from its slot
+  pub whole-due : (c : Call) (m : Message) (s : Slot) → CallOk R c → HeldSlot m s → length (take (s .head .«expected_size») (copiedSlot (c .heard) s .buffer)) ≡ announced (grown m c)
+  unfolding announced grown
+  whole-due c m s ok h =
+      length-take-le (s .head .«expected_size») (copiedSlot (c .heard) s .buffer) (omega (arith, copied-room c m s ok h, h .expected, h .high)) ∙ h .expected

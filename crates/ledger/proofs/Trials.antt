@@ -44,10 +44,10 @@ unfolding firsts
 firsts-ok n = more (announces-ok 7 0 35) (more (announces-ok n 1 35) none)
 
 -- the length of the latest answer, and byte i of its payload
-unfoldable pub lengthSaid : List Saying → ℕ
-lengthSaid [] = 0
-lengthSaid (a ∷ older) = a .length
+unfoldable pub lastLength : List Saying → ℕ
+lastLength [] = 0
+lastLength (a ∷ older) = a .length
 
-unfoldable pub byteSaid : ℕ → List Saying → ℕ
-byteSaid i [] = 0
-byteSaid i (a ∷ older) = getD (a .payload) i 0
+unfoldable pub lastByte : ℕ → List Saying → ℕ
+lastByte i [] = 0
+lastByte i (a ∷ older) = getD (a .payload) i 0

@@ -25,7 +25,7 @@ use Rattle.ledger.specs.Ledger.{answerOf, ledgerOf, tally, held, one, Re
 use Rattle.ledger.specs.Demand3.{Demand3, inProgress}
 use Rattle.ledger.specs.Runs.{Receive, received}
 use Rattle.ledger.proofs.Bench.{ran, told, frame, announces, goes-on}
-use Rattle.ledger.proofs.Trials.{pair, pair-ok, twice, twice-ok, firsts, firsts-ok, lengthSaid, byteSaid}
+use Rattle.ledger.proofs.Trials.{pair, pair-ok, twice, twice-ok, firsts, firsts-ok, lastLength, lastByte}
 use Rattle.ledger.proofs.Parts.{Parts, wholeOf, untouched, slotsBy, markBy, saidBy, outcomeBy, stepBy, by}
 
 -- ---- one that reassembles the first message and only says FragmentConsumed later
@@ -64,18 +64,18 @@ isMarked p = ltb 0 (getD (p .heads) 7 marker .«source_address»)
 unfoldable pub lazy : Receive
 lazy pgns f p k = let a = receiveOf base pgns f p k in mute (isMarked p) (marked (completes (a .kind)) a)
 
-lazy-says : lengthSaid (received lazy 4 twice .said) ≡ 0
-unfolding ran twice announces goes-on frame lazy mute completes marker marked isMarked lengthSaid
+lazy-says : lastLength (received lazy 4 twice .said) ≡ 0
+unfolding ran twice announces goes-on frame lazy mute completes marker marked isMarked lastLength
 lazy-says = refl
 
-twice-says : lengthSaid (map answerOf (ledgerOf base 4 twice .entries)) ≡ 7
-unfolding told twice announces goes-on frame lengthSaid
+twice-says : lastLength (map answerOf (ledgerOf base 4 twice .entries)) ≡ 7
+unfolding told twice announces goes-on frame lastLength
 twice-says = refl
 
 pub rejects-lazy : Demand3 base 4 (received lazy 4) → ⊥
 unfolding Demand3
 rejects-lazy d =
-    omega (arith, ap lengthSaid (d twice twice-ok (unfold twice in lit≤ tt) .0 .answers), lazy-says, twice-says)
+    omega (arith, ap lastLength (d twice twice-ok (unfold twice in lit≤ tt) .0 .answers), lazy-says, twice-says)
 
 -- ---- one that makes its counters up
 
@@ -165,20 +165,20 @@ rejects-leaves-open d = omega (arith, d (pair 2 1) (pair-ok 2 1 (lit< tt)) (unfo
 
 -- ---- reversed bytes
 
-pair-says : byteSaid 0 (map answerOf (ledgerOf base 1 (pair 1 1) .entries)) ≡ 1
-unfolding told pair announces goes-on frame byteSaid
+pair-says : lastByte 0 (map answerOf (ledgerOf base 1 (pair 1 1) .entries)) ≡ 1
+unfolding told pair announces goes-on frame lastByte
 pair-says = refl
 
 unfoldable pub backwards : Parts
 backwards = record { opening = openedSlot; atOnce = untouched; breaking = resetSlot; ending = resetSlot; straying = Lost; delivering = λ (f : Heard) (s : Slot). reverse (wholeOf f s) }
 
-backwards-says : byteSaid 0 (received (by backwards) 1 (pair 1 1) .said) ≡ 7
-unfolding ran pair announces goes-on frame by stepBy outcomeBy slotsBy markBy saidBy wholeOf untouched backwards byteSaid
+backwards-says : lastByte 0 (received (by backwards) 1 (pair 1 1) .said) ≡ 7
+unfolding ran pair announces goes-on frame by stepBy outcomeBy slotsBy markBy saidBy wholeOf untouched backwards lastByte
 backwards-says = refl
 
 pub rejects-backwards : Demand3 base 1 (received (by backwards) 1) → ⊥
 unfolding Demand3
-rejects-backwards d = omega (arith, ap (byteSaid 0) (d (pair 1 1) (pair-ok 1 1 (lit< tt)) (unfold pair in lit≤ tt) .0 .answers), backwards-says, pair-says)
+rejects-backwards d = omega (arith, ap (lastByte 0) (d (pair 1 1) (pair-ok 1 1 (lit< tt)) (unfold pair in lit≤ tt) .0 .answers), backwards-says, pair-says)
 
 -- ---- a message not cut: all seven bytes of its last frame
 
@@ -193,17 +193,17 @@ notCut =
       delivering = λ (f : Heard) (s : Slot). take (s .head .«current_size») (s .buffer) ++ nextBytes f;
     }
 
-notCut-says : lengthSaid (received (by notCut) 1 (pair 1 1) .said) ≡ 13
-unfolding ran pair announces goes-on frame by stepBy outcomeBy slotsBy markBy saidBy untouched notCut lengthSaid
+notCut-says : lastLength (received (by notCut) 1 (pair 1 1) .said) ≡ 13
+unfolding ran pair announces goes-on frame by stepBy outcomeBy slotsBy markBy saidBy untouched notCut lastLength
 notCut-says = refl
 
-pair-length : lengthSaid (map answerOf (ledgerOf base 1 (pair 1 1) .entries)) ≡ 7
-unfolding told pair announces goes-on frame lengthSaid
+pair-length : lastLength (map answerOf (ledgerOf base 1 (pair 1 1) .entries)) ≡ 7
+unfolding told pair announces goes-on frame lastLength
 pair-length = refl
 
 pub rejects-not-cut : Demand3 base 1 (received (by notCut) 1) → ⊥
 unfolding Demand3
-rejects-not-cut d = omega (arith, ap lengthSaid (d (pair 1 1) (pair-ok 1 1 (lit< tt)) (unfold pair in lit≤ tt) .0 .answers), notCut-says, pair-length)
+rejects-not-cut d = omega (arith, ap lastLength (d (pair 1 1) (pair-ok 1 1 (lit< tt)) (unfold pair in lit≤ tt) .0 .answers), notCut-says, pair-length)
 
 -- ---- a byte lost: five of the first frame's six are stored
 
@@ -218,14 +218,14 @@ losesByte =
       delivering = wholeOf;
     }
 
-losesByte-says : byteSaid 5 (received (by losesByte) 1 (pair 1 1) .said) ≡ 0
-unfolding ran pair announces goes-on frame by stepBy outcomeBy slotsBy markBy saidBy wholeOf untouched losesByte byteSaid
+losesByte-says : lastByte 5 (received (by losesByte) 1 (pair 1 1) .said) ≡ 0
+unfolding ran pair announces goes-on frame by stepBy outcomeBy slotsBy markBy saidBy wholeOf untouched losesByte lastByte
 losesByte-says = refl
 
-sixth-says : byteSaid 5 (map answerOf (ledgerOf base 1 (pair 1 1) .entries)) ≡ 6
-unfolding told pair announces goes-on frame byteSaid
+sixth-says : lastByte 5 (map answerOf (ledgerOf base 1 (pair 1 1) .entries)) ≡ 6
+unfolding told pair announces goes-on frame lastByte
 sixth-says = refl
 
 pub rejects-loses-byte : Demand3 base 1 (received (by losesByte) 1) → ⊥
 unfolding Demand3
-rejects-loses-byte d = omega (arith, ap (byteSaid 5) (d (pair 1 1) (pair-ok 1 1 (lit< tt)) (unfold pair in lit≤ tt) .0 .answers), losesByte-says, sixth-says)
+rejects-loses-byte d = omega (arith, ap (lastByte 5) (d (pair 1 1) (pair-ok 1 1 (lit< tt)) (unfold pair in lit≤ tt) .0 .answers), losesByte-says, sixth-says)

@@ -12,7 +12,7 @@ use Rattle.session.specs.declared.Kind.the-variants as kind
 use Rattle.session.specs.Rules.{Rules}
 use Rattle.session.specs.Heads.{hasKey, isSilent}
 use Rattle.assembler.specs.Call.{Call, CallOk, isOpener}
-use Rattle.ledger.specs.Ledger.{Ledger, Saying, numbered, nextEvent, answerOf, OwnBook, ledgerOf, posted, tally, held, is, one, asNumber, Opened, Delivered, Broken, Restarted, Reclaimed, Refused, Stray, BadSize, Unlisted}
+use Rattle.ledger.specs.Ledger.{Ledger, Saying, numbered, nextEvent, answerOf, lengthOwed, lengthSaid, OwnBook, ledgerOf, posted, tally, held, is, one, asNumber, Opened, Delivered, Broken, Restarted, Reclaimed, Refused, Stray, BadSize, Unlisted}
 
 -- what is seen after a run: all that was said, the latest first; the heads of the slots within the size; the counters
 pub record Seen : Type 0 where
@@ -38,6 +38,8 @@ pub record Agreed (s : Seen) (L : Ledger) : Type 0 where
   pub answers : s .said ≡ map answerOf (L .entries)
   -- ... and its own frames are the one that opened it and all that were copied for it, by the book
   pub own : OwnBook (L .entries)
+  -- ... and the length of each is the announced size
+  pub lengths : map lengthSaid (s .said) ≡ map lengthOwed (L .entries)
   -- no call is refused
   pub accepted : any isRefused (s .said) ≡ false
   -- each opened message has one fate: under every weighing of the messages the five fates together weigh what was opened ...

@@ -189,3 +189,23 @@ answerTo c (broken m) = briefly Ignored
 
 unfoldable pub answerOf : Entry → Saying
 answerOf e = answerTo (e .frame) (e .event)
+
+-- the length that it must say: of a message, the announced size itself
+unfoldable pub lengthDue : Call → Event → ℕ
+lengthDue c unlisted = 0
+lengthDue c badly = 0
+lengthDue c refused = 0
+lengthDue c stray = 0
+lengthDue c atOnce = sizeOf (c .heard)
+lengthDue c opening = 0
+lengthDue c (restarting m) = 0
+lengthDue c (reclaiming m) = 0
+lengthDue c (copied m) = 0
+lengthDue c (delivered m) = announced m
+lengthDue c (broken m) = 0
+
+unfoldable pub lengthOwed : Entry → ℕ
+lengthOwed e = lengthDue (e .frame) (e .event)
+
+unfoldable pub lengthSaid : Saying → ℕ
+lengthSaid a = a .length
