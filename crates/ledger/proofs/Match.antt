@@ -1,16 +1,15 @@
 -- The walk: one call keeps slots and places in step. It says what the ledger's event calls for and marks its counter.
 -- Assumes nothing.
 use mathlib.Core.Bool.{Bool, true, false, _||_, true≢false, false≢true}
-use mathlib.Core.List.{List, [], _∷_}
+use mathlib.Core.List.{List}
 use mathlib.Core.Option.{Option, none, some}
 use mathlib.Core.Path.{_≡_, refl, subst}
 use Prim.Native.Nat.{ℕ, _≤_}
-use native.Mathlib.Omega.{arith}
-use lib.ListN.{length, getD, set, length-set}
+use lib.ListN.{length, getD, length-set}
 use lib.Dec.{eqb, ltb, leb}
 use borrow.Author.Tests.{leb-true, leb-false, ltb-false}
 use Rattle.base.specs.Answer.{gives}
-use Rattle.base.specs.Lists.{firstAt, orElse, any}
+use Rattle.base.specs.Lists.{firstAt, any}
 use Rattle.base.proofs.First.{first-passes}
 use Rattle.base.proofs.Paired.{All2, all2-first, all2-any, all2-at, all2-set}
 use Rattle.book.proofs.Moves.{Within}
@@ -19,7 +18,7 @@ use Rattle.session.specs.declared.Mark.{Mark}
 use Rattle.session.specs.declared.Mark.the-variants.{Nothing, Expired, Exhausted, Rejected, Lost, Unknown}
 use Rattle.session.specs.Rules.{Rules}
 use Rattle.session.specs.Frames.{indexOf, sizeOf, badSize}
-use Rattle.session.specs.Heads.{impossibleHead, hasKey, isFree, isFreeOfSource, hasLiveKey, isExpired, inTurn, copiedHead, allThere}
+use Rattle.session.specs.Heads.{impossibleHead, hasKey, isFree, isFreeOfSource, hasLiveKey, isExpired, inTurn}
 use Rattle.session.specs.Counting.{expiredMark}
 use Rattle.assembler.specs.Call.{Call, CallOk, listed}
 use Rattle.assembler.specs.Slots.{Slot, slotAt, freshSlot, onHead, chosen, live, copiedSlot}
@@ -28,7 +27,7 @@ use Rattle.assembler.specs.Step.{message, saidOf, slotsAfter, opensAt, firstSho
 use Rattle.assembler.specs.View.{kindOf, payloadOf, lengthOf}
 use Rattle.ledger.specs.Ledger.{Message, Place, idle, holds, keyHeld, late, free, freeOfSource, liveHeld, takenBy, grown}
 use Rattle.ledger.specs.Ledger.{Event, unlisted, badly, refused, stray, atOnce, opening, restarting, reclaiming, copied, delivered, broken}
-use Rattle.ledger.specs.Ledger.{Told, nothingMoved, endLate, openingAt, left, full, itsTurn, tellOpen, tellShort, tellSized, tellFull, tellTurn, tellHeld, tellContinue, tellIndex, tellListed, tellOne}
+use Rattle.ledger.specs.Ledger.{Told, nothingMoved, endLate, openingAt, full, itsTurn, tellOpen, tellShort, tellSized, tellFull, tellTurn, tellHeld, tellContinue, tellIndex, tellListed, tellOne}
 use Rattle.ledger.specs.Ledger.{bytesOf, ownBytes, announced, briefly, wholly, delivery, answerTo, lengthDue}
 use Rattle.ledger.specs.Runs.{replySays}
 use Rattle.ledger.proofs.Moves.{within-taken}

@@ -10,9 +10,9 @@ use lib.Seq.{drop-drop}
 use Rattle.session.specs.Rules.{Rules, poolLimit, base}
 use Rattle.assembler.specs.Call.{Call}
 use Rattle.assembler.specs.View.{receiveOf}
-use Rattle.ledger.specs.Ledger.{Entry, Saying, Ledger, tellOne, tell, tells, written, blank, ledgerOf, tally, held, is, Opened, Delivered, Broken, Restarted, Reclaimed}
+use Rattle.ledger.specs.Ledger.{Ledger, tellOne, tell, tells, written, blank, ledgerOf, tally, held, is, Opened, Delivered, Broken, Restarted, Reclaimed}
 use Rattle.ledger.specs.Demand3.{Seen, Demand3, AllOk, none, more, Agreed, Admitted}
-use Rattle.ledger.specs.Runs.{Receive, State, start, sayingOf, next, receives, seenIn, received}
+use Rattle.ledger.specs.Runs.{Receive, State, start, next, receives, seenIn, received}
 use Rattle.ledger.proofs.Demand3.{demand-3}
 
 -- ---- prefixes

@@ -5,9 +5,9 @@ use mathlib.Core.List.{List}
 use mathlib.Core.Option.{Option, none, some}
 use mathlib.Core.Path.{_≡_, refl}
 use Prim.Native.Nat.{ℕ, _<_}
-use lib.ListN.{length, getD, set}
+use lib.ListN.{length, getD}
 use lib.Dec.{eqb, leb}
-use Rattle.base.specs.Lists.{firstAt, orElse}
+use Rattle.base.specs.Lists.{firstAt}
 use Rattle.book.proofs.Moves.{Within, within-or, within-first, is-unlisted, is-badly, is-refused, is-stray, is-atOnce, Move, stays, opens, grows, delivers, breaks, Moves}
 use Rattle.session.specs.Rules.{Rules}
 use Rattle.session.specs.Frames.{indexOf, sizeOf, badSize}

@@ -1,20 +1,17 @@
 -- A run of the public call is a run of the steps: its pool shows the same slots, its counters are the same, and it says the same.
 -- Assumes nothing.
-use mathlib.Core.Bool.{Bool}
-use mathlib.Core.List.{List, [], _∷_, _++_, map}
-use mathlib.Core.Path.{_≡_, refl, sym, ap, subst, _∙_}
-use Prim.Native.Nat.{ℕ, zero, suc, _+_, _≤_, _<_}
+use mathlib.Core.List.{List, [], _∷_, map}
+use mathlib.Core.Path.{_≡_, refl, ap, subst}
+use Prim.Native.Nat.{ℕ, zero, suc, _+_, _≤_}
 use native.Mathlib.Omega.{arith}
 use lib.ListN.{length, take, drop, replicate, take-append-drop, length-replicate}
-use lib.Dec.{ltb}
 use borrow.Author.Tests.{le-ltb}
 use Rattle.base.proofs.Paired.{All2, nil, cons}
 use Rattle.fast_packet.specs.FastPacket.{maxPayload}
 use Rattle.session.specs.declared.Head.{Head}
 use Rattle.session.specs.Rules.{Rules, poolLimit}
-use Rattle.session.specs.Heads.{freshHead}
 use Rattle.session.specs.Counting.{most}
-use Rattle.assembler.specs.Call.{Call, CallOk}
+use Rattle.assembler.specs.Call.{Call}
 use Rattle.assembler.specs.Slots.{Slot, Slots, freshSlot}
 use Rattle.assembler.specs.Step.{step}
 use Rattle.assembler.specs.Runs.{World, after, call, calls}

@@ -1,40 +1,37 @@
 -- A run of the steps from an empty pool agrees with the ledger of its calls, call by call.
 -- Assumes nothing.
-use mathlib.Core.Bool.{Bool, true, false, _||_}
-use mathlib.Core.List.{List, [], _∷_, _++_, map}
+use mathlib.Core.Bool.{false}
+use mathlib.Core.List.{List, [], _∷_, map}
 use mathlib.Core.Path.{_≡_, refl, ap, _∙_}
-use Prim.Native.Nat.{ℕ, zero, suc, _+_, _≤_, _<_, min}
+use Prim.Native.Nat.{ℕ, zero, suc, _+_, _≤_, _<_}
 use native.Mathlib.Nat.{not-suc-le-zero, le-of-suc-le-suc}
 use native.Mathlib.Omega.{arith}
 use lib.ListN.{length, take, drop, replicate, length-append, length-replicate}
 use lib.Seq.{take-at, drop-at, length-take-le}
-use lib.Dec.{eqb, ltb}
 use borrow.Author.Tests.{le-ltb}
 use Rattle.base.specs.Lists.{total, any}
-use Rattle.base.proofs.Paired.{All2, nil, cons, all2-total, all2-replicate}
+use Rattle.base.proofs.Paired.{All2, all2-total, all2-replicate}
 use Rattle.book.proofs.Balance.{balanced, opened-once}
 use Rattle.book.proofs.Own.{owns}
 use Rattle.fast_packet.specs.FastPacket.{maxPayload}
 use Rattle.session.specs.declared.Head.{Head}
 use Rattle.session.specs.declared.Counters.{Counters}
-use Rattle.session.specs.declared.Mark.{Mark}
-use Rattle.session.specs.declared.Kind.the-variants.{Ignored, FragmentConsumed, MessageComplete}
 use Rattle.session.specs.Rules.{Rules}
-use Rattle.session.specs.Heads.{freshHead, impossibleHead}
+use Rattle.session.specs.Heads.{freshHead}
 use Rattle.session.specs.Counting.{freshCounters, most, raise, raised}
 use Rattle.assembler.specs.Call.{Call, CallOk}
-use Rattle.assembler.specs.Slots.{Slot, Slots, freshSlot, within, impossible}
+use Rattle.assembler.specs.Slots.{Slot, freshSlot, within, impossible}
 use Rattle.assembler.specs.Step as act
 use Rattle.assembler.specs.Step.{eventOf, slotsAfter, outcome, stepIf, step}
 use Rattle.assembler.specs.Runs.{World, after, call, calls}
 use Rattle.assembler.specs.View.{headOf}
-use Rattle.ledger.specs.Ledger.{Message, Place, idle, holds, late, Told, tellOne, Entry, Ledger, numbered, written, tell, tells, blank, ledgerOf, briefly, wholly, delivery, answerTo, answerOf, lengthOwed, lengthSaid}
+use Rattle.ledger.specs.Ledger.{Place, idle, holds, late, Told, tellOne, Entry, Ledger, numbered, written, tell, tells, blank, ledgerOf, briefly, wholly, delivery, answerTo, answerOf, lengthOwed, lengthSaid}
 use Rattle.ledger.specs.Ledger.{Event, unlisted, badly, refused, stray, atOnce, opening, restarting, reclaiming, copied, delivered, broken}
 use Rattle.ledger.specs.Ledger.{Broken, Reclaimed, Refused, Stray, BadSize, Unlisted, columnNumber, post, posts, one, asNumber, onlyIf, weighs, posted, entryWeight, tally, heldAt, held}
 use Rattle.ledger.specs.Demand3.{refusal, isRefused, inProgress, Agreed, AllOk, none, more}
 use Rattle.ledger.specs.Runs.{replySays, seenOf}
 use Rattle.ledger.proofs.Moves.{moves}
-use Rattle.ledger.proofs.Shows.{Shows, IdleSlot, HeldSlot}
+use Rattle.ledger.proofs.Shows.{Shows, IdleSlot}
 use Rattle.ledger.proofs.Match.{all-possible, markOf, Match, match}
 
 -- ---- the counters: each is its column, and no more than the calls so far

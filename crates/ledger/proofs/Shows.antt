@@ -1,22 +1,20 @@
 -- A place of the ledger and a slot of the pool: when the slot shows the place, that the tests of both agree, that such a slot is possible, and that the
 -- slots which a call leaves show the places which the ledger leaves. Nothing is asked of the test for silence or of the test for the key.
 -- Assumes nothing.
-use mathlib.Core.Bool.{Bool, true, false, not, _&&_, _||_}
-use mathlib.Core.List.{List, [], _∷_, _++_}
+use mathlib.Core.Bool.{Bool, true, false}
+use mathlib.Core.List.{_++_}
 use mathlib.Core.Path.{_≡_, refl, sym, ap, _∙_}
 use Prim.Native.Nat.{ℕ, suc, _+_, _*_, _-_, _≤_, _<_, min}
 use native.Mathlib.Omega.{arith}
-use lib.ListN.{length, take, drop, length-drop}
-use lib.Seq.{paste, take-paste, length-paste, take-append-add, take-all, length-take-le}
-use lib.Dec.{eqb, ltb, leb}
+use lib.ListN.{length, take, length-drop}
+use lib.Seq.{take-paste, length-paste, take-append-add, take-all, length-take-le}
 use borrow.Author.Tests.{eqb-true, leb-true, leb-false, le-leb, lt-leb, le-ltb, lt-ltb, eq-eqb}
 use Rattle.fast_packet.specs.FastPacket.{maxPayload}
 use Rattle.session.specs.Rules.{Key, Rules}
-use Rattle.session.specs.Frames.{sequenceOf, indexOf, sizeOf, badSize, firstBytes, nextBytes, keyOf}
-use Rattle.session.specs.Heads.{headKey, impossibleHead, hasKey, isSilent, isFree, isFreeOfSource, hasLiveKey, isExpired, inTurn, openedHead, resetHead, wanted, copiedHead, allThere}
+use Rattle.session.specs.Frames.{sequenceOf, indexOf, sizeOf, firstBytes, nextBytes, keyOf}
+use Rattle.session.specs.Heads.{headKey, impossibleHead, hasKey, isSilent, isFree, isFreeOfSource, hasLiveKey, inTurn, openedHead, resetHead, wanted, copiedHead, allThere}
 use Rattle.assembler.specs.Call.{Call, CallOk}
 use Rattle.assembler.specs.Slots.{Slot, openedSlot, resetSlot, copiedSlot}
-use Rattle.assembler.specs.Step.{message}
 use Rattle.ledger.specs.Ledger.{Message, newMessage, grown, latestOf, latest, bytesOf, ownBytes, announced, Place, idle, holds, keyHeld, late, free, sourceAt, freeOfSource, liveHeld, left, full, itsTurn}
 
 module _ (R : Rules) where

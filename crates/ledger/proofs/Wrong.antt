@@ -1,9 +1,8 @@
 -- Wrong assemblers, each a receive call with one thing changed, and for each a run of which demand 3 does not hold.
 -- Assumes nothing.
 use mathlib.Core.Bool.{Bool, true, false}
-use mathlib.Core.List.{List, [], _∷_, _++_, map, reverse}
+use mathlib.Core.List.{_++_, map, reverse}
 use mathlib.Core.Path.{_≡_, refl, ap}
-use Prim.Native.Nat.{ℕ}
 use native.Mathlib.Omega.{arith}
 use lib.ListN.{getD, take, set}
 use lib.Seq.{paste}
