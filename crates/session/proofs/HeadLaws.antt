@@ -14,13 +14,9 @@ use Rattle.session.specs.Frames.{keyOf, sequenceOf, indexOf}
 use Rattle.session.specs.Heads.{headKey, impossibleHead, hasKey, isSilent, isFree, isFreeOfSource, hasLiveKey, isExpired, inTurn}
 
 module _ (f : Heard) (h : Head) where
-  pub silent-since : ltb 500 (f .«now_ms» - h .«last_seen_ms») ≡ isSilent base f h
+  pub silent-since : (n : ℕ) → n ≡ f .«now_ms» - h .«last_seen_ms» → ltb 500 n ≡ isSilent base f h
   unfolding isSilent base silence
-  silent-since = refl
-
-  pub silent-before : f .«now_ms» < h .«last_seen_ms» → false ≡ isSilent base f h
-  unfolding isSilent base silence
-  silent-before l = sym (le-ltb 500 (f .«now_ms» - h .«last_seen_ms») (omega arith))
+  silent-since n e = rw e
 
   pub key-idle : not (h .«in_progress») ≡ true → false ≡ hasKey base f h
   unfolding hasKey
@@ -77,7 +73,7 @@ module _ (f : Heard) (h : Head) where
   unfolding inTurn indexOf
   turn-is a b ea eb = rw (ea, eb)
 
-pub ruleset tests = (silent-since, silent-before, key-idle, key-source, key-pgn, key-sequence, live-keyed, live-other, free-busy, free-idle, own-free, own-busy, expired-busy, expired-idle, turn-is)
+pub ruleset tests = (silent-since, key-idle, key-source, key-pgn, key-sequence, live-keyed, live-other, free-busy, free-idle, own-free, own-busy, expired-busy, expired-idle, turn-is)
 
 module _ (R : Rules) (h : Head) where
   pub fine-idle : not (h .«in_progress») ≡ true → false ≡ impossibleHead R h

@@ -1,5 +1,6 @@
 // Tests of one head, and the heads that a frame leaves.
 ghost use mathlib.Core.Path.{_≡_};
+ghost use Prim.Native.Nat.{_-_};
 ghost use Rattle.session.specs.Rules.{base};
 ghost use Rattle.session.specs.Heads.{freshHead, impossibleHead, hasKey, isSilent, isFree, isFreeOfSource, hasLiveKey, isExpired, inTurn, openedHead, resetHead, wanted, copiedHead};
 use crate::CONTINUATION_PAYLOAD;
@@ -15,14 +16,16 @@ use fast_packet::MAX_FAST_PACKET_PAYLOAD;
 // ---- tests
 
 // A clock that was set back means no silence.
+fn silence_of(time: u64, last: u64) -> u64
+    ensures { λ r. ⌜ r ≡ time - last ⌝ }
+{
+    if last <= time { time - last } else { 0 }
+}
+
 fn is_silent(h: Head, heard: Heard) -> bool
     ensures { λ r. ⌜ r ≡ isSilent base heard h ⌝ }
 {
-    if h.last_seen_ms <= heard.now_ms {
-        SESSION_TIMEOUT_MS < heard.now_ms - h.last_seen_ms
-    } else {
-        false
-    }
+    SESSION_TIMEOUT_MS < silence_of(heard.now_ms, h.last_seen_ms)
 }
 
 pub(crate) fn has_key(h: Head, heard: Heard) -> bool
@@ -144,18 +147,18 @@ pub(crate) fn opened_head(heard: Heard) -> Head
 }
 
 // Source and time stay: the next first frame of this source prefers the slot.
-pub(crate) fn reset_head(h: Head) -> Head
-    ensures { λ r. ⌜ r ≡ resetHead h ⌝ }
+pub(crate) fn reset_head(ended: Head) -> Head
+    ensures { λ r. ⌜ r ≡ resetHead ended ⌝ }
 {
     Head {
         in_progress: false,
-        source_address: h.source_address,
+        source_address: ended.source_address,
         sequence_id: 0,
         last_frame_index: 0,
         pgn: 0,
         expected_size: 0,
         current_size: 0,
-        last_seen_ms: h.last_seen_ms,
+        last_seen_ms: ended.last_seen_ms,
     }
 }
 

@@ -5,8 +5,4 @@ use Rattle.session.proofs.heads.is_silent.Statement.{statement}
 use Rattle.session.proofs.heads.is_silent.Tie as tie
 
 pub is-silent-spec : {M : Type 1} → statement M
-is-silent-spec =
-    tie.close
-    (tie.spec
-    (λ c. search (needs, tests))
-    (λ c. search (needs, tests)))
+is-silent-spec = tie.close (tie.spec (λ c κs. search needs) (λ c. search (needs, tests)))
