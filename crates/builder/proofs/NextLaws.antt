@@ -14,10 +14,11 @@ use Rattle.can_id.specs.declared.Built.the-variants.{Id, Refused}
 use Rattle.can_id.specs.declared.CanId.{CanId}
 use Rattle.can_id.specs.declared.CanIdBuildError.{CanIdBuildError}
 use Rattle.can_id.specs.declared.CanIdBuilder.{CanIdBuilder}
+use Rattle.can_id.specs.declared.Destination.{Destination}
 use Rattle.can_id.specs.declared.Destination.the-variants.{Nobody, To}
 use Rattle.base.specs.Lists.{fill}
 use Rattle.fast_packet.specs.FastPacket.{listedIn, maxPayload}
-use Rattle.builder.specs.Builder.{fastOf, idBuilder}
+use Rattle.builder.specs.Builder.{fastOf, madeOf, idBuilder}
 use Rattle.builder.specs.Next.{Step, headerOf, indexAfter, frameOf, sentStep, endStep, refusedStep, framedStep, builtStep, nextOf}
 use Rattle.builder.specs.declared.FastPacketBuilder.{FastPacketBuilder}
 
@@ -28,6 +29,14 @@ fast-listed pgn l n t e h = rw (← e, h)
 pub fast-unlisted : (pgn : ℕ) (l : List ℕ) (n : ℕ) (t : Bool) → t ≡ listedIn pgn l → t ≡ false → ltb 8 n ≡ fastOf pgn l n
 fast-unlisted pgn l n t e h = rw (← e, h)
 
+pub made-with : (pgn source : ℕ) (to : Destination) (p l : List ℕ) (held : ℕ) (t : Bool) → t ≡ fastOf pgn l (length p)
+    → record {
+      builder = record { pgn = pgn; «source_address» = source; destination = to; priority = 6; «sequence_id» = held % 8; fast = t };
+      «sequence_id» = (held % 8 + 1) % 8;
+    }
+    ≡ madeOf pgn source to p l held
+made-with pgn source to p l held t e = rw e
+
 module _ (b : FastPacketBuilder) (x y : CanIdBuilder) (g : x ≡ fresh (b .pgn) (b .«source_address»)) (h : y ≡ withPriority x (b .priority)) where
   pub id-nobody : (a : Answer ℕ) → b .destination ≡ Nobody → a ≡ buildOf y → a ≡ buildOf (idBuilder b)
   id-nobody a d e = e ∙ rw (h, g, d)
@@ -35,7 +44,7 @@ module _ (b : FastPacketBuilder) (x y : CanIdBuilder) (g : x ≡ fresh (b .pgn) 
   pub id-to : (a : Answer ℕ) (z : CanIdBuilder) (n : ℕ) → b .destination ≡ To n → z ≡ withDestination y n → a ≡ buildOf z → a ≡ buildOf (idBuilder b)
   id-to a z n d k e = e ∙ rw (k, h, g, d)
 
-pub ruleset starting = (fast-listed, fast-unlisted, id-nobody, id-to)
+pub ruleset starting = (made-with, fast-listed, fast-unlisted, id-nobody, id-to)
 
 -- ---- the steps
 module _ (id : ℕ) (b : FastPacketBuilder) (index sent : ℕ) (p : List ℕ) (x : Step) where
