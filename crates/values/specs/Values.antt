@@ -1,0 +1,75 @@
+-- The cases marked P of document 01's "Bench values", as one statement about the definitions that the contracts cite.
+use Prim.Native.Nat.{ℕ}
+use mathlib.Core.Bool.{true}
+use mathlib.Core.List.{List, [], _∷_}
+use mathlib.Core.Path.{_≡_}
+use Rattle.base.specs.Answer.{gives, refuses}
+use Rattle.can_id.specs.Build.{buildOf, fresh, withPriority, withDestination}
+use Rattle.can_id.specs.declared.Destination.the-variants.{Nobody}
+use Rattle.builder.specs.Builder.{madeOf}
+use Rattle.builder.specs.Next.{nextOf, frameOf, sentStep}
+use Rattle.session.specs.declared.Heard.{Heard}
+use Rattle.session.specs.declared.Counters.{Counters}
+use Rattle.session.specs.declared.Kind.the-variants.{Ignored, FragmentConsumed, MessageComplete}
+use Rattle.session.specs.Rules.{base}
+use Rattle.session.specs.Counting.{freshCounters}
+use Rattle.assembler.specs.declared.Received.{Received}
+use Rattle.assembler.specs.Slots.{slotAt}
+use Rattle.assembler.specs.Step.{padded}
+use Rattle.assembler.specs.View.{slotsOf, receiveOf, freshPool}
+
+-- what the next call gives on what the last one left: PGN 127489, listed, from source 35, at this reading, with these bytes
+abbrev pub then : Received → ℕ → List ℕ → Received
+then r time bytes = receiveOf base (127489 ∷ []) (record { «now_ms» = time; pgn = 127489; «source_address» = 35; «data» = bytes }) (r .pool) (r .counters)
+
+-- a fresh pool of the default size, with zero counters
+abbrev pub start : Received
+start = record { kind = Ignored; payload = []; length = 0; pool = freshPool 4; counters = freshCounters }
+
+-- "00 07 then six bytes", at 1000
+abbrev pub first : Received
+first = then start 1000 (0 ∷ 7 ∷ 1 ∷ 2 ∷ 3 ∷ 4 ∷ 5 ∷ 6 ∷ [])
+
+-- "then 01 and one more"
+abbrev pub more : List ℕ
+more = 1 ∷ 7 ∷ 255 ∷ 255 ∷ 255 ∷ 255 ∷ 255 ∷ 255 ∷ []
+
+-- these counters, and rejected_frames or lost_fragments at 1
+abbrev pub rejectedOnce : Counters
+rejectedOnce = record { «expired_sessions» = 0; «pool_exhausted» = 0; «rejected_frames» = 1; «lost_fragments» = 0; «unknown_pgn» = 0 }
+
+abbrev pub lostOnce : Counters
+lostOnce = record { «expired_sessions» = 0; «pool_exhausted» = 0; «rejected_frames» = 0; «lost_fragments» = 1; «unknown_pgn» = 0 }
+
+pub record Values : Type 0 where
+  -- "P1: priority 6, PGN 127489, source 35: 0x19F20123"
+  pub p1 : buildOf (fresh 127489 35) ≡ gives 0x19F2_0123
+  -- "P2: priority 6, PGN 60928, destination 255, source 35: 0x18EEFF23"
+  pub p2 : buildOf (withDestination (fresh 60928 35) 255) ≡ gives 0x18EE_FF23
+  -- "P3: priority 3, PGN 126208, destination 16, source 35: 0x0DED1023"
+  pub p3 : buildOf (withDestination (withPriority (fresh 126208 35) 3) 16) ≡ gives 0x0DED_1023
+  -- "P4: 127489 to 16: refusal 5, PF 242"
+  pub p4 : buildOf (withDestination (fresh 127489 35) 16) ≡ refuses 5 (242 ∷ [])
+  -- "P5: 60928 to nobody: 4"
+  pub p5 : buildOf (fresh 60928 35) ≡ refuses 4 []
+  -- "P6: 60929 to 255: 6"
+  pub p6 : buildOf (withDestination (fresh 60929 35) 255) ≡ refuses 6 []
+  -- "P7: PGN 0x40000: 2"
+  pub p7 : buildOf (fresh 0x4_0000 35) ≡ refuses 2 []
+  -- "P8: listed, sequence 2, payload 01 02 03: 40 03 01 02 03 FF FF FF"
+  pub p8 : nextOf (madeOf 127489 35 Nobody (1 ∷ 2 ∷ 3 ∷ []) (127489 ∷ []) 2 .builder) 0 0 (1 ∷ 2 ∷ 3 ∷ []) ≡ sentStep (frameOf 0x19F2_0123 (0x40 ∷ 3 ∷ 1 ∷ 2 ∷ 3 ∷ 0xFF ∷ 0xFF ∷ 0xFF ∷ []) 8) 1 3
+  -- "P9: announced 0 or 224, listed: Ignored, rejected_frames 1 each"
+  pub p9-nothing : then start 0 (0 ∷ 0 ∷ 1 ∷ 2 ∷ 3 ∷ 4 ∷ 5 ∷ 6 ∷ []) ≡ record { kind = Ignored; payload = padded []; length = 0; pool = freshPool 4; counters = rejectedOnce }
+  pub p9-too-much : then start 0 (0 ∷ 224 ∷ 1 ∷ 2 ∷ 3 ∷ 4 ∷ 5 ∷ 6 ∷ []) ≡ record { kind = Ignored; payload = padded []; length = 0; pool = freshPool 4; counters = rejectedOnce }
+  -- "P10: listed, 00 07 then six bytes, then 01 and one more: FragmentConsumed, then length 7"
+  pub p10-first : first .kind ≡ FragmentConsumed
+  pub p10-then : then first 1000 more .kind ≡ MessageComplete
+  pub p10-length : then first 1000 more .length ≡ 7
+  pub p10-bytes : then first 1000 more .payload ≡ padded (1 ∷ 2 ∷ 3 ∷ 4 ∷ 5 ∷ 6 ∷ 7 ∷ [])
+  -- "P11: continuation after 500 ms taken; after 501 a stray, slot still in progress"
+  pub p11-taken : then first 1500 more .kind ≡ MessageComplete
+  pub p11-stray : then first 1501 more ≡ record { kind = Ignored; payload = padded []; length = 0; pool = first .pool; counters = lostOnce }
+  pub p11-held : slotAt (slotsOf (then first 1501 more .pool) .slots) 0 .head .«in_progress» ≡ true
+  -- "P12: opened at 1000, continued at 0: taken, last time 0"
+  pub p12-taken : then first 0 more .kind ≡ MessageComplete
+  pub p12-time : slotAt (slotsOf (then first 0 more .pool) .slots) 0 .head .«last_seen_ms» ≡ 0
