@@ -1,11 +1,11 @@
 -- Asked again and again from the start, a builder gives the frames of its message one by one, and then End. Assumes nothing.
 use Prim.Native.Nat.{ℕ, zero, suc, _+_, _*_, _-_, _%_, _<_, _≤_, min}
-use mathlib.Core.List.{List, [], _∷_}
-use mathlib.Core.Path.{_≡_, refl, sym, ap, _∙_}
+use mathlib.Core.List.{List, _∷_}
+use mathlib.Core.Path.{_≡_, refl, ap, _∙_}
 use mathlib.Core.Bool.{Bool, true, false, _||_}
 use native.Mathlib.Numerals.{add-one}
 use native.Mathlib.Omega.{arith}
-use borrow.Author.Tests.{lt-ltb, le-ltb, le-leb, lt-leb, eq-eqb, ne-eqb, ltb-false}
+use borrow.Author.Tests.{lt-ltb, le-ltb, le-leb, lt-leb, ne-eqb, ltb-false}
 use lib.ListN.{length, drop}
 use lib.Dec.{ltb}
 use Rattle.base.specs.Pick.{pick}
@@ -13,8 +13,9 @@ use Rattle.base.specs.Lists.{fill}
 use Rattle.base.specs.Answer.{gives}
 use Rattle.base.proofs.Cases.{less?}
 use Rattle.can_id.specs.Build.{buildOf}
+use Rattle.can_id.specs.declared.Destination.{Destination}
 use Rattle.fast_packet.specs.FastPacket.{maxPayload, listedIn}
-use Rattle.builder.specs.Builder.{fastOf, idBuilder}
+use Rattle.builder.specs.Builder.{fastOf, madeOf, idBuilder}
 use Rattle.builder.specs.Next.{Step, headerOf, frameOf, nextOf, sentStep, endStep, framedStep, rawStep}
 use Rattle.builder.specs.Frames.{started, nextTurn}
 use Rattle.builder.specs.Message.{iteratorOf, after, answerAt, framesOf, sentBefore, bytesAt, fastAnswer, rawAnswer, messageAnswer}
@@ -43,7 +44,7 @@ capped : (k n : ℕ) → n ≤ k → min k n ≡ n
 capped k n h = omega arith
 
 -- ---- the answers
-abbrev at : FastPacketBuilder → ℕ → ℕ → FrameIterator
+abbrev pub at : FastPacketBuilder → ℕ → ℕ → FrameIterator
 at b index sent = record { builder = b; «frame_index» = index; «bytes_sent» = sent }
 
 module _ (b : FastPacketBuilder) (id : ℕ) (p : List ℕ) (g : buildOf (idBuilder b) ≡ gives id) (some : 1 ≤ length p) (few : length p ≤ maxPayload) where
@@ -141,3 +142,11 @@ module _ (b : FastPacketBuilder) (id : ℕ) (p : List ℕ) (g : buildOf (idBuild
       → (answerAt b p 31 ≡ sentStep (frameOf id (headerOf (b .«sequence_id») 31 ∷ fill 7 (drop 216 p)) 8) 32 maxPayload) × (answerAt b p 32 ≡ endStep 32 maxPayload)
   unfolding fastAnswer pick
   longest f l = (fast-message f 31 ∙ rw l, fast-message f 32 ∙ rw l)
+
+-- ---- so of every new builder
+module _ (pgn source : ℕ) (to : Destination) (p pgns : List ℕ) (held : ℕ) where
+  abbrev new : FastPacketBuilder
+  new = madeOf pgn source to p pgns held .builder
+
+  pub new-message : (id : ℕ) → buildOf (idBuilder new) ≡ gives id → 1 ≤ length p → length p ≤ maxPayload → (k : ℕ) → answerAt new p k ≡ messageAnswer id new p k
+  new-message id g some few = message new id p g some few (new-raw-short pgn pgns (length p))

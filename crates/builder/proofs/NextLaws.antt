@@ -1,13 +1,14 @@
 -- What the next frame is in each case, by plain facts: `search (needs, framing)` finds the case. Assumes nothing.
 use Prim.Native.Nat.{ℕ, _+_, _-_, _%_, _<_, _≤_, min}
 use mathlib.Core.List.{List, [], _∷_}
-use mathlib.Core.Path.{_≡_, sym, ap, _∙_}
+use mathlib.Core.Path.{_≡_, _∙_}
 use mathlib.Core.Bool.{Bool, true, false}
 use borrow.Author.Tests.{lt-ltb, le-ltb, le-leb, lt-leb, eq-eqb, ne-eqb}
 use lib.ListN.{length, drop}
 use lib.Dec.{ltb}
 use Rattle.base.specs.Pick.{pick}
-use Rattle.base.specs.Answer.{Answer, gives, refuses}
+use Rattle.base.specs.Answer.{Answer}
+use Rattle.base.specs.Lists.{fill}
 use Rattle.can_id.specs.Build.{answerOf, numberOf, carriedOf, buildOf, fresh, withPriority, withDestination}
 use Rattle.can_id.specs.declared.Built.{Built}
 use Rattle.can_id.specs.declared.Built.the-variants.{Id, Refused}
@@ -16,7 +17,6 @@ use Rattle.can_id.specs.declared.CanIdBuildError.{CanIdBuildError}
 use Rattle.can_id.specs.declared.CanIdBuilder.{CanIdBuilder}
 use Rattle.can_id.specs.declared.Destination.{Destination}
 use Rattle.can_id.specs.declared.Destination.the-variants.{Nobody, To}
-use Rattle.base.specs.Lists.{fill}
 use Rattle.fast_packet.specs.FastPacket.{listedIn, maxPayload}
 use Rattle.builder.specs.Builder.{fastOf, madeOf, idBuilder}
 use Rattle.builder.specs.Next.{Step, headerOf, indexAfter, frameOf, sentStep, endStep, refusedStep, framedStep, builtStep, nextOf}

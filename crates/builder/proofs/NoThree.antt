@@ -9,7 +9,9 @@ use Rattle.base.proofs.Cases.{pick-all}
 use Rattle.can_id.proofs.NoThree.{NotThree, build-not-three}
 use Rattle.builder.specs.Builder.{idBuilder}
 use Rattle.builder.specs.Next.{Step, frame, end, refusal, Kind, framedStep, builtStep, nextOf}
+use Rattle.builder.specs.Frames.{nextTurn}
 use Rattle.builder.specs.declared.FastPacketBuilder.{FastPacketBuilder}
+use Rattle.builder.specs.declared.FrameIterator.{FrameIterator}
 
 abbrev Other : Kind → Type 0
 Other frame = Unit {0}
@@ -35,3 +37,6 @@ module _ (b : FastPacketBuilder) (index sent : ℕ) (p : List ℕ) where
   next-not-three =
       pick-all StepNotThree _ (pick-all StepNotThree _ tt tt)
       (pick-all StepNotThree _ tt (built (buildOf (idBuilder b)) (build-not-three (idBuilder b))))
+
+pub turn-not-three : (it : FrameIterator) (p : List ℕ) → StepNotThree (nextTurn it p .answer)
+turn-not-three it p = next-not-three (it .builder) (it .«frame_index») (it .«bytes_sent») p

@@ -5,7 +5,7 @@ use Rattle.base.specs.Pick.{pick}
 use Rattle.can_id.specs.Build.{buildOf}
 use Rattle.can_id.specs.declared.Destination.the-variants.{Nobody}
 use Rattle.base.specs.Lists.{any, fill}
-use Rattle.fast_packet.specs.FastPacket.{listedIn}
+use Rattle.fast_packet.specs.FastPacket.{listedIn, maxPayload}
 use Rattle.builder.specs.Builder.{madeOf}
 use Rattle.builder.specs.Message.{framesOf}
 use Rattle.builder.specs.Next.{nextOf, frameOf, sentStep, framedStep}
@@ -17,5 +17,5 @@ unfolding nextOf framedStep buildOf listedIn any fill pick
 p8 = refl
 
 pub frames :
-    (framesOf 1 ≡ 1) × (framesOf 6 ≡ 1) × (framesOf 7 ≡ 2) × (framesOf 9 ≡ 2) × (framesOf 13 ≡ 2) × (framesOf 14 ≡ 3) × (framesOf 223 ≡ 32)
+    (framesOf 1 ≡ 1) × (framesOf 6 ≡ 1) × (framesOf 7 ≡ 2) × (framesOf 9 ≡ 2) × (framesOf 13 ≡ 2) × (framesOf 14 ≡ 3) × (framesOf maxPayload ≡ 32)
 frames = (refl, refl, refl, refl, refl, refl, refl)

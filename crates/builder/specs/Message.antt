@@ -1,6 +1,5 @@
 -- A whole message in closed form: how many frames, which bytes the k-th has, and how many bytes are sent before it.
 use Prim.Native.Nat.{ℕ, zero, suc, _+_, _*_, _-_, _/_, min}
-use mathlib.Core.Bool.{Bool, true, false}
 use mathlib.Core.List.{List, _∷_}
 use lib.ListN.{length, drop}
 use lib.Dec.{ltb}
@@ -25,7 +24,7 @@ abbrev pub answerAt : FastPacketBuilder → List ℕ → ℕ → Step
 answerAt b p k = nextTurn (after k (started b) p) p .answer
 
 -- ---- the frames of a fast message of n bytes
--- one, and one more for every seven bytes after the first six, the last of them as full as may be
+-- 1 + (n - 6) / 7, rounded up: one, and one more for every seven bytes after the first six
 abbrev pub framesOf : ℕ → ℕ
 framesOf n = 1 + (n - 6 + 6) / 7
 

@@ -1,7 +1,6 @@
 -- The next frame: "depends on the builder, frame index and bytes sent, and is fixed for every value of those". Steps 1 to 6 of document 01.
 use Prim.Native.Nat.{ℕ, _+_, _*_, _%_, min, _-_}
 use mathlib.Core.List.{List, [], _∷_}
-use mathlib.Core.Bool.{Bool, true, false}
 use lib.ListN.{length, drop, replicate}
 use lib.Dec.{ltb, leb, eqb}
 use Rattle.base.specs.Pick.{pick}

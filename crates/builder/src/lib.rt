@@ -1,13 +1,13 @@
 // Frames of a Fast Packet message, or the one raw frame of a short message, from a payload.
 ghost use mathlib.Core.Path.{_≡_};
 ghost use mathlib.Core.List.{_++_};
-ghost use Prim.Native.Nat.{_+_, _-_, _%_, _<_, _≤_, min};
+ghost use Prim.Native.Nat.{_-_, _<_, _≤_, min};
 ghost use lib.ListN.{length, take, drop, replicate};
 ghost use Rattle.base.specs.Lists.{fill};
 ghost use Rattle.can_id.specs.Build.{answerOf, buildOf, numberOf, carriedOf};
 ghost use Rattle.fast_packet.specs.FastPacket.{maxPayload};
 ghost use Rattle.builder.specs.Builder.{fastOf, madeOf, withSequence, withPriority, withDestination, idBuilder};
-ghost use Rattle.builder.specs.Next.{headerOf, frameOf, stepOf, nextOf, sentStep, endStep, refusedStep, framedStep};
+ghost use Rattle.builder.specs.Next.{headerOf, indexAfter, frameOf, stepOf, nextOf, sentStep, endStep, refusedStep, framedStep};
 ghost use Rattle.builder.specs.Frames.{started, turnOf, nextTurn};
 use can_id::Built;
 use can_id::CanFrame;
@@ -120,7 +120,7 @@ fn length_byte(total_len: usize) -> u8
 
 // The frame index goes up by one, and comes round from 255 to 0.
 fn index_after(frame_index: u8) -> u8
-    ensures { λ r. ⌜ r ≡ («frame_index» + 1) % 256 ⌝ }
+    ensures { λ r. ⌜ r ≡ indexAfter «frame_index» ⌝ }
 {
     std::num::wrapping_add_u8(frame_index, 1)
 }

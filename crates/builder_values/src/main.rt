@@ -13,7 +13,11 @@ use builder::NextKind;
 use can_id::CanFrame;
 use can_id::CanIdBuildError;
 use can_id::Destination;
+use fast_packet::MAX_FAST_PACKET_PAYLOAD;
 use libc::STDOUT_FILENO;
+
+// One byte more than a message can have.
+const TOO_MANY: usize = MAX_FAST_PACKET_PAYLOAD + 1;
 
 // ---- writing an answer
 
@@ -156,10 +160,10 @@ fn at(
 }
 
 // The bytes 0, 1, 2 and so on.
-fn counting() -> [u8; 224] {
-    let mut bytes = [0u8; 224];
+fn counting() -> [u8; TOO_MANY] {
+    let mut bytes = [0u8; TOO_MANY];
     let mut i: usize = 0;
-    while i < 224 {
+    while i < TOO_MANY {
         bytes[i] = i as u8;
         i += 1;
     }
@@ -180,7 +184,14 @@ fn messages(bytes: &[u8]) {
     );
     message(b"unlisted, 8 bytes", 127245, nobody, bytes, 8, 0);
     message(b"unlisted, 9 bytes, number 9", 127245, nobody, bytes, 9, 9);
-    message(b"223 bytes, number 7", 127489, nobody, bytes, 223, 7);
+    message(
+        b"223 bytes, number 7",
+        127489,
+        nobody,
+        bytes,
+        MAX_FAST_PACKET_PAYLOAD,
+        7,
+    );
 }
 
 fn refusals(bytes: &[u8]) {
@@ -190,7 +201,7 @@ fn refusals(bytes: &[u8]) {
     message(b"127489 to 16", 127489, Destination::To(16), bytes, 9, 5);
     message(b"60929 to 255", 60929, Destination::To(255), bytes, 8, 6);
     message(b"PGN 0x40000", 0x4_0000, nobody, bytes, 7, 8);
-    message(b"224 bytes", 127489, nobody, bytes, 224, 255);
+    message(b"224 bytes", 127489, nobody, bytes, TOO_MANY, 255);
 }
 
 // A sequence and a priority, of which three bits are kept, and a destination.
