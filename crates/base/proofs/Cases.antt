@@ -7,7 +7,7 @@ use lib.Dec.{ltb, eqb}
 use borrow.Author.Tests.{ltb-true, ltb-false, eqb-true, eqb-false, lt-ltb, le-ltb, eq-eqb, ne-eqb}
 use Rattle.base.specs.Pick.{pick}
 
-tested : {G : Type 0} (t : Bool) → (t ≡ true → G) → (t ≡ false → G) → G
+pub tested : {G : Type 0} (t : Bool) → (t ≡ true → G) → (t ≡ false → G) → G
 tested true f g = f refl
 tested false f g = g refl
 

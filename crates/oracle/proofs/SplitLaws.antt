@@ -5,14 +5,22 @@ use mathlib.Core.Path.{_≡_, refl, sym, ap, _∙_, subst}
 use native.Mathlib.Nat.{not-suc-le-zero, le-of-suc-le-suc, add-zero, add-suc, suc-add}
 use native.Mathlib.Numerals.{add-one}
 use native.Mathlib.Omega.{arith}
+use borrow.Author.Tests.{ltb-false}
+use lib.Dec.{eqb, ltb}
 use lib.ListN.{length, getD, take, drop, set, length-take}
 use lib.Seq.{take-suc, take-suc-set, take-all, getD-take, sets}
 use Rattle.base.specs.Pick.{pick}
 use Rattle.base.specs.Lists.{fill}
-use Rattle.base.proofs.Fills.{getD-in}
+use Rattle.base.proofs.Fills.{getD-in, length-fill}
 use Rattle.base.proofs.Cases.{when-eq, when-ne, when-lt, when-true, when-false, pick-all, less?}
 use mathlib.Core.Bool.{Bool, true, false}
-use Rattle.oracle.specs.Split.{bytesAt, frameAt, frameOf, framesFrom, countOf, splitOf, isUnsplit, rowAfter, afterOne, jobFrames, Made}
+use Rattle.base.specs.Answer.{Answer, gives, refuses}
+use Rattle.oracle.specs.Frames.{eight, bytesOf, countIn}
+use Rattle.oracle.specs.Split.{bytesAt, frameAt, framesFrom, framesOf, countOf, splitOf, rowWith, idsOf, bytesAll, lensOf, idsWith, bytesWith, lensWith}
+use Rattle.oracle.specs.Numbers.{ofSplit, counted}
+use Rattle.oracle.specs.declared.Split.the-variants.{Frames, BadSplit, Short}
+use Rattle.oracle.proofs.Grows.{eight-same, sets-append}
+use Rattle.oracle.specs.inner.Job.{toldOf, isUnsplit, frameOf, afterOne, jobFrames, Made}
 use Rattle.oracle.specs.declared.Job.{Job}
 use Rattle.oracle.specs.declared.Frame.{Frame}
 use Rattle.oracle.specs.declared.Split.{Split}
@@ -98,47 +106,201 @@ frames-same (suc n) j h =
     (frames-same n (afterOne j) (omega arith)
     ∙ ap (λ (k : ℕ). framesFrom (j .id) (j .sequence) (take (j .size) (j .payload)) k n) m)
 
--- ---- where the splitter gives a number, there is room for what it lays
-module _ (sequence size room : ℕ) where
-  abbrev Bad : Split → Type 0
-  Bad x = isUnsplit x ≡ true
+-- ---- the answer, by its four tests
+module _ (a b c d : Bool) (n : ℕ) where
+  abbrev code : Split
+  code = pick a BadSplit (pick b BadSplit (pick c BadSplit (pick d Short (Frames n))))
 
-  long-bad : 223 < size → Bad (splitOf sequence size room)
-  unfolding splitOf
-  long-bad h = pick-all Bad _ refl (subst Bad (when-lt _ _ h refl) refl)
+  abbrev paper : List Frame → Answer (List Frame)
+  paper fs = pick a (refuses 28 []) (pick b (refuses 28 []) (pick c (refuses 28 []) (pick d (refuses 27 []) (gives fs))))
 
-  short-bad : room < countOf size → Bad (splitOf sequence size room)
-  unfolding splitOf
-  short-bad h = pick-all Bad _ refl (pick-all Bad _ refl (pick-all Bad _ refl (subst Bad (when-lt _ _ h refl) refl)))
+tests-told : (a b c d : Bool) (n : ℕ) (fs : List Frame) → length fs ≡ n → ofSplit (code a b c d n) ≡ counted (paper a b c d n fs)
+unfolding pick ofSplit counted
+tests-told true b c d n fs e = refl
+tests-told false true c d n fs e = refl
+tests-told false false true d n fs e = refl
+tests-told false false false true n fs e = refl
+tests-told false false false false n fs e = ap gives (sym e)
 
-  pub split-fits : isUnsplit (splitOf sequence size room) ≡ false → (size ≤ 223) × (countOf size ≤ room)
-  split-fits e = (
-    less? 223 size (λ h. let b : Bad (splitOf sequence size room) = long-bad h in let z : _≡_ {A = ℕ} 0 1 = cc in absurd (omega arith)) (λ h. h),
-    less? room (countOf size) (λ h. let b : Bad (splitOf sequence size room) = short-bad h in let z : _≡_ {A = ℕ} 0 1 = cc in absurd (omega arith)) (λ h. h),
-  )
+tests-refuse : {A : Type 0} (W : Answer (List Frame) → List A → List A) (l : List A) → ((k : ℕ) (vs : List ℕ) → l ≡ W (refuses k vs) l)
+    → (a b c d : Bool) (n : ℕ) (fs : List Frame) → isUnsplit (code a b c d n) ≡ true → l ≡ W (paper a b c d n fs) l
+unfolding pick
+tests-refuse W l still true b c d n fs e = still 28 []
+tests-refuse W l still false true c d n fs e = still 28 []
+tests-refuse W l still false false true d n fs e = still 28 []
+tests-refuse W l still false false false true n fs e = still 27 []
+tests-refuse W l still false false false false n fs e = let z : _≡_ {A = ℕ} 0 1 = cc in absurd (omega arith)
 
--- ---- the splitter's two ways out
-module _ (id sequence : ℕ) (p : List ℕ) (rows : List Frame) {s : Split} {b : Bool} (es : s ≡ splitOf sequence (length p) (length rows)) (eb : b ≡ isUnsplit s) where
-  test : isUnsplit (splitOf sequence (length p) (length rows)) ≡ b
-  test = ap isUnsplit (sym es) ∙ sym eb
+tests-give : (a b c d : Bool) (n : ℕ) (fs : List Frame) → isUnsplit (code a b c d n) ≡ false → (paper a b c d n fs ≡ gives fs) × (b ≡ false) × (d ≡ false)
+unfolding pick
+tests-give true b c d n fs e = let z : _≡_ {A = ℕ} 0 1 = cc in absurd (omega arith)
+tests-give false true c d n fs e = let z : _≡_ {A = ℕ} 0 1 = cc in absurd (omega arith)
+tests-give false false true d n fs e = let z : _≡_ {A = ℕ} 0 1 = cc in absurd (omega arith)
+tests-give false false false true n fs e = let z : _≡_ {A = ℕ} 0 1 = cc in absurd (omega arith)
+tests-give false false false false n fs e = (refl, refl, refl)
 
-  pub unsplit-stops : b ≡ true → (s ≡ splitOf sequence (length p) (length rows)) × (rows ≡ rowAfter id sequence p rows)
-  unfolding rowAfter
-  unsplit-stops e = (es, when-true _ _ (test ∙ e) refl)
+length-frames : (id sequence : ℕ) (p : List ℕ) (n k : ℕ) → length (framesFrom id sequence p k n) ≡ n
+length-frames id sequence p zero k = refl
+length-frames id sequence p (suc n) k = ap suc (length-frames id sequence p n (suc k))
+
+-- ---- the splitter's two ways out, whatever it writes to
+module _ (id sequence : ℕ) (p : List ℕ) (space : ℕ) {s : Split} {b : Bool} (es : s ≡ toldOf sequence (length p) space) (eb : b ≡ isUnsplit s) where
+  abbrev size : ℕ
+  size = length p
+
+  told-flag : isUnsplit (toldOf sequence (length p) space) ≡ b
+  told-flag = ap isUnsplit (sym es) ∙ sym eb
+
+  pub split-told : ofSplit s ≡ counted (splitOf id sequence p space)
+  unfolding toldOf splitOf
+  split-told = ap ofSplit es ∙ tests-told (eqb size 0) (ltb 223 size) (ltb 7 sequence) (ltb space (countOf size)) (countOf size) (framesOf id sequence p) (length-frames id sequence p (countOf size) 0)
+
+  split-keeps : {A : Type 0} (W : Answer (List Frame) → List A → List A) (l : List A) → ((k : ℕ) (vs : List ℕ) → l ≡ W (refuses k vs) l) → b ≡ true → l ≡ W (splitOf id sequence p space) l
+  unfolding toldOf splitOf
+  split-keeps W l still e = tests-refuse W l still (eqb size 0) (ltb 223 size) (ltb 7 sequence) (ltb space (countOf size)) (countOf size) (framesOf id sequence p) (told-flag ∙ e)
+
+  gave : b ≡ false → (splitOf id sequence p space ≡ gives (framesOf id sequence p)) × (ltb 223 size ≡ false) × (ltb space (countOf size) ≡ false)
+  unfolding toldOf splitOf
+  gave e = tests-give (eqb size 0) (ltb 223 size) (ltb 7 sequence) (ltb space (countOf size)) (countOf size) (framesOf id sequence p) (told-flag ∙ e)
 
   pub split-small : b ≡ false → length p ≤ 223
-  split-small e = split-fits sequence (length p) (length rows) (test ∙ e) .0
+  split-small e = ltb-false 223 size (gave e .1)
 
-  pub split-room : {n : ℕ} → b ≡ false → n ≡ countOf (length p) → n ≤ length rows
-  split-room e en = let h : countOf (length p) ≤ length rows = split-fits sequence (length p) (length rows) (test ∙ e) .1 in omega arith
+  pub split-room : {n : ℕ} → b ≡ false → n ≡ countOf (length p) → n ≤ space
+  split-room e en = let h : countOf size ≤ space = ltb-false space (countOf size) (gave e .2) in omega arith
 
-  pub split-goes-on : {j : Job} {n : ℕ} {rows′ : List Frame} → b ≡ false → Made id sequence p j → n ≡ countOf (length p) → rows′ ≡ sets rows 0 (jobFrames n j)
-      → (s ≡ splitOf sequence (length p) (length rows)) × (rows′ ≡ rowAfter id sequence p rows)
-  unfolding rowAfter
-  split-goes-on {j} e made en er =
-      let n : ℕ = countOf (length p) in
+  job-frames : {j : Job} {n : ℕ} → b ≡ false → Made id sequence p j → n ≡ countOf (length p) → jobFrames n j ≡ framesOf id sequence p
+  job-frames {j} e made en =
+      let m : ℕ = countOf (length p) in
       let i : j .index ≡ 0 = made .at-first in
       let h : length p ≤ 223 = split-small e in
-      let f : jobFrames n j ≡ framesFrom (j .id) (j .sequence) (take (j .size) (j .payload)) (j .index) n = frames-same n j (omega arith) in
-      let g : framesFrom (j .id) (j .sequence) (take (j .size) (j .payload)) (j .index) n ≡ framesFrom id sequence p 0 n = rw (made .same-id, made .same-sequence, made .same-bytes, made .at-first) in
-      (es, when-false _ _ (test ∙ e) (er ∙ ap (λ (k : ℕ). sets rows 0 (jobFrames k j)) en ∙ ap (sets rows 0) (f ∙ g)))
+      let f : jobFrames m j ≡ framesFrom (j .id) (j .sequence) (take (j .size) (j .payload)) (j .index) m = frames-same m j (omega arith) in
+      let g : framesFrom (j .id) (j .sequence) (take (j .size) (j .payload)) (j .index) m ≡ framesFrom id sequence p 0 m = rw (made .same-id, made .same-sequence, made .same-bytes, made .at-first) in
+      ap (λ (k : ℕ). jobFrames k j) en ∙ f ∙ g
+
+-- into a row of frames
+module _ (id sequence : ℕ) (p : List ℕ) (rows : List Frame) {s : Split} {b : Bool} (es : s ≡ toldOf sequence (length p) (length rows)) (eb : b ≡ isUnsplit s) where
+  abbrev told : Answer (List Frame)
+  told = splitOf id sequence p (length rows)
+
+  pub unsplit-stops : b ≡ true → (ofSplit s ≡ counted told) × (rows ≡ rowWith told rows)
+  unfolding rowWith
+  unsplit-stops e = (split-told id sequence p (length rows) es eb, split-keeps id sequence p (length rows) es eb rowWith rows (λ k vs. refl) e)
+
+  pub split-goes-on : {j : Job} {n : ℕ} {rows′ : List Frame} → b ≡ false → Made id sequence p j → n ≡ countOf (length p) → rows′ ≡ sets rows 0 (jobFrames n j) → (ofSplit s ≡ counted told) × (rows′ ≡ rowWith told rows)
+  unfolding rowWith
+  split-goes-on e made en er =
+      let g : told ≡ gives (framesOf id sequence p) = gave id sequence p (length rows) es eb e .0 in
+      (split-told id sequence p (length rows) es eb, er ∙ ap (sets rows 0) (job-frames id sequence p (length rows) es eb e made en) ∙ sym (ap (λ (x : Answer (List Frame)). rowWith x rows) g))
+
+-- into separate slices
+module _ (id sequence : ℕ) (p ids bytes lens : List ℕ) {m : ℕ} (em : m ≡ countIn (length ids) (length bytes) (length lens)) {s : Split} {b : Bool} (es : s ≡ toldOf sequence (length p) m) (eb : b ≡ isUnsplit s) where
+  abbrev space : ℕ
+  space = countIn (length ids) (length bytes) (length lens)
+
+  abbrev told′ : Answer (List Frame)
+  told′ = splitOf id sequence p space
+
+  es′ : s ≡ toldOf sequence (length p) space
+  es′ = es ∙ ap (toldOf sequence (length p)) em
+
+  pub rows-stop : b ≡ true → (ofSplit s ≡ counted told′) × (ids ≡ idsWith told′ ids) × (bytes ≡ bytesWith told′ bytes) × (lens ≡ lensWith told′ lens)
+  unfolding idsWith bytesWith lensWith
+  rows-stop e = (
+    split-told id sequence p space es′ eb,
+    split-keeps id sequence p space es′ eb idsWith ids (λ k vs. refl) e,
+    split-keeps id sequence p space es′ eb bytesWith bytes (λ k vs. refl) e,
+    split-keeps id sequence p space es′ eb lensWith lens (λ k vs. refl) e,
+  )
+
+  pub rows-small : b ≡ false → length p ≤ 223
+  rows-small = split-small id sequence p space es′ eb
+
+  pub rows-room : {n : ℕ} → b ≡ false → n ≡ countOf (length p) → n ≤ space
+  rows-room = split-room id sequence p space es′ eb
+
+  pub rows-go-on : {j : Job} {n : ℕ} {ids′ bytes′ lens′ : List ℕ} → b ≡ false → Made id sequence p j → n ≡ countOf (length p)
+      → ids′ ≡ sets ids 0 (idsOf (jobFrames n j)) → bytes′ ≡ sets bytes 0 (bytesAll (jobFrames n j)) → lens′ ≡ sets lens 0 (lensOf (jobFrames n j))
+      → (ofSplit s ≡ counted told′) × (ids′ ≡ idsWith told′ ids) × (bytes′ ≡ bytesWith told′ bytes) × (lens′ ≡ lensWith told′ lens)
+  unfolding idsWith bytesWith lensWith
+  rows-go-on {j} {n} e made en ei eb′ el =
+      let g : told′ ≡ gives (framesOf id sequence p) = gave id sequence p space es′ eb e .0 in
+      let f : jobFrames n j ≡ framesOf id sequence p = job-frames id sequence p space es′ eb e made en in (
+        split-told id sequence p space es′ eb,
+        ei ∙ ap (λ (l : List Frame). sets ids 0 (idsOf l)) f ∙ sym (ap (λ (x : Answer (List Frame)). idsWith x ids) g),
+        eb′ ∙ ap (λ (l : List Frame). sets bytes 0 (bytesAll l)) f ∙ sym (ap (λ (x : Answer (List Frame)). bytesWith x bytes) g),
+        el ∙ ap (λ (l : List Frame). sets lens 0 (lensOf l)) f ∙ sym (ap (λ (x : Answer (List Frame)). lensWith x lens) g),
+      )
+
+pub bytes-eight : (sequence : ℕ) (p : List ℕ) (index : ℕ) → length (bytesAt sequence p index) ≡ 8
+unfolding bytesAt
+bytes-eight sequence p index = ap suc (pick-all (λ (l : List ℕ). length l ≡ 7) (eqb index 0) (ap suc (length-fill 6 p)) (length-fill 7 (drop (7 * index - 1) p)))
+
+job-eight : (j : Job) → length (frameOf j .«data») ≡ 8
+unfolding frameOf frameAt
+job-eight j = bytes-eight (j .sequence) (take (j .size) (j .payload)) (j .index)
+
+eight-more : (i : ℕ) (f : Frame) → 8 * (i + 1) ≡ 8 * i + length (bytesOf f)
+unfolding eight
+eight-more i f = omega arith
+
+-- ---- a loop that lays a job's frames into separate slices: what is laid from i on
+module _ (n : ℕ) where
+  abbrev pub idsLeft : Job → List ℕ → ℕ → List ℕ
+  idsLeft j l i = sets l i (idsOf (jobFrames (n - i) j))
+
+  abbrev pub bytesLeft : Job → List ℕ → ℕ → List ℕ
+  bytesLeft j l i = sets l (8 * i) (bytesAll (jobFrames (n - i) j))
+
+  abbrev pub lensLeft : Job → List ℕ → ℕ → List ℕ
+  lensLeft j l i = sets l i (lensOf (jobFrames (n - i) j))
+
+  one-more : (i : ℕ) (j : Job) → i < n → jobFrames (n - i) j ≡ frameOf j ∷ jobFrames (n - (i + 1)) (afterOne j)
+  one-more i j h = let e : n - i ≡ suc (n - (i + 1)) = omega arith in ap (λ (k : ℕ). jobFrames k j) e
+
+  no-more : (i : ℕ) (j : Job) → n ≤ i → jobFrames (n - i) j ≡ []
+  no-more i j h = let e : n - i ≡ 0 = omega arith in ap (λ (k : ℕ). jobFrames k j) e
+
+  module _ (j : Job) {k : Job} {f : Frame} (l : List ℕ) (i : ℕ) {x : List ℕ} (h : i < n) (ef : f ≡ frameOf j) (ek : k ≡ afterOne j) where
+    pub ids-turn : idsLeft j l i ≡ x → idsLeft k (set l i (f .id)) (i + 1) ≡ x
+    unfolding idsOf
+    ids-turn e = rw (ek, ef, add-one i) (sym (ap (λ (fs : List Frame). sets l i (idsOf fs)) (one-more i j h ∙ ap (λ (m : ℕ). frameOf j ∷ jobFrames (n - m) (afterOne j)) (add-one i))) ∙ e)
+
+    pub lens-turn : lensLeft j l i ≡ x → lensLeft k (set l i (f .len)) (i + 1) ≡ x
+    unfolding lensOf
+    lens-turn e = rw (ek, ef, add-one i) (sym (ap (λ (fs : List Frame). sets l i (lensOf fs)) (one-more i j h ∙ ap (λ (m : ℕ). frameOf j ∷ jobFrames (n - m) (afterOne j)) (add-one i))) ∙ e)
+
+    pub bytes-turn : {l′ : List ℕ} → l′ ≡ sets l (8 * i) (take 8 (drop 0 (f .«data»))) → bytesLeft j l i ≡ x → bytesLeft k l′ (i + 1) ≡ x
+    unfolding bytesAll
+    bytes-turn {l′} el e =
+        let m : length (f .«data») ≡ 8 = ap (λ (g : Frame). length (g .«data»)) ef ∙ job-eight j in
+        let t : take 8 (f .«data») ≡ bytesOf (frameOf j) = take-all 8 (f .«data») (omega arith) ∙ sym (eight-same (f .«data») m) ∙ ap bytesOf ef in
+        let z : 8 * (i + 1) ≡ 8 * i + length (bytesOf (frameOf j)) = eight-more i (frameOf j) in
+        rw (ek, z, el, t)
+        (sym (sets-append (bytesOf (frameOf j)) (bytesAll (jobFrames (n - (i + 1)) (afterOne j))) l (8 * i))
+        ∙ sym (ap (λ (fs : List Frame). sets l (8 * i) (bytesAll fs)) (one-more i j h))
+        ∙ e)
+
+  module _ (j : Job) {l : List ℕ} (i : ℕ) {x : List ℕ} (h : n ≤ i) where
+    pub ids-done : idsLeft j l i ≡ x → l ≡ x
+    unfolding idsOf
+    ids-done e = sym (ap (λ (fs : List Frame). sets l i (idsOf fs)) (no-more i j h)) ∙ e
+
+    pub lens-done : lensLeft j l i ≡ x → l ≡ x
+    unfolding lensOf
+    lens-done e = sym (ap (λ (fs : List Frame). sets l i (lensOf fs)) (no-more i j h)) ∙ e
+
+    pub bytes-done : bytesLeft j l i ≡ x → l ≡ x
+    unfolding bytesAll
+    bytes-done e = sym (ap (λ (fs : List Frame). sets l (8 * i) (bytesAll fs)) (no-more i j h)) ∙ e
+
+  pub ids-none : (j : Job) (l : List ℕ) → idsLeft j l 0 ≡ sets l 0 (idsOf (jobFrames n j))
+  ids-none j l = let e : n - 0 ≡ n = omega arith in ap (λ (k : ℕ). sets l 0 (idsOf (jobFrames k j))) e
+
+  pub lens-none : (j : Job) (l : List ℕ) → lensLeft j l 0 ≡ sets l 0 (lensOf (jobFrames n j))
+  lens-none j l = let e : n - 0 ≡ n = omega arith in ap (λ (k : ℕ). sets l 0 (lensOf (jobFrames k j))) e
+
+  pub bytes-none : (j : Job) (l : List ℕ) → bytesLeft j l 0 ≡ sets l 0 (bytesAll (jobFrames n j))
+  bytes-none j l = let e : n - 0 ≡ n = omega arith in ap (λ (k : ℕ). sets l 0 (bytesAll (jobFrames k j))) e
+
+pub ruleset laying-frames = (ids-none, ids-turn, ids-done, lens-none, lens-turn, lens-done, bytes-none, bytes-turn, bytes-done)

@@ -1,17 +1,14 @@
 -- The splitter, as document 01 has it under "The bench": a payload is laid out by step 6 of "Building frames", index from 0.
 use Prim.Native.Nat.{ℕ, zero, suc, _+_, _-_, _*_, _/_, _%_}
-use mathlib.Core.Bool.{Bool, true, false}
-use mathlib.Core.List.{List, [], _∷_}
-use mathlib.Core.Path.{_≡_}
-use lib.ListN.{length, take, drop}
+use mathlib.Core.List.{List, [], _∷_, _++_}
+use lib.ListN.{length, drop}
 use lib.Seq.{sets}
 use lib.Dec.{eqb, ltb}
+use Rattle.base.specs.Answer.{Answer, gives, refuses}
 use Rattle.base.specs.Pick.{pick}
 use Rattle.base.specs.Lists.{fill}
+use Rattle.oracle.specs.Frames.{bytesOf}
 use Rattle.oracle.specs.declared.Frame.{Frame}
-use Rattle.oracle.specs.declared.Job.{Job}
-use Rattle.oracle.specs.declared.Split.{Split}
-use Rattle.oracle.specs.declared.Split.the-variants.{Frames, BadSplit, Short}
 
 -- "byte 0 is (sequence modulo 8) times 32 plus (index modulo 32). If no byte was sent, byte 1 is the length and up to 6 bytes follow;
 -- else up to 7 follow byte 0. The rest is 0xFF": 7 × index - 1 bytes were sent
@@ -24,6 +21,7 @@ bytesAt sequence payload index =
 unfoldable pub frameAt : ℕ → ℕ → List ℕ → ℕ → Frame
 frameAt id sequence payload index = record { id = id; «data» = bytesAt sequence payload index; len = 8 }
 
+-- n frames from an index on
 abbrev pub framesFrom : ℕ → ℕ → List ℕ → ℕ → ℕ → List Frame
 framesFrom id sequence payload index zero = []
 framesFrom id sequence payload index (suc n) = frameAt id sequence payload index ∷ framesFrom id sequence payload (suc index) n
@@ -32,42 +30,45 @@ framesFrom id sequence payload index (suc n) = frameAt id sequence payload index
 abbrev pub countOf : ℕ → ℕ
 countOf size = size / 7 + 1
 
--- "refusal 28 if the payload is not 1..223 bytes or the sequence is over 7; 27 if the row is too short. Its answer is the number of frames"
-unfoldable pub splitOf : ℕ → ℕ → ℕ → Split
-splitOf sequence size room =
-    pick (eqb size 0) BadSplit
-    (pick (ltb 223 size) BadSplit
-    (pick (ltb 7 sequence) BadSplit
-    (pick (ltb room (countOf size)) Short
-    (Frames (countOf size)))))
+-- all frames of a payload
+abbrev pub framesOf : ℕ → ℕ → List ℕ → List Frame
+framesOf id sequence payload = framesFrom id sequence payload 0 (countOf (length payload))
 
-abbrev pub isUnsplit : Split → Bool
-isUnsplit (Frames n) = false
-isUnsplit BadSplit = true
-isUnsplit Short = true
+-- "refusal 28 if the payload is not 1..223 bytes or the sequence is over 7; 27 if the row is too short"; else the frames
+unfoldable pub splitOf : ℕ → ℕ → List ℕ → ℕ → Answer (List Frame)
+splitOf id sequence payload room =
+    pick (eqb (length payload) 0) (refuses 28 [])
+    (pick (ltb 223 (length payload)) (refuses 28 [])
+    (pick (ltb 7 sequence) (refuses 28 [])
+    (pick (ltb room (countOf (length payload))) (refuses 27 [])
+    (gives (framesOf id sequence payload)))))
 
--- "rows past them keep their contents"
-unfoldable pub rowAfter : ℕ → ℕ → List ℕ → List Frame → List Frame
-rowAfter id sequence payload row = pick (isUnsplit (splitOf sequence (length payload) (length row))) row (sets row 0 (framesFrom id sequence payload 0 (countOf (length payload))))
+-- "rows past them keep their contents"; a refusal writes nothing
+unfoldable pub rowWith : Answer (List Frame) → List Frame → List Frame
+rowWith (gives fs) row = sets row 0 fs
+rowWith (refuses k vs) row = row
 
--- ---- the code's own state: what is being laid out, with the index of the next frame
-unfoldable pub frameOf : Job → Frame
-frameOf j = frameAt (j .id) (j .sequence) (take (j .size) (j .payload)) (j .index)
+-- ---- the same in separate slices: identifiers, eight bytes a frame, lengths
+unfoldable pub idsOf : List Frame → List ℕ
+idsOf [] = []
+idsOf (f ∷ fs) = f .id ∷ idsOf fs
 
-abbrev pub afterOne : Job → Job
-afterOne j = record { id = j .id; sequence = j .sequence; index = (j .index + 1) % 256; size = j .size; payload = j .payload }
+unfoldable pub bytesAll : List Frame → List ℕ
+bytesAll [] = []
+bytesAll (f ∷ fs) = bytesOf f ++ bytesAll fs
 
-abbrev pub jobFrames : ℕ → Job → List Frame
-jobFrames zero j = []
-jobFrames (suc n) j = frameOf j ∷ jobFrames n (afterOne j)
+unfoldable pub lensOf : List Frame → List ℕ
+lensOf [] = []
+lensOf (f ∷ fs) = f .len ∷ lensOf fs
 
-abbrev pub jobEnd : ℕ → Job → Job
-jobEnd zero j = j
-jobEnd (suc n) j = jobEnd n (afterOne j)
+unfoldable pub idsWith : Answer (List Frame) → List ℕ → List ℕ
+idsWith (gives fs) ids = sets ids 0 (idsOf fs)
+idsWith (refuses k vs) ids = ids
 
--- what a new job has to be
-pub record Made (id sequence : ℕ) (payload : List ℕ) (j : Job) : Type 0 where
-  pub same-id : j .id ≡ id
-  pub same-sequence : j .sequence ≡ sequence
-  pub at-first : j .index ≡ 0
-  pub same-bytes : take (j .size) (j .payload) ≡ payload
+unfoldable pub bytesWith : Answer (List Frame) → List ℕ → List ℕ
+bytesWith (gives fs) bytes = sets bytes 0 (bytesAll fs)
+bytesWith (refuses k vs) bytes = bytes
+
+unfoldable pub lensWith : Answer (List Frame) → List ℕ → List ℕ
+lensWith (gives fs) lens = sets lens 0 (lensOf fs)
+lensWith (refuses k vs) lens = lens

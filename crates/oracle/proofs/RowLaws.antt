@@ -1,0 +1,112 @@
+-- Laws of the row that separate slices stand for, in the shape of a loop along it. Assumes nothing.
+use Prim.Native.Nat.{ℕ, suc, _+_, _*_, _-_, _<_, _≤_}
+use mathlib.Core.List.{List, [], _∷_}
+use mathlib.Core.Path.{_≡_, refl, sym, ap, _∙_}
+use native.Mathlib.Nat.{add-zero}
+use native.Mathlib.Omega.{arith}
+use lib.ListN.{length, getD, drop}
+use lib.Seq.{sets, getD-drop}
+use Rattle.oracle.specs.Frames.{eight, frameIn, framesIn, countIn, rowIn}
+use Rattle.oracle.specs.inner.Scan.{stepOf, scanOf, addedOf, rowOf, bytesLaid, rowsLaid, Counted, Small}
+use Rattle.oracle.specs.inner.Tx.{txOf, txAll}
+use Rattle.oracle.specs.declared.Frame.{Frame}
+use Rattle.oracle.specs.declared.Scan.{Scan}
+use Rattle.oracle.specs.declared.Tx.{Tx}
+use Rattle.oracle.proofs.Grows.{counts, arena-more, list-more}
+use Rattle.oracle.proofs.CheckLaws.{kept-count}
+
+-- a frame of the row, byte by byte
+pub frame-read : (ids bytes lens : List ℕ) (i : ℕ)
+    → record { id = getD ids i 0; «data» = getD bytes (8 * i) 0 ∷ getD bytes (8 * i + 1) 0 ∷ getD bytes (8 * i + 2) 0 ∷ getD bytes (8 * i + 3) 0 ∷ getD bytes (8 * i + 4) 0 ∷ getD bytes (8 * i + 5) 0 ∷ getD bytes (8 * i + 6) 0 ∷ getD bytes (8 * i + 7) 0 ∷ []; len = getD lens i 0 } ≡ frameIn ids bytes lens i
+unfolding frameIn eight
+frame-read ids bytes lens i = simp (getD-drop, add-zero)
+
+-- what a fold leaves of the arena and of the list
+abbrev pub arenaLeft : Scan → List ℕ → List Frame → List ℕ
+arenaLeft s o fs = sets o (s .total) (bytesLaid s fs)
+
+abbrev pub listLeft : Scan → List ℕ → List Frame → List ℕ
+listLeft s o fs = sets o (3 * s .messages) (rowsLaid s fs)
+
+-- ---- the frames from i on, of n
+module _ (ids bytes lens : List ℕ) where
+  abbrev pub rest : ℕ → ℕ → List Frame
+  rest n i = framesIn ids bytes lens i (n - i)
+
+  abbrev row : List Frame
+  row = rowIn ids bytes lens
+
+  all-are : {n : ℕ} → n ≡ countIn (length ids) (length bytes) (length lens) → rest n 0 ≡ row
+  unfolding rowIn
+  all-are {n} e = let z : n - 0 ≡ countIn (length ids) (length bytes) (length lens) = omega arith in ap (framesIn ids bytes lens 0) z
+
+  one-is : (n i : ℕ) → i < n → rest n i ≡ frameIn ids bytes lens i ∷ rest n (i + 1)
+  one-is n i h = let e : n - i ≡ suc (n - (i + 1)) = omega arith in ap (framesIn ids bytes lens i) e
+
+  none-is : (n i : ℕ) → n ≤ i → rest n i ≡ []
+  none-is n i h = let e : n - i ≡ 0 = omega arith in ap (framesIn ids bytes lens i) e
+
+  -- a fold along the row
+  module _ (s₀ : Scan) {n : ℕ} where
+    pub scan-none : n ≡ countIn (length ids) (length bytes) (length lens) → scanOf s₀ (rest n 0) ≡ scanOf s₀ row
+    scan-none e = ap (scanOf s₀) (all-are e)
+
+    pub scan-turn : (s : Scan) {t : Scan} {f : Frame} (i : ℕ) → i < n → f ≡ frameIn ids bytes lens i → t ≡ stepOf s f → scanOf s (rest n i) ≡ scanOf s₀ row → scanOf t (rest n (i + 1)) ≡ scanOf s₀ row
+    scan-turn s i h ef et e = ap (λ (u : Scan). scanOf u (rest n (i + 1))) (et ∙ ap (stepOf s) ef) ∙ sym (ap (scanOf s) (one-is n i h)) ∙ e
+
+    pub scan-done : (s : Scan) (i : ℕ) → n ≤ i → scanOf s (rest n i) ≡ scanOf s₀ row → s ≡ scanOf s₀ row
+    scan-done s i h e = sym (ap (scanOf s) (none-is n i h)) ∙ e
+
+  module _ (t₀ : Tx) {n : ℕ} where
+    pub tx-none : n ≡ countIn (length ids) (length bytes) (length lens) → txAll t₀ (rest n 0) ≡ txAll t₀ row
+    tx-none e = ap (txAll t₀) (all-are e)
+
+    pub tx-turn : (s : Tx) {t : Tx} {f : Frame} (i : ℕ) → i < n → f ≡ frameIn ids bytes lens i → t ≡ txOf s f → txAll s (rest n i) ≡ txAll t₀ row → txAll t (rest n (i + 1)) ≡ txAll t₀ row
+    tx-turn s i h ef et e = ap (λ (u : Tx). txAll u (rest n (i + 1))) (et ∙ ap (txOf s) ef) ∙ sym (ap (txAll s) (one-is n i h)) ∙ e
+
+    pub tx-done : (s : Tx) (i : ℕ) → n ≤ i → txAll s (rest n i) ≡ txAll t₀ row → s ≡ txAll t₀ row
+    tx-done s i h e = sym (ap (txAll s) (none-is n i h)) ∙ e
+
+  -- the same, with what is laid
+  module _ (o₀ : List ℕ) (s₀ : Scan) {n : ℕ} where
+    pub arena-none : n ≡ countIn (length ids) (length bytes) (length lens) → arenaLeft s₀ o₀ (rest n 0) ≡ arenaLeft s₀ o₀ row
+    arena-none e = ap (arenaLeft s₀ o₀) (all-are e)
+
+    pub arena-turn : (s : Scan) {t : Scan} {f : Frame} (o : List ℕ) {p : List ℕ} (i : ℕ) → i < n → f ≡ frameIn ids bytes lens i → t ≡ stepOf s f → p ≡ sets o (s .total) (addedOf s f)
+        → arenaLeft s o (rest n i) ≡ arenaLeft s₀ o₀ row → arenaLeft t p (rest n (i + 1)) ≡ arenaLeft s₀ o₀ row
+    arena-turn s o i h ef et ep e =
+        let g : Frame = frameIn ids bytes lens i in
+        rw (et, ep, ef) (sym (arena-more s g o (rest n (i + 1))) ∙ sym (ap (arenaLeft s o) (one-is n i h)) ∙ e)
+
+    pub arena-done : (s : Scan) {o : List ℕ} (i : ℕ) → n ≤ i → arenaLeft s o (rest n i) ≡ arenaLeft s₀ o₀ row → o ≡ arenaLeft s₀ o₀ row
+    arena-done s {o} i h e = sym (ap (arenaLeft s o) (none-is n i h)) ∙ e
+
+    pub list-none : n ≡ countIn (length ids) (length bytes) (length lens) → listLeft s₀ o₀ (rest n 0) ≡ listLeft s₀ o₀ row
+    list-none e = ap (listLeft s₀ o₀) (all-are e)
+
+    pub list-turn : (s : Scan) {t : Scan} {f : Frame} (o : List ℕ) {p : List ℕ} (i : ℕ) → i < n → f ≡ frameIn ids bytes lens i → t ≡ stepOf s f → p ≡ sets o (3 * s .messages) (rowOf s f)
+        → listLeft s o (rest n i) ≡ listLeft s₀ o₀ row → listLeft t p (rest n (i + 1)) ≡ listLeft s₀ o₀ row
+    list-turn s o i h ef et ep e =
+        let g : Frame = frameIn ids bytes lens i in
+        rw (et, ep, ef) (sym (list-more s g o (rest n (i + 1))) ∙ sym (ap (listLeft s o) (one-is n i h)) ∙ e)
+
+    pub list-done : (s : Scan) {o : List ℕ} (i : ℕ) → n ≤ i → listLeft s o (rest n i) ≡ listLeft s₀ o₀ row → o ≡ listLeft s₀ o₀ row
+    list-done s {o} i h e = sym (ap (listLeft s o) (none-is n i h)) ∙ e
+
+pub counts-on : (i : ℕ) (s : Scan) {t : Scan} (f : Frame) → Counted i s → t ≡ stepOf s f → Counted (i + 1) t
+counts-on i s f c e = rw e (counts i s f c)
+
+pub counts-tx : (i : ℕ) (s : Tx) {t : Tx} (f : Frame) → Counted i (s .scan) → t ≡ txOf s f → Counted (i + 1) (t .scan)
+counts-tx i s f c e = rw e (kept-count i s f c)
+
+-- the counts fit
+pub small : (i : ℕ) {n : ℕ} (s : Scan) → i < n → n ≤ 0x2000_0000_0000_0000 → Counted i s → Small s
+small i s h k c = record { frames = omega arith; whole = omega arith; bytes = omega arith }
+
+pub ruleset scanning = (scan-none, scan-turn, scan-done, counts-on, small)
+
+pub ruleset checking = (tx-none, tx-turn, tx-done, counts-tx, small)
+
+pub ruleset laying-bytes = (arena-none, arena-turn, arena-done, counts-on, small)
+
+pub ruleset laying-rows = (list-none, list-turn, list-done, counts-on, small)

@@ -1,0 +1,33 @@
+-- `enter_rows` meets its contract: a loop along the row. Assumes nothing.
+use borrow.Author.Needs.{needs}
+use Prim.Native.Nat.{_≤_, _-_}
+use mathlib.Core.Path.{_≡_}
+use lib.ListN.{length}
+use Rattle.oracle.specs.Frames.{countIn, rowIn}
+use Rattle.oracle.specs.inner.Scan.{Counted}
+use Rattle.oracle.proofs.RowLaws.{rest, listLeft, laying-rows}
+use Rattle.oracle.proofs.enter_rows.Statement.{statement}
+use Rattle.oracle.proofs.enter_rows.Tie as tie
+
+abbrev Inv-loop : tie.InvT-loop
+Inv-loop ids bytes lens list₀ n st₀ i₀ list st i =
+    (n ≡ countIn (length ids) (length bytes) (length lens)) × (i ≤ n) × Counted i st × (length list ≡ length list₀) × (listLeft st list (rest ids bytes lens n i) ≡ listLeft st₀ list₀ (rowIn ids bytes lens))
+
+abbrev μ-loop : tie.MeasureT-loop
+μ-loop ids bytes lens list₀ n st₀ i₀ list st i = n - i
+
+pub enter-rows-spec : {M : Type 1} → statement M
+enter-rows-spec =
+    tie.close
+    (tie.spec
+    Inv-loop
+    μ-loop
+    (λ c κs. search needs)
+    (λ c. search (needs, laying-rows))
+    (λ c κs. search needs)
+    (λ c κs. search (needs, laying-rows))
+    (λ c. search needs)
+    (λ c. search needs)
+    (λ c. search (needs, laying-rows))
+    (λ c. search needs)
+    (λ c. search (needs, laying-rows)))

@@ -1,0 +1,31 @@
+-- `frame_in` meets its contract: the facts on each way out pick the law of that case. Assumes nothing.
+use borrow.Author.Needs.{needs}
+use Rattle.oracle.proofs.RowLaws.{frame-read}
+use Rattle.oracle.proofs.frame_in.Statement.{statement}
+use Rattle.oracle.proofs.frame_in.Tie as tie
+
+pub frame-in-spec : {M : Type 1} → statement M
+frame-in-spec =
+    tie.close
+    (tie.spec
+    (λ c. search needs)
+    (λ c. search needs)
+    (λ c. search needs)
+    (λ c. search needs)
+    (λ c. search needs)
+    (λ c. search needs)
+    (λ c. search needs)
+    (λ c. search needs)
+    (λ c. search needs)
+    (λ c. search needs)
+    (λ c. search needs)
+    (λ c. search needs)
+    (λ c. search needs)
+    (λ c. search needs)
+    (λ c. search needs)
+    (λ c. search needs)
+    (λ c. search needs)
+    (λ c. search needs)
+    (λ c. search needs)
+    (λ c. search needs)
+    (λ c. frame-read _ _ _ _))

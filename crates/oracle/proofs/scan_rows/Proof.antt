@@ -1,0 +1,31 @@
+-- `scan_rows` meets its contract: a loop along the row. Assumes nothing.
+use borrow.Author.Needs.{needs}
+use Prim.Native.Nat.{_≤_, _-_}
+use mathlib.Core.Path.{_≡_}
+use lib.ListN.{length}
+use Rattle.oracle.specs.Frames.{countIn, rowIn}
+use Rattle.oracle.specs.inner.Scan.{Counted, scanOf}
+use Rattle.oracle.proofs.RowLaws.{rest, scanning}
+use Rattle.oracle.proofs.scan_rows.Statement.{statement}
+use Rattle.oracle.proofs.scan_rows.Tie as tie
+
+abbrev Inv-loop : tie.InvT-loop
+Inv-loop ids bytes lens n st₀ i₀ st i = (n ≡ countIn (length ids) (length bytes) (length lens)) × (i ≤ n) × Counted i st × (scanOf st (rest ids bytes lens n i) ≡ scanOf st₀ (rowIn ids bytes lens))
+
+abbrev μ-loop : tie.MeasureT-loop
+μ-loop ids bytes lens n st₀ i₀ st i = n - i
+
+pub scan-rows-spec : {M : Type 1} → statement M
+scan-rows-spec =
+    tie.close
+    (tie.spec
+    Inv-loop
+    μ-loop
+    (λ c κs. search needs)
+    (λ c. search (needs, scanning))
+    (λ c κs. search needs)
+    (λ c κs. search (needs, scanning))
+    (λ c. search needs)
+    (λ c. search needs)
+    (λ c. search (needs, scanning))
+    (λ c. search (needs, scanning)))

@@ -1,0 +1,148 @@
+-- What the code knows after some frames of a row: no bytes, only counts. Nobody needs to believe this: `proofs/Bridge` shows that it tells what specs/Strict says.
+use Prim.Native.Nat.{ℕ, _+_, _-_, _*_, _/_, _%_, _≤_, min}
+use mathlib.Core.Bool.{Bool, true, false}
+use mathlib.Core.List.{List, [], _∷_, _++_}
+use lib.ListN.{length, getD, take, drop}
+use lib.Dec.{eqb, ltb}
+use Rattle.base.specs.Pick.{pick}
+use Rattle.oracle.specs.Frames.{isOther, indexOf, sequenceOf, bytesOf}
+use Rattle.oracle.specs.Strict.{oddOf}
+use Rattle.oracle.specs.declared.Frame.{Frame}
+use Rattle.oracle.specs.declared.Scan.{Scan}
+use Rattle.oracle.specs.declared.Reassembled.{Reassembled}
+use Rattle.oracle.specs.declared.Reassembled.the-variants.{Messages, Refused, Incomplete, NoRoom}
+use Rattle.oracle.specs.declared.Fault.the-variants.{Length, Restarted, Announced, Stray, Order, Padding}
+use Rattle.oracle.specs.declared.Standing.{Standing}
+use Rattle.oracle.specs.declared.Standing.the-variants.{Clear, At}
+
+-- how many of its bytes stand before the message's
+unfoldable pub headOf : List ℕ → ℕ
+headOf bs = pick (eqb (indexOf bs) 0) 2 1
+
+-- how many bytes the message lacks before this frame
+unfoldable pub missingOf : Scan → List ℕ → ℕ
+missingOf s bs = pick (eqb (indexOf bs) 0) (getD bs 1 0) (s .missing)
+
+-- "When the collected bytes reach the announced length, those after it must all be 0xFF (25, first bad byte)"
+unfoldable pub paddingOf : Scan → List ℕ → Standing
+paddingOf s bs =
+    let odd : ℕ = oddOf (drop (headOf bs + missingOf s bs) bs) in
+    pick (eqb odd 255) Clear (At (Padding (s .n) odd))
+
+-- "index 0 while open (21); announced outside 1..223 (22)"
+unfoldable pub firstOf : Scan → List ℕ → Standing
+firstOf s bs =
+    pick (ltb 0 (s .missing)) (At (Restarted (s .n)))
+    (pick (eqb (getD bs 1 0) 0) (At (Announced (s .n) (getD bs 1 0)))
+    (pick (ltb 223 (getD bs 1 0)) (At (Announced (s .n) (getD bs 1 0)))
+    (paddingOf s bs)))
+
+-- "continuation without open (23); wrong sequence or index (24)"
+unfoldable pub laterOf : Scan → List ℕ → Standing
+laterOf s bs =
+    let wrong : Standing = At (Order (s .n) (sequenceOf bs) (indexOf bs) (s .sequence) (s .index)) in
+    pick (eqb (s .missing) 0) (At (Stray (s .n)))
+    (pick (eqb (sequenceOf bs) (s .sequence)) (pick (eqb (indexOf bs) (s .index)) (paddingOf s bs) wrong) wrong)
+
+-- "length not 8 (20)", and then the others
+unfoldable pub faultOf : Scan → List ℕ → ℕ → Standing
+faultOf s bs len = pick (eqb len 8) (pick (eqb (indexOf bs) 0) (firstOf s bs) (laterOf s bs)) (At (Length (s .n) len))
+
+-- ---- what is known after a frame
+-- of another source or PGN: n counts it
+abbrev pub skipped : Scan → Scan
+skipped s = record { source = s .source; pgn = s .pgn; n = s .n + 1; fault = s .fault; sequence = s .sequence; announced = s .announced; index = s .index; missing = s .missing; messages = s .messages; total = s .total }
+
+-- refused
+abbrev pub refusedAt : Scan → Standing → Scan
+refusedAt s f = record { source = s .source; pgn = s .pgn; n = s .n; fault = f; sequence = s .sequence; announced = s .announced; index = s .index; missing = s .missing; messages = s .messages; total = s .total }
+
+-- taken: the message is open while bytes are missing, and whole when none is
+unfoldable pub taken : Scan → List ℕ → Scan
+taken s bs =
+    let m : ℕ = missingOf s bs in
+    let room : ℕ = 8 - headOf bs in
+    record {
+      source = s .source;
+      pgn = s .pgn;
+      n = s .n + 1;
+      fault = s .fault;
+      sequence = sequenceOf bs;
+      announced = pick (eqb (indexOf bs) 0) (getD bs 1 0) (s .announced);
+      index = indexOf bs + 1;
+      missing = m - room;
+      messages = pick (ltb room m) (s .messages) (s .messages + 1);
+      total = s .total + pick (ltb room m) room m;
+    }
+
+abbrev pub isRefused : Standing → Bool
+isRefused Clear = false
+isRefused (At f) = true
+
+-- the first refusal stands
+unfoldable pub stepOn : Scan → ℕ → List ℕ → ℕ → Scan
+stepOn s id bs len =
+    pick (isRefused (s .fault)) s
+    (pick (isOther (s .source) (s .pgn) id) (skipped s)
+    (pick (isRefused (faultOf s bs len)) (refusedAt s (faultOf s bs len))
+    (taken s bs)))
+
+abbrev pub stepOf : Scan → Frame → Scan
+stepOf s f = stepOn s (f .id) (bytesOf f) (f .len)
+
+abbrev pub scanOf : Scan → List Frame → Scan
+scanOf s [] = s
+scanOf s (f ∷ fs) = scanOf (stepOf s f) fs
+
+abbrev pub startOf : ℕ → ℕ → Scan
+startOf source pgn = record { source = source; pgn = pgn; n = 0; fault = Clear; sequence = 0; announced = 0; index = 0; missing = 0; messages = 0; total = 0 }
+
+-- what i frames can have counted
+pub record Counted (i : ℕ) (s : Scan) : Type 0 where
+  pub frames : s .n ≤ i
+  pub whole : s .messages ≤ i
+  pub bytes : s .total ≤ 7 * i
+
+-- no row that can be lent has so many frames: the counts fit
+abbrev pub Small : Scan → Type 0
+Small s = Counted 0x2000_0000_0000_0000 s
+
+-- ---- what is delivered
+-- the bytes of its message that a frame adds: as many of those it carries as the total grows by
+unfoldable pub addedOf : Scan → Frame → List ℕ
+addedOf s f = take (stepOf s f .total - s .total) (drop (headOf (bytesOf f)) (bytesOf f))
+
+-- a message that a frame makes whole: sequence, start and length
+unfoldable pub rowOf : Scan → Frame → List ℕ
+rowOf s f =
+    let t : Scan = stepOf s f in
+    pick (ltb (s .messages) (t .messages)) (t .sequence ∷ (t .total - t .announced) ∷ t .announced ∷ []) []
+
+-- what is laid along a row: the payloads end to end, and the messages' rows
+abbrev pub bytesLaid : Scan → List Frame → List ℕ
+bytesLaid s [] = []
+bytesLaid s (f ∷ fs) = addedOf s f ++ bytesLaid (stepOf s f) fs
+
+abbrev pub rowsLaid : Scan → List Frame → List ℕ
+rowsLaid s [] = []
+rowsLaid s (f ∷ fs) = rowOf s f ++ rowsLaid (stepOf s f) fs
+
+-- ---- the answer
+-- the refusal of a row that was refused; no other is asked for it
+abbrev pub refusalOf : Standing → Reassembled
+refusalOf Clear = NoRoom
+refusalOf (At f) = Refused f
+
+unfoldable pub verdictOf : Scan → ℕ → ℕ → Reassembled
+verdictOf s numbers space =
+    pick (isRefused (s .fault)) (refusalOf (s .fault))
+    (pick (ltb 0 (s .missing)) (Incomplete (s .announced))
+    (pick (ltb (numbers / 3) (s .messages)) NoRoom
+    (pick (ltb space (s .total)) NoRoom
+    (Messages (s .messages)))))
+
+abbrev pub isNone : Reassembled → Bool
+isNone (Messages n) = false
+isNone (Refused f) = true
+isNone (Incomplete n) = true
+isNone NoRoom = true
