@@ -1,0 +1,46 @@
+-- The cases of the tests on rows, as the code meets them. Assumes nothing.
+use Prim.Native.Nat.{ℕ, _+_, _*_, _-_, _/_, _≤_, _<_}
+use mathlib.Core.Path.{_≡_, refl}
+use mathlib.Core.Bool.{Bool, true, false, _||_}
+use mathlib.Core.List.{List}
+use lib.Dec.{ltb}
+use lib.ListN.{length, getD, take, drop}
+use native.Mathlib.Omega.{arith}
+use borrow.Author.Tests.{lt-ltb, le-ltb}
+use Rattle.base.proofs.Cases.{less?}
+use Rattle.batch.specs.Rows.{tooShort}
+
+-- two tests of which one passes exactly where the other does
+pub same-test : (a b c d : ℕ) → (a < b → c < d) → (c < d → a < b) → ltb a b ≡ ltb c d
+same-test a b c d f g =
+    less? a b (λ l. rw (lt-ltb a b l, lt-ltb c d (f l)))
+    (λ l. less? c d (λ m. absurd (omega (arith, g m))) (λ m. rw (le-ltb a b l, le-ltb c d m)))
+
+module _ (n a b c d e : ℕ) where
+  pub few-pgns : a < n → true ≡ tooShort n a b c d e
+  unfolding tooShort
+  few-pgns h = rw (lt-ltb a n h)
+
+  module _ (h1 : n ≤ a) where
+    pub few-sources : b < n → true ≡ tooShort n a b c d e
+    unfolding tooShort
+    few-sources h = rw (le-ltb a n h1, lt-ltb b n h)
+
+    module _ (h2 : n ≤ b) where
+      pub few-bytes : c / 8 < n → true ≡ tooShort n a b c d e
+      unfolding tooShort
+      few-bytes h = let l : c < n * 8 = omega arith in rw (le-ltb a n h1, le-ltb b n h2, lt-ltb c (n * 8) l)
+
+      module _ (h3 : n ≤ c / 8) where
+        pub few-kinds : d < n → true ≡ tooShort n a b c d e
+        unfolding tooShort
+        few-kinds h = let l : n * 8 ≤ c = omega arith in rw (le-ltb a n h1, le-ltb b n h2, le-ltb c (n * 8) l, lt-ltb d n h)
+
+        pub few-lengths : n ≤ d → ltb e n ≡ tooShort n a b c d e
+        unfolding tooShort
+        few-lengths h = let l : n * 8 ≤ c = omega arith in rw (le-ltb a n h1, le-ltb b n h2, le-ltb c (n * 8) l, le-ltb d n h)
+
+pub room-left : (room used n : ℕ) → used ≤ room → ltb (room - used) n ≡ ltb room (used + n)
+room-left room used n h = same-test (room - used) n room (used + n) (λ l. omega arith) (λ l. omega arith)
+
+pub ruleset short-rules = (few-pgns, few-sources, few-bytes, few-kinds, few-lengths, room-left)

@@ -1,0 +1,335 @@
+-- The loop over the frames: what the code's pool, counters and rows are after i of them, and why one frame more is one step of the run. Assumes nothing.
+use Prim.Native.Nat.{ℕ, zero, suc, _+_, _*_, _-_, _≤_, _<_}
+use mathlib.Core.Path.{_≡_, refl, sym, ap, subst, _∙_}
+use mathlib.Core.Logic.{_⊎_, inl, inr}
+use mathlib.Core.Bool.{Bool, true, false, _||_}
+use mathlib.Core.List.{List, [], _∷_, _++_}
+use lib.ListN.{length, getD, take, drop, set, replicate, length-set, length-drop, take-append-drop}
+use lib.Seq.{paste, paste-zero, take-paste, drop-paste, length-paste, length-take-le, take-suc-set, drop-set-lt, drop-drop, take-append-le, take-at}
+use lib.Dec.{ltb}
+use native.Mathlib.Nat.{sub-zero, add-zero}
+use native.Mathlib.Numerals.{add-one}
+use native.Mathlib.Omega.{arith}
+use borrow.Author.Tests.{ltb-false, lt-ltb, le-ltb}
+use Rattle.base.specs.Pick.{pick}
+use Rattle.base.specs.Lists.{any}
+use Rattle.fast_packet.specs.FastPacket.{maxPayload}
+use Rattle.session.specs.declared.Heard.{Heard}
+use Rattle.session.specs.declared.Head.{Head}
+use Rattle.session.specs.declared.Plan.{Plan}
+use Rattle.session.specs.declared.Counters.{Counters}
+use Rattle.session.specs.Rules.{Rules, poolLimit}
+use Rattle.session.specs.Frames.{indexOf, sizeOf, badSize}
+use Rattle.session.specs.Heads.{impossibleHead, inTurn, copiedHead, allThere}
+use Rattle.session.specs.Counting.{raised}
+use Rattle.session.specs.inner.Search.{blank, seen, seenIf, seenIn}
+use Rattle.session.specs.inner.Plan.{idle, planOpen, planShort, planSized, planFirst, planCopy, planTurn, planNext, planIndex, planListed, planOf}
+use Rattle.session.proofs.Seen.{seen-bad}
+use Rattle.session.proofs.Sound.{or-left, or-right}
+use Rattle.assembler.specs.declared.Pool.{Pool}
+use Rattle.assembler.specs.declared.Received.{Received}
+use Rattle.assembler.specs.Slots.{onHead, impossible}
+use Rattle.assembler.specs.View.{slotsFrom, slotsOf, receiveOf}
+use Rattle.assembler.proofs.Views.{Whole, any-view}
+use Rattle.assembler.proofs.Carries.{carried, Fits, Does, slot-long}
+use Rattle.batch.specs.declared.Batch.{Batch}
+use Rattle.batch.specs.Rows.{Rows, frameAt, kindNumber, Run, start, took, answerTo, runFrom, runOf, Left, over, leaves, refusedBy, tooShort, batchOf}
+
+-- ---- a message comes from the buffer or from the frame, never from both
+
+abbrev pub Apart : Plan → Type 0
+Apart d = (d .whole ≡ 0) ⊎ (d .short ≡ 0)
+
+module _ (R : Rules) (f : Heard) (h : Head) where
+  apart-open : (b : Bool) → Apart (planOpen b R f h)
+  unfolding planOpen idle
+  apart-open true = inl refl
+  apart-open false = inl refl
+
+  apart-short : (b t : Bool) → Apart (planShort b t R f h)
+  unfolding planShort
+  apart-short true t = inl refl
+  apart-short false t = apart-open t
+
+  apart-sized : (b t : Bool) → Apart (planSized b t R f h)
+  unfolding planSized idle
+  apart-sized true t = inl refl
+  apart-sized false t = apart-short _ t
+
+  apart-copy : (b : Bool) → Apart (planCopy b f h)
+  unfolding planCopy
+  apart-copy true = inr refl
+  apart-copy false = inr refl
+
+  apart-turn : (b : Bool) → Apart (planTurn b f h)
+  unfolding planTurn idle
+  apart-turn true = apart-copy _
+  apart-turn false = inl refl
+
+  apart-next : (b : Bool) → Apart (planNext b f h)
+  unfolding planNext idle
+  apart-next true = apart-turn _
+  apart-next false = inl refl
+
+  apart-index : (b t : Bool) → Apart (planIndex b t R f h)
+  unfolding planIndex planFirst
+  apart-index true t = apart-sized _ t
+  apart-index false t = apart-next t
+
+  apart-listed : (b t : Bool) → Apart (planListed b t R f h)
+  unfolding planListed idle
+  apart-listed true t = apart-index _ t
+  apart-listed false t = inl refl
+
+  apart-of : (bad listed found : Bool) → Apart (planOf bad listed found R f h)
+  unfolding planOf idle
+  apart-of true listed found = inl refl
+  apart-of false listed found = apart-listed listed found
+
+  pub apart : (bad listed found : Bool) (d : Plan) → d ≡ planOf bad listed found R f h → Apart d
+  apart bad listed found d e = subst Apart (sym e) (apart-of bad listed found)
+
+-- ---- the bytes of a message, in the arena and as the answer has them
+
+module _ (ar src : List ℕ) (u n : ℕ) (room : u + n ≤ length ar) (there : n ≤ length src) where
+  laid-front : (m : ℕ) → n ≤ 223 → m ≡ n → take (u + m) (paste ar u src n) ≡ take u ar ++ take m (paste (replicate 223 0) 0 src n)
+  laid-front m few e =
+      rw (e, take-paste ar u src n (omega arith) there)
+      (ap (λ (r : List ℕ). take u ar ++ r) (sym (take-at (take n src) _ n (length-take-le n src there))))
+
+module _ (ar b fr : List ℕ) (u w s : ℕ) (fw : u + w ≤ length ar) (fs : u + s ≤ length ar) (hw : w ≤ length b) (hs : s ≤ length fr) (mw : w ≤ 223) (ms : s ≤ 223) where
+  -- what the two copies leave in the arena
+  abbrev laid : List ℕ
+  laid = paste (paste ar u b w) u fr s
+
+  abbrev payload : List ℕ
+  payload = paste (paste (replicate 223 0) 0 b w) 0 fr s
+
+  laid-start : (w ≡ 0) ⊎ (s ≡ 0) → take (u + (w + s)) laid ≡ take u ar ++ take (w + s) payload
+  laid-start (inl e) =
+      rw (e, ← paste-zero ar u b, ← paste-zero (replicate 223 0) 0 b)
+      (laid-front ar fr u s fs hs (0 + s) ms (omega arith))
+  laid-start (inr e) =
+      rw (e, ← paste-zero (paste ar u b w) u fr, ← paste-zero (paste (replicate 223 0) 0 b w) 0 fr)
+      (laid-front ar b u w fw hw (w + 0) mw (omega arith))
+
+  laid-rest : (w ≡ 0) ⊎ (s ≡ 0) → drop (u + (w + s)) laid ≡ drop (u + (w + s)) ar
+  laid-rest (inl e) =
+      let k : u + (0 + s) ≡ u + s = omega arith in
+      rw (e, k, ← paste-zero ar u b) (drop-paste ar u fr s (omega arith) hs)
+  laid-rest (inr e) =
+      let k : u + (w + 0) ≡ u + w = omega arith in
+      rw (e, k, ← paste-zero (paste ar u b w) u fr) (drop-paste ar u b w (omega arith) hw)
+
+  laid-long : length laid ≡ length ar
+  laid-long =
+      let l : length (paste ar u b w) ≡ length ar = length-paste ar u b w fw hw in
+      length-paste (paste ar u b w) u fr s (omega arith) hs ∙ l
+
+-- ---- the rows are long enough
+
+pub record Fitting (n : ℕ) (w : Rows) (ks ls : List ℕ) : Type 0 where
+  pub pgns : n ≤ length (w .pgns)
+  pub sources : n ≤ length (w .sources)
+  pub bytes : n * 8 ≤ length (w .bytes)
+  pub kinds : n ≤ length ks
+  pub lengths : n ≤ length ls
+
+fitting : (n : ℕ) (w : Rows) (ks ls : List ℕ) → tooShort n (length (w .pgns)) (length (w .sources)) (length (w .bytes)) (length ks) (length ls) ≡ false → Fitting n w ks ls
+unfolding tooShort
+fitting n w ks ls e =
+    let e1 = or-right (ltb (length (w .pgns)) n) _ e in
+    let e2 = or-right (ltb (length (w .sources)) n) _ e1 in
+    let e3 = or-right (ltb (length (w .bytes)) (n * 8)) _ e2 in
+    let e4 = or-right (ltb (length ks) n) _ e3 in
+    record {
+      pgns = ltb-false _ _ (or-left (ltb (length (w .pgns)) n) _ e);
+      sources = ltb-false _ _ (or-left (ltb (length (w .sources)) n) _ e1);
+      bytes = ltb-false _ _ (or-left (ltb (length (w .bytes)) (n * 8)) _ e2);
+      kinds = ltb-false _ _ (or-left (ltb (length ks) n) _ e3);
+      lengths = ltb-false _ _ e4;
+    }
+
+-- ---- the pool is looked at before the first frame
+
+pub looked-at : (R : Rules) (f : Heard) (p : Pool) → R .limit ≡ poolLimit → seenIn R f (p .size) (p .heads) .bad ≡ impossible R (slotsOf p)
+unfolding seenIn seenIf blank impossible slotsOf
+looked-at R f p limit = go (ltb poolLimit (p .size)) refl (R .limit) limit
+  where
+    go : (b : Bool) → ltb poolLimit (p .size) ≡ b → (n : ℕ) → n ≡ poolLimit
+        → seenIf b R f (p .size) (p .heads) .bad ≡ (ltb n (p .size) || any (onHead (impossibleHead R)) (take (p .size) (slotsFrom (p .heads) (p .bytes))))
+    go true e n en = rw (en, e)
+    go false e n en = rw (en, e, any-view (impossibleHead R) (p .size) (p .heads) (p .bytes)) (seen-bad R f (take (p .size) (p .heads)) 0)
+
+-- ---- the run so far
+
+-- the code's state as a run
+unfoldable pub soFar : Pool → Counters → List ℕ → List ℕ → List ℕ → ℕ → ℕ → Run
+soFar q c ks ls ar used i = record { pool = q; counters = c; kinds = take i ks; lengths = take i ls; messages = take used ar }
+
+module _ (R : Rules) (l : List ℕ) (w : Rows) (p : Pool) (k : Counters) (ks₀ ls₀ ar₀ : List ℕ) where
+  -- after i frames: the rows past them are as they were, and the run goes on from here to what it comes to
+  pub record Running (ks ls ar : List ℕ) (q : Pool) (c : Counters) (used i : ℕ) : Type 0 where
+    pub low : i ≤ length (w .times)
+    pub fit : Fitting (length (w .times)) w ks₀ ls₀
+    pub whole : Whole q
+    pub kinds : length ks ≡ length ks₀
+    pub lengths : length ls ≡ length ls₀
+    pub arena : length ar ≡ length ar₀
+    pub room : used ≤ length ar
+    pub kinds-kept : drop i ks ≡ drop i ks₀
+    pub lengths-kept : drop i ls ≡ drop i ls₀
+    pub arena-kept : drop used ar ≡ drop used ar₀
+    pub run : runFrom R l w (length ar₀) (length (w .times) - i) i (soFar q c ks ls ar used i) ≡ runOf R l w (length ar₀) p k
+
+  pub begins : Whole p → Fitting (length (w .times)) w ks₀ ls₀ → Running ks₀ ls₀ ar₀ p k 0 0
+  begins h fit =
+      record {
+        low = omega arith;
+        fit = fit;
+        whole = h;
+        kinds = refl;
+        lengths = refl;
+        arena = refl;
+        room = omega arith;
+        kinds-kept = refl;
+        lengths-kept = refl;
+        arena-kept = refl;
+        run = unfold runOf soFar start in rw (sub-zero (length (w .times)));
+      }
+
+  module _ (ks ls ar : List ℕ) (q : Pool) (c : Counters) (used i : ℕ) (h : Running ks ls ar q c used i) where
+    over-is : (row₀ row : List ℕ) (n : ℕ) → n ≤ length row → drop n row ≡ drop n row₀ → over row₀ (take n row) ≡ row
+    unfolding over
+    over-is row₀ row n few kept = rw (length-take-le n row few, ← kept) (take-append-drop n row)
+
+    -- a run that stops here leaves the code's answer and rows
+    stopped : soFar q c ks ls ar used i ≡ runOf R l w (length ar₀) p k
+        → record { answer = record { refused = 0; taken = i; used = used; counters = c; pool = q }; kinds = ks; lengths = ls; arena = ar } ≡ leaves (runOf R l w (length ar₀) p k) ks₀ ls₀ ar₀
+    unfolding leaves soFar
+    stopped e =
+        let ki : i ≤ length ks = omega (arith, h .low, h .fit .kinds, h .kinds) in
+        let li : i ≤ length ls = omega (arith, h .low, h .fit .lengths, h .lengths) in
+        rw (
+          ← e,
+          over-is ks₀ ks i ki (h .kinds-kept),
+          over-is ls₀ ls i li (h .lengths-kept),
+          over-is ar₀ ar used (h .room) (h .arena-kept),
+          length-take-le i ks ki,
+          length-take-le used ar (h .room),
+        )
+
+    -- all frames were taken
+    pub ends : length (w .times) ≤ i
+        → record { answer = record { refused = 0; taken = i; used = used; counters = c; pool = q }; kinds = ks; lengths = ls; arena = ar } ≡ leaves (runOf R l w (length ar₀) p k) ks₀ ls₀ ar₀
+    unfolding runFrom
+    ends past =
+        let none-left : length (w .times) - i ≡ 0 = omega (arith, h .low) in
+        stopped (rw none-left at (h .run))
+
+    module _ (lt : i < length (w .times)) (f : Heard) (ef : f ≡ frameAt w i) (d : Plan) (g : ℕ) (does : Does f q c d g (receiveOf R l f q c)) (b : Bool) (eb : b ≡ ltb (length ar) (used + (d .whole + d .short))) where
+      abbrev more : length (w .times) - i ≡ suc (length (w .times) - suc i)
+      more = omega arith
+
+      abbrev z : Run
+      z = soFar q c ks ls ar used i
+
+      answer-is : answerTo R l z (frameAt w i) ≡ carried d g f q c
+      unfolding answerTo soFar
+      answer-is = rw (← ef) (sym (does .is))
+
+      told : length (z .messages) + answerTo R l z (frameAt w i) .length ≡ used + (d .whole + d .short)
+      unfolding soFar carried
+      told = rw (answer-is, length-take-le used ar (h .room))
+
+      turned : pick b z (runFrom R l w (length ar₀) (length (w .times) - suc i) (suc i) (took z (answerTo R l z (frameAt w i)))) ≡ runOf R l w (length ar₀) p k
+      turned = unfold runFrom in rw (eb, ← told, h .arena) (rw more at (h .run))
+
+      -- the next message has no room
+      pub stops : b ≡ true
+          → record { answer = record { refused = 0; taken = i; used = used; counters = c; pool = q }; kinds = ks; lengths = ls; arena = ar } ≡ leaves (runOf R l w (length ar₀) p k) ks₀ ls₀ ar₀
+      stops y = stopped (unfold pick in rw y at turned)
+
+      pub fits-arena : b ≡ false → used + (d .whole + d .short) ≤ length ar
+      fits-arena y = ltb-false (length ar) (used + (d .whole + d .short)) (sym eb ∙ y)
+
+      module _ (y : b ≡ false) (low : g < poolLimit) (eight : length (f .«data») ≡ 8) (alone : Apart d) (bs : List ℕ) (ebs : bs ≡ paste (q .bytes) (g * 223 + d .at) (drop (d .from) (f .«data»)) (d .count))
+          (ar′ : List ℕ) (ear : ar′ ≡ paste (paste ar used (drop (g * 223) bs) (d .whole)) used (drop 2 (f .«data»)) (d .short)) (m : Counters) (em : m ≡ raised (d .mark) c) (v : ℕ) (ev : v ≡ kindNumber (d .kind)) where
+        buffer-long : length bs ≡ 1784
+        buffer-long = slot-long bs f q (h .whole) eight g d low (does .fits) ebs
+
+        -- the pool after the frame
+        abbrev pub after : Pool
+        after = record { size = q .size; heads = set (q .heads) g (d .head); bytes = bs }
+
+        whole-there : d .whole ≤ length (drop (g * 223) bs)
+        whole-there = simp length-drop (omega (arith, buffer-long, does .fits .whole))
+
+        short-there : d .short ≤ length (drop 2 (f .«data»))
+        short-there = simp length-drop (omega (arith, eight, does .fits .short))
+
+        took-is : took z (answerTo R l z (frameAt w i)) ≡ soFar after m (set ks i v) (set ls i (d .whole + d .short)) ar′ (used + (d .whole + d .short)) (i + 1)
+        unfolding took soFar carried
+        took-is =
+            rw (
+              answer-is,
+              ear,
+              laid-start ar (drop (g * 223) bs) (drop 2 (f .«data»)) used (d .whole) (d .short) (omega (arith, fits-arena y)) (omega (arith, fits-arena y)) whole-there short-there (does .fits .whole) (omega (arith, does .fits .short)) alone,
+              add-one i,
+              take-suc-set ks i v (omega (arith, lt, h .fit .kinds, h .kinds)),
+              take-suc-set ls i (d .whole + d .short) (omega (arith, lt, h .fit .lengths, h .lengths)),
+              ev,
+              em,
+              ebs,
+            )
+
+        kept-past : (row row₀ : List ℕ) (x : ℕ) → drop i row ≡ drop i row₀ → drop (i + 1) (set row i x) ≡ drop (i + 1) row₀
+        kept-past row row₀ x e =
+            rw (drop-set-lt (i + 1) row i x (omega arith), ← drop-drop 1 i row, ← drop-drop 1 i row₀, e)
+
+        pub goes-on : Running (set ks i v) (set ls i (d .whole + d .short)) ar′ after m (used + (d .whole + d .short)) (i + 1)
+        goes-on =
+            let mid = laid-long ar (drop (g * 223) bs) (drop 2 (f .«data»)) used (d .whole) (d .short) (omega (arith, fits-arena y)) (omega (arith, fits-arena y)) whole-there short-there (does .fits .whole) (omega (arith, does .fits .short)) in
+            let long : length ar′ ≡ length ar = ap length ear ∙ mid in
+            record {
+              low = omega (arith, lt);
+              fit = h .fit;
+              whole = record { heads = simp length-set (h .whole .heads); bytes = buffer-long };
+              kinds = simp length-set (h .kinds);
+              lengths = simp length-set (h .lengths);
+              arena = long ∙ h .arena;
+              room = omega (arith, long, fits-arena y);
+              kinds-kept = kept-past ks ks₀ v (h .kinds-kept);
+              lengths-kept = kept-past ls ls₀ (d .whole + d .short) (h .lengths-kept);
+              arena-kept =
+                  ap (λ (r : List ℕ). drop (used + (d .whole + d .short)) r) ear
+                  ∙ laid-rest ar (drop (g * 223) bs) (drop 2 (f .«data»)) used (d .whole) (d .short) (omega (arith, fits-arena y)) (omega (arith, fits-arena y)) whole-there short-there (does .fits .whole) (omega (arith, does .fits .short)) alone
+                  ∙ rw (← drop-drop (d .whole + d .short) used ar, ← drop-drop (d .whole + d .short) used ar₀, h .arena-kept);
+              run = rw (← took-is, add-one i) (unfold pick in rw y at turned);
+            }
+
+-- ---- the call's three ways out
+
+module _ (R : Rules) (l : List ℕ) (w : Rows) (p : Pool) (k : Counters) (ks ls ar : List ℕ) (bad : Bool) (eb : bad ≡ impossible R (slotsOf p)) where
+  pub gives-1 : bad ≡ true → refusedBy 1 p k ks ls ar ≡ batchOf R l w p k ks ls ar
+  unfolding batchOf pick
+  gives-1 y = rw (← eb, y)
+
+  module _ (y : bad ≡ false) (short : Bool) (es : short ≡ tooShort (length (w .times)) (length (w .pgns)) (length (w .sources)) (length (w .bytes)) (length ks) (length ls)) where
+    pub gives-27 : short ≡ true → refusedBy 27 p k ks ls ar ≡ batchOf R l w p k ks ls ar
+    unfolding batchOf pick
+    gives-27 s = rw (← eb, y, ← es, s)
+
+    module _ (s : short ≡ false) where
+      pub fits-all : Fitting (length (w .times)) w ks ls
+      fits-all = fitting (length (w .times)) w ks ls (sym es ∙ s)
+
+      pub gives-run : (r : Left) → r ≡ leaves (runOf R l w (length ar) p k) ks ls ar → r ≡ batchOf R l w p k ks ls ar
+      unfolding batchOf pick
+      gives-run r er = er ∙ rw (← eb, y, ← es, s)
+
+-- ---- a frame has eight bytes
+
+pub frame-long : (w : Rows) (i n : ℕ) (f : Heard) → i < n → n * 8 ≤ length (w .bytes) → f ≡ frameAt w i → length (f .«data») ≡ 8
+unfolding frameAt
+frame-long w i n f h long e = ap (λ (x : Heard). length (x .«data»)) e ∙ length-take-le 8 (drop (i * 8) (w .bytes)) (simp length-drop (omega arith))

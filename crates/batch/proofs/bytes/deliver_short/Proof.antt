@@ -1,0 +1,47 @@
+-- `bytes::deliver_short` meets its contract. Assumes nothing.
+use borrow.Author.Needs.{needs}
+use Prim.Native.Nat.{_≤_, _-_}
+use mathlib.Core.Path.{_≡_, refl}
+use lib.ListN.{length, drop, length-set}
+use lib.Seq.{paste}
+use native.Mathlib.Omega.{arith}
+use Rattle.assembler.proofs.Copies.{copy-none, copy-turn}
+use Rattle.batch.proofs.bytes.deliver_short.Statement.{statement}
+use Rattle.batch.proofs.bytes.deliver_short.Tie as tie
+
+abbrev Inv-loop : tie.InvT-loop
+Inv-loop arena₀ at n b i₀ arena i = (i ≤ n) × (length arena ≡ length arena₀) × (length b ≡ 8) × (arena ≡ paste arena₀ at (drop 2 b) i)
+
+abbrev μ-loop : tie.MeasureT-loop
+μ-loop arena₀ at n b i₀ arena i = n - i
+
+loop-holds : tie.Need-loop-holds Inv-loop μ-loop
+loop-holds c = (search needs, refl, search needs, copy-none (c .args .arena .now) (c .args .at))
+
+loop-again : tie.Need-loop-again Inv-loop μ-loop
+loop-again c =
+    let a = c .before .before .args in
+    let inv = c .before .loop .inv in
+    (omega arith, simp length-set (inv .1), inv .2, copy-turn (a .arena .now) (a .at) (a .t3) 2 (c .before .loop .i) _ (inv .3) (omega arith) (omega arith))
+
+returns : tie.Need-returns Inv-loop μ-loop
+returns c =
+    let full : c .before .loop .i ≡ c .before .before .args .n = omega arith in
+    rw (← full) (c .before .loop .inv .3)
+
+pub deliver-short-spec : {M : Type 1} → statement M
+deliver-short-spec =
+    tie.close
+    (tie.spec
+    Inv-loop
+    μ-loop
+    loop-holds
+    (λ c. search needs)
+    (λ c. search needs)
+    (λ c. search needs)
+    (λ c. search needs)
+    (λ c. search needs)
+    (λ c. search needs)
+    loop-again
+    (λ c. search needs)
+    returns)

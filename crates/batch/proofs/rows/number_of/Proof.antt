@@ -1,0 +1,35 @@
+-- `rows::number_of` meets its contract. Assumes nothing.
+use borrow.Author.Needs.{needs}
+use mathlib.Core.Path.{refl}
+use Rattle.batch.specs.Rows.{kindNumber}
+use Rattle.batch.proofs.rows.number_of.Statement.{statement}
+use Rattle.batch.proofs.rows.number_of.Tie as tie
+
+returns : tie.Need-returns
+unfolding kindNumber
+returns c = rw (c .enum-told .given .1)
+
+returns-2 : tie.Need-returns-2
+unfolding kindNumber
+returns-2 c = rw (c .enum-told2 .given .1)
+
+returns-3 : tie.Need-returns-3
+unfolding kindNumber
+returns-3 c = rw (c .enum-told3 .given .1)
+
+returns-4 : tie.Need-returns-4
+unfolding kindNumber
+returns-4 c = rw (c .enum-told4 .given .1)
+
+pub number-of-spec : {M : Type 1} → statement M
+number-of-spec =
+    tie.close
+    (tie.spec
+    (λ c. search needs)
+    (λ c. search needs)
+    (λ c. search needs)
+    (λ c. search needs)
+    returns
+    returns-2
+    returns-3
+    returns-4)

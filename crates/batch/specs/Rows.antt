@@ -1,0 +1,112 @@
+-- A batch: the rows of frames that a caller lends, taken one after the other by the single call, as long as the arena has room for their messages.
+use mathlib.Core.Bool.{Bool, _||_}
+use mathlib.Core.List.{List, [], _∷_, _++_}
+use Prim.Native.Nat.{ℕ, zero, suc, _+_, _*_}
+use lib.ListN.{length, getD, take, drop}
+use lib.Dec.{ltb}
+use Rattle.base.specs.Pick.{pick}
+use Rattle.session.specs.declared.Heard.{Heard}
+use Rattle.session.specs.declared.Counters.{Counters}
+use Rattle.session.specs.declared.Kind.{Kind}
+use Rattle.session.specs.declared.Kind.the-variants.{Refused, Ignored, FragmentConsumed, MessageComplete}
+use Rattle.session.specs.Rules.{Rules}
+use Rattle.assembler.specs.declared.Pool.{Pool}
+use Rattle.assembler.specs.declared.Received.{Received}
+use Rattle.assembler.specs.Slots.{impossible}
+use Rattle.assembler.specs.View.{slotsOf, receiveOf}
+use Rattle.batch.specs.declared.Batch.{Batch}
+
+-- ---- the frames
+
+-- the lent rows: a time, a PGN, a source and eight bytes for each frame
+pub record Rows : Type 0 where
+  pub times : List ℕ
+  pub pgns : List ℕ
+  pub sources : List ℕ
+  pub bytes : List ℕ
+
+unfoldable pub frameAt : Rows → ℕ → Heard
+frameAt w i = record { «now_ms» = getD (w .times) i 0; pgn = getD (w .pgns) i 0; «source_address» = getD (w .sources) i 0; «data» = take 8 (drop (i * 8) (w .bytes)) }
+
+-- ---- the run
+
+-- how a row tells the answers apart; the pool is looked at before the first frame, so that none of them is a refusal
+unfoldable pub kindNumber : Kind → ℕ
+kindNumber Ignored = 0
+kindNumber FragmentConsumed = 1
+kindNumber MessageComplete = 2
+kindNumber (Refused n) = 3
+
+-- the pool and counters that the frames so far left, the kinds and lengths of their answers, and their messages end to end
+pub record Run : Type 0 where
+  pub pool : Pool
+  pub counters : Counters
+  pub kinds : List ℕ
+  pub lengths : List ℕ
+  pub messages : List ℕ
+
+unfoldable pub start : Pool → Counters → Run
+start p k = record { pool = p; counters = k; kinds = []; lengths = []; messages = [] }
+
+-- one answer more
+unfoldable pub took : Run → Received → Run
+took z a =
+    record {
+      pool = a .pool;
+      counters = a .counters;
+      kinds = z .kinds ++ (kindNumber (a .kind) ∷ []);
+      lengths = z .lengths ++ (a .length ∷ []);
+      messages = z .messages ++ take (a .length) (a .payload);
+    }
+
+-- what the single call answers to a frame, given the pool and counters so far
+unfoldable pub answerTo : Rules → List ℕ → Run → Heard → Received
+answerTo R pgns z f = receiveOf R pgns f (z .pool) (z .counters)
+
+-- at most n frames, the first of them frame i: it stops before the first whose message has no room
+unfoldable pub runFrom : Rules → List ℕ → Rows → ℕ → ℕ → ℕ → Run → Run
+runFrom R pgns w room zero i z = z
+runFrom R pgns w room (suc n) i z =
+    pick (ltb room (length (z .messages) + answerTo R pgns z (frameAt w i) .length)) z
+    (runFrom R pgns w room n (suc i) (took z (answerTo R pgns z (frameAt w i))))
+
+unfoldable pub runOf : Rules → List ℕ → Rows → ℕ → Pool → Counters → Run
+runOf R pgns w room p k = runFrom R pgns w room (length (w .times)) 0 (start p k)
+
+-- ---- the answer, and what is left in the lent rows
+
+pub record Left : Type 0 where
+  pub answer : Batch
+  pub kinds : List ℕ
+  pub lengths : List ℕ
+  pub arena : List ℕ
+
+-- new entries at the start of a row; all else keeps its contents
+unfoldable pub over : List ℕ → List ℕ → List ℕ
+over row new = new ++ drop (length new) row
+
+-- 0 stands for no refusal; one entry of kinds and lengths for each frame taken, the messages from the arena's start
+unfoldable pub leaves : Run → List ℕ → List ℕ → List ℕ → Left
+leaves z kinds lengths arena =
+    record {
+      answer = record { refused = 0; taken = length (z .kinds); used = length (z .messages); counters = z .counters; pool = z .pool };
+      kinds = over kinds (z .kinds);
+      lengths = over lengths (z .lengths);
+      arena = over arena (z .messages);
+    }
+
+-- "None changes lent memory; the pool comes back unchanged with 1."
+unfoldable pub refusedBy : ℕ → Pool → Counters → List ℕ → List ℕ → List ℕ → Left
+refusedBy n p k kinds lengths arena =
+    record { answer = record { refused = n; taken = 0; used = 0; counters = k; pool = p }; kinds = kinds; lengths = lengths; arena = arena }
+
+-- a row is shorter than the n frames ask
+unfoldable pub tooShort : ℕ → ℕ → ℕ → ℕ → ℕ → ℕ → Bool
+tooShort n pgns sources bytes kinds lengths = ltb pgns n || (ltb sources n || (ltb bytes (n * 8) || (ltb kinds n || ltb lengths n)))
+
+-- the call: refusal 1 for an impossible pool, then 27 for a row too short, else the run
+unfoldable pub batchOf : Rules → List ℕ → Rows → Pool → Counters → List ℕ → List ℕ → List ℕ → Left
+batchOf R pgns w p k kinds lengths arena =
+    pick (impossible R (slotsOf p)) (refusedBy 1 p k kinds lengths arena)
+    (pick (tooShort (length (w .times)) (length (w .pgns)) (length (w .sources)) (length (w .bytes)) (length kinds) (length lengths)) (refusedBy 27 p k kinds lengths arena)
+    (leaves (runOf R pgns w (length arena) p k) kinds lengths arena))

@@ -1,0 +1,131 @@
+// The batch call.
+ghost use mathlib.Core.Path.{_≡_};
+ghost use Rattle.session.specs.Rules.{base};
+ghost use Rattle.batch.specs.Rows.{Left, batchOf};
+use crate::Batch;
+use crate::bytes::carry;
+use crate::rows::frame_at;
+use crate::rows::no_room;
+use crate::rows::number_of;
+use crate::rows::too_short;
+use crate::search::walk;
+use assembler::Pool;
+use fast_packet::is_listed;
+use session::Counters;
+use session::Heard;
+use session::POOL_LIMIT;
+use session::count;
+use session::decide;
+use session::place_for;
+use session::within_limit;
+
+const IMPOSSIBLE_POOL: u8 = 1;
+
+const NO_ROOM: u8 = 27;
+
+// A blank frame: what the pool is looked at with, before the first.
+fn blank() -> Heard {
+    Heard {
+        now_ms: 0,
+        pgn: 0,
+        source_address: 0,
+        data: [0; 8],
+    }
+}
+
+// Takes frames one after the other, as long as the arena has room for their messages.
+pub fn process_frames(
+    pool: Pool,
+    counters: Counters,
+    pgns: &[u32],
+    times: &[u64],
+    frame_pgns: &[u32],
+    sources: &[u8],
+    data: &[u8],
+    kinds: &mut [u8],
+    lengths: &mut [u8],
+    arena: &mut [u8],
+) -> Batch
+    ensures { λ r. ⌜ _≡_ {A = Left} (record { answer = r; kinds = now (kinds .exit); lengths = now (lengths .exit); arena = now (arena .exit) }) (batchOf base (now (pgns .entry)) (record { times = now (times .entry); pgns = now («frame_pgns» .entry); sources = now (sources .entry); bytes = now («data» .entry) }) pool counters (now (kinds .entry)) (now (lengths .entry)) (now (arena .entry))) ⌝ }
+{
+    let mut q = pool;
+    let heads = q.heads;
+    let before = walk(heads, q.size, blank());
+    if before.bad {
+        return Batch {
+            refused: IMPOSSIBLE_POOL,
+            taken: 0,
+            used: 0,
+            counters: counters,
+            pool: q,
+        };
+    }
+    let n = times.len();
+    if too_short(
+        n,
+        frame_pgns.len(),
+        sources.len(),
+        data.len(),
+        kinds.len(),
+        lengths.len(),
+    ) {
+        return Batch {
+            refused: NO_ROOM,
+            taken: 0,
+            used: 0,
+            counters: counters,
+            pool: q,
+        };
+    }
+    let mut c = counters;
+    let mut used: usize = 0;
+    let mut i: usize = 0;
+    while i < n {
+        let heard = frame_at(times, frame_pgns, sources, data, i);
+        let heads = q.heads;
+        let s = walk(heads, q.size, heard);
+        let listed = is_listed(pgns, heard.pgn);
+        let place = place_for(s, heard);
+        let g = within_limit(place);
+        let d = decide(s.bad, listed, place < POOL_LIMIT, q.heads[g], heard);
+        let length = d.whole + d.short;
+        if no_room(arena.len(), used, length) {
+            return Batch {
+                refused: 0,
+                taken: i,
+                used: used,
+                counters: c,
+                pool: q,
+            };
+        }
+        let h = d.head;
+        q.heads[g] = h;
+        let frame = heard.data;
+        carry(
+            &mut q.bytes,
+            arena,
+            g,
+            used,
+            frame,
+            d.at,
+            d.from,
+            d.count,
+            d.whole,
+            d.short,
+        );
+        let mark = d.mark;
+        c = count(c, mark);
+        let kind = d.kind;
+        kinds[i] = number_of(kind);
+        lengths[i] = length as u8;
+        used += length;
+        i += 1;
+    }
+    Batch {
+        refused: 0,
+        taken: i,
+        used: used,
+        counters: c,
+        pool: q,
+    }
+}

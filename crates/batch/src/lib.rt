@@ -1,0 +1,19 @@
+// Many frames in one call: the pool is taken once and looked at once, and rows of frames are gone over in place. What it does is what the single
+// call does, frame by frame (specs/Rows).
+mod batching;
+mod bytes;
+mod rows;
+mod search;
+
+use assembler::Pool;
+pub use batching::process_frames;
+use session::Counters;
+
+// What a batch answers: the refusal's number, or 0; how many frames were taken, and how many bytes of the arena their messages take.
+pub struct Batch {
+    pub refused: u8,
+    pub taken: usize,
+    pub used: usize,
+    pub counters: Counters,
+    pub pool: Pool,
+}

@@ -1,0 +1,79 @@
+// The lent rows: whether they are long enough, and the frame at a place.
+ghost use mathlib.Core.Path.{_≡_};
+ghost use Prim.Native.Nat.{_+_, _*_, _<_, _≤_};
+ghost use lib.ListN.{length, take, drop};
+ghost use lib.Dec.{ltb};
+ghost use Rattle.batch.specs.Rows.{frameAt, kindNumber, tooShort};
+use session::Heard;
+use session::Kind;
+
+// Whether a row is shorter than the n frames ask.
+pub(crate) fn too_short(
+    n: usize,
+    pgns: usize,
+    sources: usize,
+    bytes: usize,
+    kinds: usize,
+    lengths: usize,
+) -> bool
+    ensures { λ r. ⌜ r ≡ tooShort n pgns sources bytes kinds lengths ⌝ }
+{
+    if pgns < n {
+        return true;
+    }
+    if sources < n {
+        return true;
+    }
+    if bytes / 8 < n {
+        return true;
+    }
+    if kinds < n {
+        return true;
+    }
+    lengths < n
+}
+
+fn eight(data: &[u8], at: usize) -> [u8; 8]
+    requires { ⌜ at + 8 ≤ length (now «data») ⌝ }
+    ensures { λ r. ⌜ r ≡ take 8 (drop at (now («data» .entry))) ⌝ }
+{
+    let mut out = [0u8; 8];
+    let mut i: usize = 0;
+    while i < 8 {
+        out[i] = data[at + i];
+        i += 1;
+    }
+    out
+}
+
+pub(crate) fn frame_at(times: &[u64], pgns: &[u32], sources: &[u8], data: &[u8], i: usize) -> Heard
+    requires { ⌜ (i < length (now times)) × (i < length (now pgns)) × (i < length (now sources)) × (i * 8 + 8 ≤ length (now «data»)) ⌝ }
+    ensures { λ r. ⌜ r ≡ frameAt (record { times = now (times .entry); pgns = now (pgns .entry); sources = now (sources .entry); bytes = now («data» .entry) }) i ⌝ }
+{
+    let bytes = eight(data, i * 8);
+    Heard {
+        now_ms: times[i],
+        pgn: pgns[i],
+        source_address: sources[i],
+        data: bytes,
+    }
+}
+
+pub(crate) fn number_of(kind: Kind) -> u8
+    ensures { λ r. ⌜ r ≡ kindNumber kind ⌝ }
+{
+    match kind {
+        Kind::Ignored => 0,
+        Kind::FragmentConsumed => 1,
+        Kind::MessageComplete => 2,
+        Kind::Refused(_) => 3,
+    }
+}
+
+// Whether a message of n bytes has no room, where `used` of `room` bytes are taken.
+pub(crate) fn no_room(room: usize, used: usize, n: usize) -> bool
+    requires { ⌜ used ≤ room ⌝ }
+    ensures { λ r. ⌜ r ≡ ltb room (used + n) ⌝ }
+{
+    room - used < n
+}
