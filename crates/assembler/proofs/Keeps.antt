@@ -1,36 +1,29 @@
--- A call keeps a possible pool possible, for any rules; so refusal 1 never comes from a pool that the calls made. Assumes nothing.
-use Prim.Native.Nat.{ℕ, zero, suc, _+_, _-_, _*_, _/_, _≤_, _<_, min}
-use mathlib.Core.Path.{_≡_, refl, sym, ap, subst, _∙_}
-use mathlib.Core.Bool.{Bool, true, false, not, _||_, _&&_}
+-- A call keeps a possible pool possible, for any rules. Assumes nothing.
+use Prim.Native.Nat.{ℕ, zero, suc, _+_, _-_, _*_, _≤_, _<_, min}
+use mathlib.Core.Path.{_≡_, refl, _∙_}
+use mathlib.Core.Bool.{Bool, true, false, _&&_}
 use mathlib.Core.Option.{Option, none, some}
 use mathlib.Core.List.{List, [], _∷_, _++_, append-nil}
-use lib.ListN.{length, getD, take, drop, set, replicate, length-set, length-take, length-drop, length-replicate, drop-of-length-le}
-use lib.Seq.{paste, length-paste, length-take-le, take-at, take-all}
+use lib.ListN.{length, take, drop, set, length-set, length-take, length-drop, length-replicate, drop-of-length-le}
+use lib.Seq.{length-paste, length-take-le, take-at, take-all}
 use lib.Dec.{eqb, ltb, leb}
 use native.Mathlib.Omega.{arith}
-use borrow.Author.Tests.{ltb-true, ltb-false, leb-true, leb-false, eqb-true, lt-ltb, le-ltb, eq-eqb}
-use Rattle.base.specs.Answer.{gives}
-use Rattle.base.specs.Lists.{firstAt, any, fill}
+use borrow.Author.Tests.{ltb-false, leb-false, eqb-true, lt-ltb, le-ltb, eq-eqb}
+use Rattle.base.specs.Lists.{any}
 use Rattle.base.proofs.Cases.{less?}
 use Rattle.base.proofs.First.{first-passes}
-use Rattle.base.proofs.Fills.{length-fill}
-use Rattle.fast_packet.specs.FastPacket.{maxPayload, filledFrom}
 use Rattle.session.specs.declared.Counters.{Counters}
 use Rattle.session.specs.declared.Heard.{Heard}
 use Rattle.session.specs.declared.Head.{Head}
-use Rattle.session.specs.Rules.{Rules, base, poolLimit}
+use Rattle.session.specs.Rules.{Rules}
 use Rattle.session.specs.Frames.{sequenceOf, indexOf, sizeOf, badSize, firstBytes, nextBytes}
-use Rattle.session.specs.Heads.{freshHead, impossibleHead, hasLiveKey, inTurn, openedHead, resetHead, wanted, copiedHead, allThere}
+use Rattle.session.specs.Heads.{impossibleHead, hasLiveKey, inTurn, openedHead, resetHead, wanted, copiedHead, allThere}
 use Rattle.session.proofs.Sound.{Sound, sound, none-at, busy-live, or-left, or-right}
-use Rattle.assembler.specs.declared.Pool.{Pool}
-use Rattle.assembler.specs.declared.HeardWithLength.{HeardWithLength}
 use Rattle.assembler.specs.Call.{Call, CallOk, listed}
 use Rattle.assembler.specs.Slots.{Slot, Slots, freshSlot, slotAt, within, onHead, impossible, chosen, live, openedSlot, resetSlot, copiedSlot}
-use Rattle.assembler.specs.Step.{Event, notListed, rejected, shortMessage, poolFull, opened, stray, outOfTurn, copied, completed, opensAt, firstShort, firstSized, copyAt, turnAt, continuesAt, byIndex, byList, eventOf, slotsAfter, saidOf, outcome, stepIf, step}
-use Rattle.assembler.specs.View.{slotsFrom, slotsOf, poolOf, shown, replyOf, receiveOf, filledFrame, receiveWithLengthOf, freshPool, madeIf, madeOf}
-use Rattle.assembler.specs.Possible.{ByCalls, made, byDefault, left, leftWithLength}
-use Rattle.assembler.proofs.Unique.{replied}
-use Rattle.assembler.proofs.Views.{Sized, none, more, sized-append, view-forth}
+use Rattle.assembler.specs.Step.{Event, notListed, rejected, shortMessage, poolFull, opened, stray, outOfTurn, copied, completed, opensAt, firstShort, firstSized, copyAt, turnAt, continuesAt, byIndex, byList, eventOf, slotsAfter, outcome, stepIf, step}
+use Rattle.assembler.specs.Possible.{made}
+use Rattle.assembler.proofs.Views.{Sized, none, more, sized-append}
 
 -- ---- lists
 
@@ -218,71 +211,3 @@ keeps R p k c ok e =
       possible = still-possible R p (slotsAfter (c .heard) (within p) (eventOf R (within p) c)) (after-length (c .heard) (within p) (eventOf R (within p) c)) (in-limit R p e) (done .possible);
       sized = λ h. sized-append (done .sized (sized-take h (p .size))) (sized-drop h (p .size));
     })
-
--- ---- the pools that the calls make
-
-sized-view : (hs : List Head) (bs : List ℕ) → length bs ≡ length hs * 223 → Sized (slotsFrom hs bs)
-unfolding slotsFrom
-sized-view [] bs e = none
-sized-view (h ∷ hs) bs e = more (length-take-le 223 bs (omega arith)) (sized-view hs (drop 223 bs) (simp length-drop (omega arith)))
-
--- the slots of a pool: of 223 bytes each, and none impossible
-record Good (p : Pool) : Type 0 where
-  possible : impossible base (slotsOf p) ≡ false
-  sized : Sized (slotsOf p .slots)
-
-idle-fine : (n m : ℕ) (bs : List ℕ) → any (onHead (impossibleHead base)) (take n (slotsFrom (replicate m freshHead) bs)) ≡ false
-unfolding any slotsFrom impossibleHead freshHead
-idle-fine zero m bs = refl
-idle-fine (suc n) zero bs = refl
-idle-fine (suc n) (suc m) bs = idle-fine n m (drop 223 bs)
-
-fresh-good : (n : ℕ) → n ≤ poolLimit → Good (freshPool n)
-unfolding freshPool slotsOf
-fresh-good n small =
-    record {
-      possible = unfold impossible base in rw (le-ltb poolLimit n small) (idle-fine n poolLimit (replicate 1784 0));
-      sized = sized-view (replicate poolLimit freshHead) (replicate 1784 0) refl;
-    }
-
-made-good : (b : Bool) (n : ℕ) → ltb poolLimit n ≡ b → Good (madeIf b n .pool)
-unfolding madeIf
-made-good true n e = fresh-good 0 (omega arith)
-made-good false n e = fresh-good n (ltb-false poolLimit n e)
-
-left-good : (pgns : List ℕ) (f : Heard) (p : Pool) (k : Counters) → CallOk base (record { pgns = pgns; heard = f }) → Good p → Good (receiveOf base pgns f p k .pool)
-unfolding receiveOf shown
-left-good pgns f p k ok good =
-    let kept = keeps base (slotsOf p) k (record { pgns = pgns; heard = f }) ok (good .possible) in
-    let forth = view-forth (step base (slotsOf p) k (record { pgns = pgns; heard = f }) .pool) (kept .sized (good .sized)) in
-    record { possible = rw forth (kept .possible); sized = rw forth (kept .sized (good .sized)) }
-
--- a frame cut short is a frame of eight bytes too
-filled-byte : (len : ℕ) (bytes : List ℕ) → length bytes ≡ 8 → getD bytes 0 0 < 256 → getD (filledFrom len bytes) 0 0 < 256
-unfolding filledFrom fill
-filled-byte len [] e h = absurd (omega arith)
-filled-byte zero (b ∷ bytes) e h = omega arith
-filled-byte (suc len) (b ∷ bytes) e h = let s : min (suc len) 8 ≡ suc (min len 7) = omega arith in rw s h
-
-filled-ok : (pgns : List ℕ) (x : HeardWithLength) → CallOk base (record { pgns = pgns; heard = x .heard }) → CallOk base (record { pgns = pgns; heard = filledFrame x })
-unfolding filledFrame
-filled-ok pgns x ok =
-    record {
-      eight = unfold filledFrom in length-fill 8 (take (min (x .length) 8) (x .heard .«data»));
-      byte = filled-byte (x .length) (x .heard .«data») (ok .eight) (ok .byte);
-    }
-
-by-calls-good : {p : Pool} → ByCalls p → Good p
-unfolding madeOf receiveWithLengthOf
-by-calls-good (made size) = made-good (ltb poolLimit size) size refl
-by-calls-good byDefault = fresh-good 4 (omega arith)
-by-calls-good (left {p} pgns f k ok h) = left-good pgns f p k ok (by-calls-good h)
-by-calls-good (leftWithLength {p} pgns x k ok h) = left-good pgns (filledFrame x) p k (filled-ok pgns x ok) (by-calls-good h)
-
-pub never-impossible : {p : Pool} → ByCalls p → impossible base (slotsOf p) ≡ false
-never-impossible h = by-calls-good h .possible
-
--- so every answer is one of the three: refusal 1 never comes from a pool that the calls made
-pub never-refused : {p : Pool} → ByCalls p → (pgns : List ℕ) (f : Heard) (k : Counters)
-    → replyOf (receiveOf base pgns f p k) ≡ gives (saidOf f (within (slotsOf p)) (eventOf base (within (slotsOf p)) (record { pgns = pgns; heard = f })))
-never-refused {p} h pgns f k = replied base pgns f p k ∙ (unfold step in rw (never-impossible h) (unfold stepIf outcome in refl))

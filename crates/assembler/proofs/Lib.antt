@@ -5,3 +5,4 @@ pub mod Types
 pub mod Vectors
 pub mod Unique
 pub mod Keeps
+pub mod ByCalls

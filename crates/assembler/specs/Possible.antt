@@ -1,4 +1,4 @@
--- The pools that the calls make: a fresh one, or what a call left of such a pool. Document 01 calls none of them impossible (proofs/Keeps).
+-- The pools that the calls make: a fresh one, or what a call left of such a pool. Document 01 calls none of them impossible (proofs/ByCalls).
 use mathlib.Core.List.{List}
 use Prim.Native.Nat.{ℕ}
 use Rattle.session.specs.declared.Counters.{Counters}

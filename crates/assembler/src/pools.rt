@@ -5,6 +5,7 @@ use crate::DEFAULT_SESSIONS;
 use crate::Made;
 use crate::POOL_BYTES;
 use crate::Pool;
+use session::IMPOSSIBLE_POOL;
 use session::POOL_LIMIT;
 use session::fresh_head;
 
@@ -28,7 +29,7 @@ impl Pool {
         if POOL_LIMIT < size {
             let pool = fresh_pool(0);
             Made {
-                refused: 1,
+                refused: IMPOSSIBLE_POOL,
                 pool: pool,
             }
         } else {

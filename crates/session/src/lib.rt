@@ -26,6 +26,9 @@ pub const FIRST_FRAME_PAYLOAD: usize = 6;
 // Useful bytes a continuation frame carries, after the sequence header.
 pub const CONTINUATION_PAYLOAD: usize = 7;
 
+// The refusal of an impossible pool, by document 01's table.
+pub const IMPOSSIBLE_POOL: u8 = 1;
+
 // A session but for its buffer.
 pub struct Head {
     pub in_progress: bool,

@@ -6,6 +6,7 @@ ghost use Rattle.session.specs.inner.Plan.{idle, planOpen, planFirst, pl
 use crate::FIRST_FRAME_PAYLOAD;
 use crate::Head;
 use crate::Heard;
+use crate::IMPOSSIBLE_POOL;
 use crate::Kind;
 use crate::Mark;
 use crate::Plan;
@@ -17,9 +18,6 @@ use crate::heads::reset_head;
 use crate::heads::wanted_by;
 use crate::numbers::wide;
 use fast_packet::MAX_FAST_PACKET_PAYLOAD;
-
-// An impossible pool is refusal 1.
-const IMPOSSIBLE_POOL: u8 = 1;
 
 // The message of a first frame starts after sequence and size, that of a continuation after the sequence.
 const FIRST_DATA: usize = 2;
