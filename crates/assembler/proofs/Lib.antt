@@ -2,7 +2,6 @@ pub mod Copies
 pub mod Views
 pub mod Carries
 pub mod Types
-pub mod Vectors
 pub mod Unique
 pub mod Keeps
 pub mod ByCalls

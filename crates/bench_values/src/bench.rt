@@ -1,0 +1,228 @@
+// The bench: refusals 20 to 28 of strict reassembly and the splitter, 30 to 37 of the transmit check.
+use crate::say;
+use oracle::Checked;
+use oracle::Fault;
+use oracle::Reassembled;
+use oracle::Split;
+use oracle::check_tx_rows;
+use oracle::fast_packet_rows;
+use oracle::reassemble_rows;
+
+// PGN 127489, and an address claim, both from source 35.
+const ENGINE: u32 = 0x19F2_0123;
+
+const CLAIM: u32 = 0x18EE_FF23;
+
+fn show_fault(fault: Fault) {
+    match fault {
+        Fault::Length(n, len) => say::refusal_with_two(20, n as u64, len as u64),
+        Fault::Restarted(n) => say::refusal_with(21, n as u64),
+        Fault::Announced(n, size) => say::refusal_with_two(22, n as u64, size as u64),
+        Fault::Stray(n) => say::refusal_with(23, n as u64),
+        Fault::Order(n, sequence, index, wanted, next) => {
+            say::text(b"refusal 24: ");
+            say::number(n as u64);
+            say::text(b" ");
+            say::number(sequence as u64);
+            say::text(b" ");
+            say::number(index as u64);
+            say::text(b" ");
+            say::number(wanted as u64);
+            say::text(b" ");
+            say::number(next as u64);
+            say::text(b"\n");
+        }
+        Fault::Padding(n, byte) => say::refusal_with_two(25, n as u64, byte as u64),
+    }
+}
+
+fn show_reassembled(r: Reassembled) {
+    match r {
+        Reassembled::Messages(n) => {
+            say::text(b"messages ");
+            say::number(n as u64);
+            say::text(b"\n");
+        }
+        Reassembled::Refused(fault) => show_fault(fault),
+        Reassembled::Incomplete(size) => say::refusal_with(26, size as u64),
+        Reassembled::NoRoom => say::refusal(27),
+    }
+}
+
+// A row of frames of PGN 127489 from source 35, into a list for one message and an arena of 16 bytes.
+fn judge(bytes: &[u8], lens: &[usize]) {
+    let mut list = [0usize; 3];
+    let mut arena = [0u8; 16];
+    show_reassembled(reassemble_rows(
+        &[ENGINE, ENGINE],
+        bytes,
+        lens,
+        35,
+        127489,
+        &mut list,
+        &mut arena,
+    ));
+}
+
+fn show_split(s: Split) {
+    match s {
+        Split::Frames(n) => {
+            say::text(b"frames ");
+            say::number(n as u64);
+            say::text(b"\n");
+        }
+        Split::BadSplit => say::refusal(28),
+        Split::Short => say::refusal(27),
+    }
+}
+
+pub fn refusals() {
+    say::text(b"length 7: ");
+    judge(b"\x00\x06\x01\x02\x03\x04\x05\x06", &[7]);
+    say::text(b"a first frame while open: ");
+    judge(
+        b"\x00\x07\x01\x02\x03\x04\x05\x06\x00\x07\x01\x02\x03\x04\x05\x06",
+        &[8, 8],
+    );
+    say::text(b"announced 0: ");
+    judge(b"\x00\x00\x01\x02\x03\x04\x05\x06", &[8]);
+    say::text(b"a continuation without open: ");
+    judge(b"\x01\x01\x02\x03\x04\x05\x06\x07", &[8]);
+    say::text(b"index 2 where 1 is expected: ");
+    judge(
+        b"\x20\x07\x01\x02\x03\x04\x05\x06\x22\x07\xFF\xFF\xFF\xFF\xFF\xFF",
+        &[8, 8],
+    );
+    say::text(b"padding 00: ");
+    judge(b"\x00\x05\x01\x02\x03\x04\x05\x00", &[8]);
+    say::text(b"still open: ");
+    judge(b"\x00\x07\x01\x02\x03\x04\x05\x06", &[8]);
+    say::text(b"two messages for a list of one: ");
+    judge(
+        b"\x00\x06\x01\x02\x03\x04\x05\x06\x20\x06\x01\x02\x03\x04\x05\x06",
+        &[8, 8],
+    );
+    let mut ids = [0u32; 1];
+    let mut bytes = [0u8; 8];
+    let mut lens = [0usize; 1];
+    say::text(b"splitting nothing: ");
+    show_split(fast_packet_rows(ENGINE, 0, b"", &mut ids, &mut bytes, &mut lens));
+    say::text(b"splitting seven bytes into one frame: ");
+    show_split(fast_packet_rows(ENGINE, 0, b"1234567", &mut ids, &mut bytes, &mut lens));
+}
+
+fn show_checked(c: Checked) {
+    match c {
+        Checked::Good => say::text(b"good\n"),
+        Checked::NoCount => say::refusal(30),
+        Checked::Over => say::refusal(31),
+        Checked::NoClaim => say::refusal(32),
+        Checked::Faulty(fault) => show_fault(fault),
+        Checked::Open(size) => say::refusal_with(26, size as u64),
+        Checked::Count(found) => say::refusal_with(33, found as u64),
+        Checked::Size(i) => say::refusal_with(34, i as u64),
+        Checked::Hours(i) => say::refusal_with(35, i as u64),
+        Checked::Pattern(i) => say::refusal_with(36, i as u64),
+        Checked::Sequence(i) => say::refusal_with(37, i as u64),
+    }
+}
+
+// A record of 26 bytes with these hours, below 256, and another byte off the pattern or not.
+fn record(hours: u8, odd: u8) -> [u8; 26] {
+    let mut payload = [0u8; 26];
+    payload[0] = odd;
+    payload[11] = hours;
+    payload[19] = 0xFF;
+    payload
+}
+
+// Lays a record's frames in the lent rows, the first of them at `at`, its bytes from `from` on.
+fn lay(
+    ids: &mut [u32],
+    bytes: &mut [u8],
+    lens: &mut [usize],
+    at: usize,
+    from: usize,
+    sequence: u8,
+    payload: [u8; 26],
+) {
+    if ids.len() < at {
+        return;
+    }
+    if bytes.len() < from {
+        return;
+    }
+    if lens.len() < at {
+        return;
+    }
+    let laid = fast_packet_rows(
+        ENGINE,
+        sequence,
+        &payload,
+        &mut ids[at..],
+        &mut bytes[from..],
+        &mut lens[at..],
+    );
+}
+
+// Two records after what stands first, the second with this sequence.
+fn check_rows(
+    ids: &mut [u32],
+    bytes: &mut [u8],
+    lens: &mut [usize],
+    first: [u8; 26],
+    sequence: u8,
+    second: [u8; 26],
+    expected: usize,
+    base: u32,
+) {
+    lay(ids, bytes, lens, 1, 8, 0, first);
+    lay(ids, bytes, lens, 5, 40, sequence, second);
+    show_checked(check_tx_rows(&ids[..], &bytes[..], &lens[..], 35, expected, base));
+}
+
+// A claim, then two records of four frames each.
+fn check_two(first: [u8; 26], sequence: u8, second: [u8; 26], expected: usize, base: u32) {
+    let mut ids = [CLAIM; 9];
+    let mut bytes = [0xFFu8; 72];
+    let mut lens = [8usize; 9];
+    check_rows(
+        &mut ids,
+        &mut bytes,
+        &mut lens,
+        first,
+        sequence,
+        second,
+        expected,
+        base,
+    );
+}
+
+pub fn transmit_refusals() {
+    let claim = b"\xFF\xFF\xFF\xFF\xFF\xFF\xFF\xFF";
+    say::text(b"two records as they should be: ");
+    check_two(record(7, 0), 1, record(8, 0), 2, 7);
+    say::text(b"count 0: ");
+    check_two(record(7, 0), 1, record(8, 0), 0, 7);
+    say::text(b"base 4294967295, count 2: ");
+    check_two(record(7, 0), 1, record(8, 0), 2, 4294967295);
+    say::text(b"no claim: ");
+    show_checked(check_tx_rows(&[ENGINE], claim, &[8], 35, 1, 0));
+    say::text(b"a claim alone: ");
+    show_checked(check_tx_rows(&[CLAIM], claim, &[8], 35, 1, 0));
+    say::text(b"a message of one byte: ");
+    show_checked(check_tx_rows(
+        &[CLAIM, ENGINE],
+        b"\xFF\xFF\xFF\xFF\xFF\xFF\xFF\xFF\x00\x01\x00\xFF\xFF\xFF\xFF\xFF",
+        &[8, 8],
+        35,
+        1,
+        0,
+    ));
+    say::text(b"hours 9 where 8 is expected: ");
+    check_two(record(7, 0), 1, record(9, 0), 2, 7);
+    say::text(b"a byte off the pattern: ");
+    check_two(record(7, 1), 1, record(8, 0), 2, 7);
+    say::text(b"the same sequence twice: ");
+    check_two(record(7, 0), 0, record(8, 0), 2, 7);
+}

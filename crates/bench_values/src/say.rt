@@ -1,0 +1,35 @@
+// Words and numbers on standard output.
+use libc::STDOUT_FILENO;
+
+pub fn text(words: &[u8]) {
+    io::write_all(STDOUT_FILENO, words);
+}
+
+pub fn number(n: u64) {
+    io::print_decimal(STDOUT_FILENO, n);
+}
+
+// A refusal's number, and what it carries.
+pub fn refusal(n: u64) {
+    text(b"refusal ");
+    number(n);
+    text(b"\n");
+}
+
+pub fn refusal_with(n: u64, a: u64) {
+    text(b"refusal ");
+    number(n);
+    text(b": ");
+    number(a);
+    text(b"\n");
+}
+
+pub fn refusal_with_two(n: u64, a: u64, b: u64) {
+    text(b"refusal ");
+    number(n);
+    text(b": ");
+    number(a);
+    text(b" ");
+    number(b);
+    text(b"\n");
+}
