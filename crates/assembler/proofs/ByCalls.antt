@@ -29,7 +29,7 @@ use Rattle.assembler.proofs.Unique.{replied}
 use Rattle.assembler.proofs.Views.{Sized, none, more, view-forth}
 use Rattle.assembler.proofs.Keeps.{keeps}
 
-sized-view : (hs : List Head) (bs : List ℕ) → length bs ≡ length hs * 223 → Sized (slotsFrom hs bs)
+pub sized-view : (hs : List Head) (bs : List ℕ) → length bs ≡ length hs * 223 → Sized (slotsFrom hs bs)
 unfolding slotsFrom
 sized-view [] bs e = none
 sized-view (h ∷ hs) bs e = more (length-take-le 223 bs (omega arith)) (sized-view hs (drop 223 bs) (simp length-drop (omega arith)))

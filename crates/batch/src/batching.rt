@@ -4,10 +4,16 @@ ghost use Rattle.session.specs.Rules.{base};
 ghost use Rattle.batch.specs.Rows.{Left, batchOf};
 use crate::Batch;
 use crate::bytes::carry;
+use crate::memory::PLACES;
+use crate::memory::looked_up;
 use crate::rows::frame_at;
 use crate::rows::no_room;
 use crate::rows::number_of;
 use crate::rows::too_short;
+use crate::search::key_of;
+use crate::search::key_of_frame;
+use crate::search::mirror_of;
+use crate::search::seek;
 use crate::search::walk;
 use assembler::Pool;
 use fast_packet::is_listed;
@@ -16,7 +22,6 @@ use session::Heard;
 use session::POOL_LIMIT;
 use session::count;
 use session::decide;
-use session::place_for;
 use session::within_limit;
 
 const IMPOSSIBLE_POOL: u8 = 1;
@@ -77,17 +82,24 @@ pub fn process_frames(
             pool: q,
         };
     }
+    // what is searched in stands beside the heads, and what the list said is remembered
+    let m = mirror_of(heads);
+    let mut keys = m.keys;
+    let mut owners = m.owners;
+    let mut lasts = m.lasts;
+    let zero = is_listed(pgns, 0);
+    let mut asked = [0u32; PLACES];
+    let mut known = [zero; PLACES];
     let mut c = counters;
     let mut used: usize = 0;
     let mut i: usize = 0;
     while i < n {
         let heard = frame_at(times, frame_pgns, sources, data, i);
-        let heads = q.heads;
-        let s = walk(heads, q.size, heard);
-        let listed = is_listed(pgns, heard.pgn);
-        let place = place_for(s, heard);
+        let listed = looked_up(pgns, &mut asked, &mut known, heard.pgn);
+        let key = key_of_frame(heard);
+        let place = seek(&keys, &owners, &lasts, q.size, listed, key, heard);
         let g = within_limit(place);
-        let d = decide(s.bad, listed, place < POOL_LIMIT, q.heads[g], heard);
+        let d = decide(false, listed, place < POOL_LIMIT, q.heads[g], heard);
         let length = d.whole + d.short;
         if no_room(arena.len(), used, length) {
             return Batch {
@@ -100,6 +112,9 @@ pub fn process_frames(
         }
         let h = d.head;
         q.heads[g] = h;
+        keys[g] = key_of(h);
+        owners[g] = h.source_address;
+        lasts[g] = h.last_seen_ms;
         let frame = heard.data;
         carry(
             &mut q.bytes,

@@ -2,6 +2,7 @@
 use borrow.Author.Needs.{needs}
 use Prim.Native.Nat.{_+_, _*_, _-_, _≤_}
 use mathlib.Core.Path.{_≡_, refl, sym, ap, _∙_}
+use mathlib.Core.Bool.{false}
 use lib.ListN.{length, length-set, length-drop}
 use lib.Seq.{length-take-le}
 use native.Mathlib.Omega.{arith}
@@ -9,9 +10,14 @@ use Rattle.session.specs.Rules.{base, poolLimit}
 use Rattle.session.specs.declared.Found.{Found}
 use Rattle.assembler.proofs.Copies.{length-unmap}
 use Rattle.assembler.proofs.Views.{Whole}
-use Rattle.assembler.proofs.Carries.{planned}
+use Rattle.assembler.specs.Slots.{impossible}
+use Rattle.assembler.specs.View.{slotsOf}
 use Rattle.batch.specs.Rows.{frameAt, refusedBy}
+use Rattle.batch.specs.inner.Mirror.{Mirrors}
+use Rattle.batch.specs.inner.Memory.{Remembers}
 use Rattle.batch.proofs.Runs.{Running, begins, ends, stops, goes-on, fits-arena, apart, looked-at, gives-1, gives-27, gives-run, fits-all, frame-long}
+use Rattle.batch.proofs.Sought.{small-of, seeks, stays-possible}
+use Rattle.batch.proofs.Mirrors.{mirrors-set, remembers-none}
 use Rattle.batch.proofs.batching.process_frames.Statement.{statement}
 use Rattle.batch.proofs.batching.process_frames.Tie as tie
 
@@ -20,12 +26,13 @@ unfolding base
 limit = refl
 
 abbrev Inv-loop : tie.InvT-loop
-Inv-loop pgns times frame-pgns sources «data» kinds₀ lengths₀ arena₀ q₀ n c₀ used₀ i₀ kinds lengths arena q c used i =
-    (n ≡ length times)
-    × Running base pgns (record { times = times; pgns = frame-pgns; sources = sources; bytes = «data» }) q₀ c₀ kinds₀ lengths₀ arena₀ kinds lengths arena q c used i
+Inv-loop pgns times frame-pgns sources «data» kinds₀ lengths₀ arena₀ q₀ n keys₀ owners₀ lasts₀ zero asked₀ known₀ c₀ used₀ i₀ kinds lengths arena q keys owners lasts asked known c used i =
+    Running base pgns (record { times = times; pgns = frame-pgns; sources = sources; bytes = «data» }) q₀ c₀ kinds₀ lengths₀ arena₀ kinds lengths arena q c used i
+    × (impossible base (slotsOf q) ≡ false) × Mirrors poolLimit (q .heads) keys owners lasts × Remembers pgns asked known
 
 abbrev μ-loop : tie.MeasureT-loop
-μ-loop pgns times frame-pgns sources «data» kinds₀ lengths₀ arena₀ q₀ n c₀ used₀ i₀ kinds lengths arena q c used i = length times - i
+μ-loop pgns times frame-pgns sources «data» kinds₀ lengths₀ arena₀ q₀ n keys₀ owners₀ lasts₀ zero asked₀ known₀ c₀ used₀ i₀ kinds lengths arena q keys owners lasts asked known c used i =
+    length times - i
 
 returns : tie.Need-returns Inv-loop μ-loop
 unfolding refusedBy
@@ -43,150 +50,164 @@ returns-2 c =
 
 loop-holds : tie.Need-loop-holds Inv-loop μ-loop
 loop-holds c =
-    let a = c .before .before .before .before .before .before .before .before .before .before .before .before .before .before .args in
-    let good = c .before .before .before .before .before .before .before .before .before .before .before .before .before .before .good in
+    let a = c .before .before .before .before .before .before .before .before .before .before .before .before .before .before .before .before .before .before .before .args in
+    let good = c .before .before .before .before .before .before .before .before .before .before .before .before .before .before .before .before .before .before .before .good in
     let heads-good = good .0 .1 in
     let bytes-good = good .0 .1 .1 in
     let whole : Whole (a .pool) = record { heads = search (needs, length-unmap); bytes = search needs } in
     let fit =
     fits-all base (a .pgns .now) (record { times = a .times .now; pgns = a .frame-pgns .now; sources = a .sources .now; bytes = a .«data» .now }) (a .pool) (a .counters) (a .kinds .now) (a .lengths .now) (a .arena .now) _
-    (ap (λ (s : Found). s .bad) (c .before .before .before .walk .ensures) ∙ looked-at base _ (a .pool) limit) (c .before .before .if1 .left) _ (c .before .too-short .ensures) (c .if2 .left) in
-    (refl, begins base (a .pgns .now) (record { times = a .times .now; pgns = a .frame-pgns .now; sources = a .sources .now; bytes = a .«data» .now }) (a .pool) (a .counters) (a .kinds .now) (a .lengths .now) (a .arena .now) whole fit)
+    (ap (λ (s : Found). s .bad) (c .before .before .before .before .before .before .before .before .walk .ensures) ∙ looked-at base _ (a .pool) limit) (c .before .before .before .before .before .before .before .if1 .left) _ (c .before .before .before .before .before .before .too-short .ensures) (c .before .before .before .before .before .if2 .left) in (
+      begins base (a .pgns .now) (record { times = a .times .now; pgns = a .frame-pgns .now; sources = a .sources .now; bytes = a .«data» .now }) (a .pool) (a .counters) (a .kinds .now) (a .lengths .now) (a .arena .now) whole fit,
+      sym (ap (λ (s : Found). s .bad) (c .before .before .before .before .before .before .before .before .walk .ensures) ∙ looked-at base _ (a .pool) limit) ∙ c .before .before .before .before .before .before .before .if1 .left,
+      c .before .before .before .before .mirror-of .ensures,
+      remembers-none (a .pgns .now) _ (c .is-listed .ensures),
+    )
 
 frame-at-requires : tie.Need-frame-at-requires Inv-loop μ-loop
 frame-at-requires c κs =
-    let run = c .before .loop .inv .1 in
+    let run = c .before .loop .inv .0 in
     let turn = c .loop-test .taken in
-    let all = c .before .loop .inv .0 in
-    (omega (arith, turn, all), omega (arith, turn, all, run .fit .pgns), omega (arith, turn, all, run .fit .sources), omega (arith, turn, all, run .fit .bytes))
+    (turn, omega (arith, turn, run .fit .pgns), omega (arith, turn, run .fit .sources), omega (arith, turn, run .fit .bytes))
+
+looked-up-requires : tie.Need-looked-up-requires Inv-loop μ-loop
+looked-up-requires c κs = c .before .before .before .before .loop .inv .3
+
+seek-requires : tie.Need-seek-requires Inv-loop μ-loop
+seek-requires c κs =
+    let mirrors = c .before .before .before .before .before .before .before .before .before .loop .inv .2 in
+    (mirrors .keys, mirrors .owners, mirrors .lasts, small-of (c .before .before .before .before .before .before .before .before .before .loop .q) (c .before .before .before .before .before .before .before .before .before .loop .inv .1))
 
 add-length : tie.Need-add-length Inv-loop μ-loop
 add-length c =
-    let a = c .before .before .before .before .before .before .before .before .before .before .before .before .before .before .before .before .before .before .before .before .before .before .before .before .before .args in
-    let loop = c .before .before .before .before .before .before .before .before .before .before .loop in
-    let run = loop .inv .1 in
-    let turn = c .before .before .before .before .before .before .before .before .before .loop-test .taken in
-    let row = c .before .before .before .before .before .before .before .before .frame-at .ensures in
+    let a = c .before .before .before .before .before .before .before .before .before .before .before .before .before .before .before .before .before .before .before .before .before .before .before .before .before .before .before .before .before .before .before .before .before .before .args in
+    let loop = c .before .before .before .before .before .before .before .before .before .before .before .before .before .before .loop in
+    let run = loop .inv .0 in
+    let turn = c .before .before .before .before .before .before .before .before .before .before .before .before .before .loop-test .taken in
+    let row = c .before .before .before .before .before .before .before .before .before .before .before .before .frame-at .ensures in
     let long = frame-long _ _ _ _ turn (run .fit .bytes) row in
     let does =
-    planned base limit (a .pgns .now) (c .before .before .before .before .before .before .before .before .frame-at .result) (loop .q) (loop .c) (run .whole) long _ _ _ _ _ _ (c .before .before .before .before .before .before .walk2 .ensures) (c .before .before .before .before .before .is-listed .ensures) (c .before .before .before .before .place-for .ensures) (c .before .before .before .within-limit .ensures .0) (c .before .decide .ensures) in
+    seeks (a .pgns .now) (c .before .before .before .before .before .before .before .before .before .before .before .before .frame-at .result) (loop .q) (loop .c) (run .whole) long _ (loop .inv .1) (loop .keys) (loop .owners) (loop .lasts) (loop .inv .2) (c .before .before .before .before .before .before .before .before .key-of-frame .ensures .1) _ _ _ _ _ (c .before .before .before .before .before .before .before .before .before .looked-up .ensures .0) (c .before .before .before .before .before .before .before .before .key-of-frame .ensures .0) (c .before .before .before .before .seek .ensures) (c .before .before .before .within-limit .ensures .0) (c .before .decide .ensures) in
     let fits = does .fits in
     omega (arith, fits .total)
 
 no-room-requires : tie.Need-no-room-requires Inv-loop μ-loop
-no-room-requires c κs = c .before .before .before .before .before .before .before .before .before .before .loop .inv .1 .room
+no-room-requires c κs = c .before .before .before .before .before .before .before .before .before .before .before .before .before .before .loop .inv .0 .room
 
 same-length : tie.Need-same-length Inv-loop μ-loop
-same-length c = search (needs, c .before .before .before .before .before .before .before .before .before .before .before .before .loop .inv .1 .kinds)
+same-length c = search (needs, c .before .before .before .before .before .before .before .before .before .before .before .before .before .before .before .before .loop .inv .0 .kinds)
 
 same-length-2 : tie.Need-same-length-2 Inv-loop μ-loop
-same-length-2 c = search (needs, c .before .before .before .before .before .before .before .before .before .before .before .before .loop .inv .1 .lengths)
+same-length-2 c = search (needs, c .before .before .before .before .before .before .before .before .before .before .before .before .before .before .before .before .loop .inv .0 .lengths)
 
 same-length-3 : tie.Need-same-length-3 Inv-loop μ-loop
-same-length-3 c = search (needs, c .before .before .before .before .before .before .before .before .before .before .before .before .loop .inv .1 .arena)
+same-length-3 c = search (needs, c .before .before .before .before .before .before .before .before .before .before .before .before .before .before .before .before .loop .inv .0 .arena)
 
 returns-3 : tie.Need-returns-3 Inv-loop μ-loop
 returns-3 c =
-    let a = c .before .before .before .before .before .before .before .before .before .before .before .before .before .before .before .before .before .before .before .before .before .before .before .before .before .before .before .args in
-    let loop = c .before .before .before .before .before .before .before .before .before .before .before .before .loop in
-    let run = loop .inv .1 in
-    let turn = c .before .before .before .before .before .before .before .before .before .before .before .loop-test .taken in
-    let row = c .before .before .before .before .before .before .before .before .before .before .frame-at .ensures in
-    let long = frame-long _ _ _ _ turn (run .fit .bytes) row in
-    let does =
-    planned base limit (a .pgns .now) (c .before .before .before .before .before .before .before .before .before .before .frame-at .result) (loop .q) (loop .c) (run .whole) long _ _ _ _ _ _ (c .before .before .before .before .before .before .before .before .walk2 .ensures) (c .before .before .before .before .before .before .before .is-listed .ensures) (c .before .before .before .before .before .before .place-for .ensures) (c .before .before .before .before .before .within-limit .ensures .0) (c .before .before .before .decide .ensures) in
-    let fits = does .fits in
-    gives-run base (a .pgns .now) (record { times = a .times .now; pgns = a .frame-pgns .now; sources = a .sources .now; bytes = a .«data» .now }) (a .pool) (a .counters) (a .kinds .now) (a .lengths .now) (a .arena .now) _
-    (ap (λ (s : Found). s .bad) (c .before .before .before .before .before .before .before .before .before .before .before .before .before .before .before .before .walk .ensures) ∙ looked-at base _ (a .pool) limit) (c .before .before .before .before .before .before .before .before .before .before .before .before .before .before .before .if1 .left) _ (c .before .before .before .before .before .before .before .before .before .before .before .before .before .before .too-short .ensures) (c .before .before .before .before .before .before .before .before .before .before .before .before .before .if2 .left) _
-    (stops base _ _ _ _ _ _ _ _ _ _ _ _ _ _ run turn _ row _ _ does _ (c .before .no-room .ensures) (c .if3 .taken))
-
-carry-requires : tie.Need-carry-requires Inv-loop μ-loop
-carry-requires c κs =
-    let a = c .before .before .before .before .before .before .before .before .before .before .before .before .before .before .before .before .before .before .before .before .before .before .before .before .before .before .before .before .before .before .before .args in
+    let a = c .before .before .before .before .before .before .before .before .before .before .before .before .before .before .before .before .before .before .before .before .before .before .before .before .before .before .before .before .before .before .before .before .before .before .before .before .args in
     let loop = c .before .before .before .before .before .before .before .before .before .before .before .before .before .before .before .before .loop in
-    let run = loop .inv .1 in
+    let run = loop .inv .0 in
     let turn = c .before .before .before .before .before .before .before .before .before .before .before .before .before .before .before .loop-test .taken in
     let row = c .before .before .before .before .before .before .before .before .before .before .before .before .before .before .frame-at .ensures in
     let long = frame-long _ _ _ _ turn (run .fit .bytes) row in
     let does =
-    planned base limit (a .pgns .now) (c .before .before .before .before .before .before .before .before .before .before .before .before .before .before .frame-at .result) (loop .q) (loop .c) (run .whole) long _ _ _ _ _ _ (c .before .before .before .before .before .before .before .before .before .before .before .before .walk2 .ensures) (c .before .before .before .before .before .before .before .before .before .before .before .is-listed .ensures) (c .before .before .before .before .before .before .before .before .before .before .place-for .ensures) (c .before .before .before .before .before .before .before .before .before .within-limit .ensures .0) (c .before .before .before .before .before .before .before .decide .ensures) in
+    seeks (a .pgns .now) (c .before .before .before .before .before .before .before .before .before .before .before .before .before .before .frame-at .result) (loop .q) (loop .c) (run .whole) long _ (loop .inv .1) (loop .keys) (loop .owners) (loop .lasts) (loop .inv .2) (c .before .before .before .before .before .before .before .before .before .before .key-of-frame .ensures .1) _ _ _ _ _ (c .before .before .before .before .before .before .before .before .before .before .before .looked-up .ensures .0) (c .before .before .before .before .before .before .before .before .before .before .key-of-frame .ensures .0) (c .before .before .before .before .before .before .seek .ensures) (c .before .before .before .before .before .within-limit .ensures .0) (c .before .before .before .decide .ensures) in
     let fits = does .fits in
-    let room = fits-arena base _ _ _ _ _ _ _ _ _ _ _ _ _ _ run turn _ row _ _ does _ (c .before .before .before .before .before .no-room .ensures) (c .before .before .before .before .if3 .left) in
-    (run .whole .bytes, c .before .before .before .before .before .before .before .before .before .within-limit .ensures .1, fits .room, fits .there, fits .whole, fits .short, omega (arith, room), omega (arith, room))
+    gives-run base (a .pgns .now) (record { times = a .times .now; pgns = a .frame-pgns .now; sources = a .sources .now; bytes = a .«data» .now }) (a .pool) (a .counters) (a .kinds .now) (a .lengths .now) (a .arena .now) _
+    (ap (λ (s : Found). s .bad) (c .before .before .before .before .before .before .before .before .before .before .before .before .before .before .before .before .before .before .before .before .before .before .before .before .before .walk .ensures) ∙ looked-at base _ (a .pool) limit) (c .before .before .before .before .before .before .before .before .before .before .before .before .before .before .before .before .before .before .before .before .before .before .before .before .if1 .left) _ (c .before .before .before .before .before .before .before .before .before .before .before .before .before .before .before .before .before .before .before .before .before .before .before .too-short .ensures) (c .before .before .before .before .before .before .before .before .before .before .before .before .before .before .before .before .before .before .before .before .before .before .if2 .left) _
+    (stops base _ _ _ _ _ _ _ _ _ _ _ _ _ _ run turn _ row _ _ does _ (c .before .no-room .ensures) (c .if3 .taken))
 
-slice-write-kinds : tie.Need-slice-write-kinds Inv-loop μ-loop
-slice-write-kinds c = omega (arith, c .before .before .before .before .before .before .before .before .before .before .before .before .before .before .before .before .before .before .before .before .before .loop .inv .0, c .before .before .before .before .before .before .before .before .before .before .before .before .before .before .before .before .before .before .before .before .loop-test .taken, c .before .before .before .before .before .before .before .before .before .before .before .before .before .before .before .before .before .before .before .before .before .loop .inv .1 .kinds, c .before .before .before .before .before .before .before .before .before .before .before .before .before .before .before .before .before .before .before .before .before .loop .inv .1 .fit .kinds)
-
-cast-lengths : tie.Need-cast-lengths Inv-loop μ-loop
-cast-lengths c =
-    let a = c .before .before .before .before .before .before .before .before .before .before .before .before .before .before .before .before .before .before .before .before .before .before .before .before .before .before .before .before .before .before .before .before .before .before .before .before .args in
+carry-requires : tie.Need-carry-requires Inv-loop μ-loop
+carry-requires c κs =
+    let a = c .before .before .before .before .before .before .before .before .before .before .before .before .before .before .before .before .before .before .before .before .before .before .before .before .before .before .before .before .before .before .before .before .before .before .before .before .before .before .before .before .before .args in
     let loop = c .before .before .before .before .before .before .before .before .before .before .before .before .before .before .before .before .before .before .before .before .before .loop in
-    let run = loop .inv .1 in
+    let run = loop .inv .0 in
     let turn = c .before .before .before .before .before .before .before .before .before .before .before .before .before .before .before .before .before .before .before .before .loop-test .taken in
     let row = c .before .before .before .before .before .before .before .before .before .before .before .before .before .before .before .before .before .before .before .frame-at .ensures in
     let long = frame-long _ _ _ _ turn (run .fit .bytes) row in
     let does =
-    planned base limit (a .pgns .now) (c .before .before .before .before .before .before .before .before .before .before .before .before .before .before .before .before .before .before .before .frame-at .result) (loop .q) (loop .c) (run .whole) long _ _ _ _ _ _ (c .before .before .before .before .before .before .before .before .before .before .before .before .before .before .before .before .before .walk2 .ensures) (c .before .before .before .before .before .before .before .before .before .before .before .before .before .before .before .before .is-listed .ensures) (c .before .before .before .before .before .before .before .before .before .before .before .before .before .before .before .place-for .ensures) (c .before .before .before .before .before .before .before .before .before .before .before .before .before .before .within-limit .ensures .0) (c .before .before .before .before .before .before .before .before .before .before .before .before .decide .ensures) in
+    seeks (a .pgns .now) (c .before .before .before .before .before .before .before .before .before .before .before .before .before .before .before .before .before .before .before .frame-at .result) (loop .q) (loop .c) (run .whole) long _ (loop .inv .1) (loop .keys) (loop .owners) (loop .lasts) (loop .inv .2) (c .before .before .before .before .before .before .before .before .before .before .before .before .before .before .before .key-of-frame .ensures .1) _ _ _ _ _ (c .before .before .before .before .before .before .before .before .before .before .before .before .before .before .before .before .looked-up .ensures .0) (c .before .before .before .before .before .before .before .before .before .before .before .before .before .before .before .key-of-frame .ensures .0) (c .before .before .before .before .before .before .before .before .before .before .before .seek .ensures) (c .before .before .before .before .before .before .before .before .before .before .within-limit .ensures .0) (c .before .before .before .before .before .before .before .before .decide .ensures) in
+    let fits = does .fits in
+    let room = fits-arena base _ _ _ _ _ _ _ _ _ _ _ _ _ _ run turn _ row _ _ does _ (c .before .before .before .before .before .before .no-room .ensures) (c .before .before .before .before .before .if3 .left) in
+    (run .whole .bytes, c .before .before .before .before .before .before .before .before .before .before .within-limit .ensures .1, fits .room, fits .there, fits .whole, fits .short, omega (arith, room), omega (arith, room))
+
+slice-write-kinds : tie.Need-slice-write-kinds Inv-loop μ-loop
+slice-write-kinds c = omega (arith, c .before .before .before .before .before .before .before .before .before .before .before .before .before .before .before .before .before .before .before .before .before .before .before .before .before .loop-test .taken, c .before .before .before .before .before .before .before .before .before .before .before .before .before .before .before .before .before .before .before .before .before .before .before .before .before .before .loop .inv .0 .kinds, c .before .before .before .before .before .before .before .before .before .before .before .before .before .before .before .before .before .before .before .before .before .before .before .before .before .before .loop .inv .0 .fit .kinds)
+
+cast-lengths : tie.Need-cast-lengths Inv-loop μ-loop
+cast-lengths c =
+    let a = c .before .before .before .before .before .before .before .before .before .before .before .before .before .before .before .before .before .before .before .before .before .before .before .before .before .before .before .before .before .before .before .before .before .before .before .before .before .before .before .before .before .before .before .before .before .before .args in
+    let loop = c .before .before .before .before .before .before .before .before .before .before .before .before .before .before .before .before .before .before .before .before .before .before .before .before .before .before .loop in
+    let run = loop .inv .0 in
+    let turn = c .before .before .before .before .before .before .before .before .before .before .before .before .before .before .before .before .before .before .before .before .before .before .before .before .before .loop-test .taken in
+    let row = c .before .before .before .before .before .before .before .before .before .before .before .before .before .before .before .before .before .before .before .before .before .before .before .before .frame-at .ensures in
+    let long = frame-long _ _ _ _ turn (run .fit .bytes) row in
+    let does =
+    seeks (a .pgns .now) (c .before .before .before .before .before .before .before .before .before .before .before .before .before .before .before .before .before .before .before .before .before .before .before .before .frame-at .result) (loop .q) (loop .c) (run .whole) long _ (loop .inv .1) (loop .keys) (loop .owners) (loop .lasts) (loop .inv .2) (c .before .before .before .before .before .before .before .before .before .before .before .before .before .before .before .before .before .before .before .before .key-of-frame .ensures .1) _ _ _ _ _ (c .before .before .before .before .before .before .before .before .before .before .before .before .before .before .before .before .before .before .before .before .before .looked-up .ensures .0) (c .before .before .before .before .before .before .before .before .before .before .before .before .before .before .before .before .before .before .before .before .key-of-frame .ensures .0) (c .before .before .before .before .before .before .before .before .before .before .before .before .before .before .before .before .seek .ensures) (c .before .before .before .before .before .before .before .before .before .before .before .before .before .before .before .within-limit .ensures .0) (c .before .before .before .before .before .before .before .before .before .before .before .before .before .decide .ensures) in
     let fits = does .fits in
     omega (arith, fits .total)
 
 slice-write-lengths : tie.Need-slice-write-lengths Inv-loop μ-loop
-slice-write-lengths c = omega (arith, c .before .before .before .before .before .before .before .before .before .before .before .before .before .before .before .before .before .before .before .before .before .loop .inv .0, c .before .before .before .before .before .before .before .before .before .before .before .before .before .before .before .before .before .before .before .before .loop-test .taken, c .before .before .before .before .before .before .before .before .before .before .before .before .before .before .before .before .before .before .before .before .before .loop .inv .1 .lengths, c .before .before .before .before .before .before .before .before .before .before .before .before .before .before .before .before .before .before .before .before .before .loop .inv .1 .fit .lengths)
+slice-write-lengths c = omega (arith, c .before .before .before .before .before .before .before .before .before .before .before .before .before .before .before .before .before .before .before .before .before .before .before .before .before .loop-test .taken, c .before .before .before .before .before .before .before .before .before .before .before .before .before .before .before .before .before .before .before .before .before .before .before .before .before .before .loop .inv .0 .lengths, c .before .before .before .before .before .before .before .before .before .before .before .before .before .before .before .before .before .before .before .before .before .before .before .before .before .before .loop .inv .0 .fit .lengths)
 
 add-used : tie.Need-add-used Inv-loop μ-loop
 add-used c =
-    let a = c .before .before .before .before .before .before .before .before .before .before .before .before .before .before .before .before .before .before .before .before .before .before .before .before .before .before .before .before .before .before .before .before .before .before .before .before .args in
-    let loop = c .before .before .before .before .before .before .before .before .before .before .before .before .before .before .before .before .before .before .before .before .before .loop in
-    let run = loop .inv .1 in
-    let turn = c .before .before .before .before .before .before .before .before .before .before .before .before .before .before .before .before .before .before .before .before .loop-test .taken in
-    let row = c .before .before .before .before .before .before .before .before .before .before .before .before .before .before .before .before .before .before .before .frame-at .ensures in
+    let a = c .before .before .before .before .before .before .before .before .before .before .before .before .before .before .before .before .before .before .before .before .before .before .before .before .before .before .before .before .before .before .before .before .before .before .before .before .before .before .before .before .before .before .before .before .before .before .args in
+    let loop = c .before .before .before .before .before .before .before .before .before .before .before .before .before .before .before .before .before .before .before .before .before .before .before .before .before .before .loop in
+    let run = loop .inv .0 in
+    let turn = c .before .before .before .before .before .before .before .before .before .before .before .before .before .before .before .before .before .before .before .before .before .before .before .before .before .loop-test .taken in
+    let row = c .before .before .before .before .before .before .before .before .before .before .before .before .before .before .before .before .before .before .before .before .before .before .before .before .frame-at .ensures in
     let long = frame-long _ _ _ _ turn (run .fit .bytes) row in
     let does =
-    planned base limit (a .pgns .now) (c .before .before .before .before .before .before .before .before .before .before .before .before .before .before .before .before .before .before .before .frame-at .result) (loop .q) (loop .c) (run .whole) long _ _ _ _ _ _ (c .before .before .before .before .before .before .before .before .before .before .before .before .before .before .before .before .before .walk2 .ensures) (c .before .before .before .before .before .before .before .before .before .before .before .before .before .before .before .before .is-listed .ensures) (c .before .before .before .before .before .before .before .before .before .before .before .before .before .before .before .place-for .ensures) (c .before .before .before .before .before .before .before .before .before .before .before .before .before .before .within-limit .ensures .0) (c .before .before .before .before .before .before .before .before .before .before .before .before .decide .ensures) in
+    seeks (a .pgns .now) (c .before .before .before .before .before .before .before .before .before .before .before .before .before .before .before .before .before .before .before .before .before .before .before .before .frame-at .result) (loop .q) (loop .c) (run .whole) long _ (loop .inv .1) (loop .keys) (loop .owners) (loop .lasts) (loop .inv .2) (c .before .before .before .before .before .before .before .before .before .before .before .before .before .before .before .before .before .before .before .before .key-of-frame .ensures .1) _ _ _ _ _ (c .before .before .before .before .before .before .before .before .before .before .before .before .before .before .before .before .before .before .before .before .before .looked-up .ensures .0) (c .before .before .before .before .before .before .before .before .before .before .before .before .before .before .before .before .before .before .before .before .key-of-frame .ensures .0) (c .before .before .before .before .before .before .before .before .before .before .before .before .before .before .before .before .seek .ensures) (c .before .before .before .before .before .before .before .before .before .before .before .before .before .before .before .within-limit .ensures .0) (c .before .before .before .before .before .before .before .before .before .before .before .before .before .decide .ensures) in
     let fits = does .fits in
-    let room = fits-arena base _ _ _ _ _ _ _ _ _ _ _ _ _ _ run turn _ row _ _ does _ (c .before .before .before .before .before .before .before .before .before .before .no-room .ensures) (c .before .before .before .before .before .before .before .before .before .if3 .left) in
-    omega (arith, room, run .arena, c .before .before .before .before .before .before .before .before .before .before .before .before .before .before .before .before .before .before .before .before .before .before .before .before .before .before .before .before .before .before .before .before .before .before .before .before .good .1 .1 .1 .1 .1 .1 .1 .1 .1 .0)
+    let room = fits-arena base _ _ _ _ _ _ _ _ _ _ _ _ _ _ run turn _ row _ _ does _ (c .before .before .before .before .before .before .before .before .before .before .before .no-room .ensures) (c .before .before .before .before .before .before .before .before .before .before .if3 .left) in
+    omega (arith, room, run .arena, c .before .before .before .before .before .before .before .before .before .before .before .before .before .before .before .before .before .before .before .before .before .before .before .before .before .before .before .before .before .before .before .before .before .before .before .before .before .before .before .before .before .before .before .before .before .before .good .1 .1 .1 .1 .1 .1 .1 .1 .1 .0)
 
 add-i : tie.Need-add-i Inv-loop μ-loop
 add-i c =
-    omega (arith, c .before .before .before .before .before .before .before .before .before .before .before .before .before .before .before .before .before .before .before .before .loop-test .taken, c .before .before .before .before .before .before .before .before .before .before .before .before .before .before .before .before .before .before .before .before .before .before .before .before .before .before .before .before .before .before .before .before .before .before .before .before .good .1 .1 .1 .0)
+    omega (arith, c .before .before .before .before .before .before .before .before .before .before .before .before .before .before .before .before .before .before .before .before .before .before .before .before .before .loop-test .taken, c .before .before .before .before .before .before .before .before .before .before .before .before .before .before .before .before .before .before .before .before .before .before .before .before .before .before .before .before .before .before .before .before .before .before .before .before .before .before .before .before .before .before .before .before .before .before .good .1 .1 .1 .0)
 
 loop-less : tie.Need-loop-less Inv-loop μ-loop
-loop-less c = omega (arith, c .before .before .before .before .before .before .before .before .before .before .before .before .before .before .before .before .before .before .before .before .before .loop .inv .0, c .before .before .before .before .before .before .before .before .before .before .before .before .before .before .before .before .before .before .before .before .loop-test .taken)
+loop-less c = omega (arith, c .before .before .before .before .before .before .before .before .before .before .before .before .before .before .before .before .before .before .before .before .before .before .before .before .before .loop-test .taken)
 
 loop-again : tie.Need-loop-again Inv-loop μ-loop
 loop-again c =
-    let a = c .before .before .before .before .before .before .before .before .before .before .before .before .before .before .before .before .before .before .before .before .before .before .before .before .before .before .before .before .before .before .before .before .before .before .before .before .args in
-    let loop = c .before .before .before .before .before .before .before .before .before .before .before .before .before .before .before .before .before .before .before .before .before .loop in
-    let run = loop .inv .1 in
-    let turn = c .before .before .before .before .before .before .before .before .before .before .before .before .before .before .before .before .before .before .before .before .loop-test .taken in
-    let row = c .before .before .before .before .before .before .before .before .before .before .before .before .before .before .before .before .before .before .before .frame-at .ensures in
+    let a = c .before .before .before .before .before .before .before .before .before .before .before .before .before .before .before .before .before .before .before .before .before .before .before .before .before .before .before .before .before .before .before .before .before .before .before .before .before .before .before .before .before .before .before .before .before .before .args in
+    let loop = c .before .before .before .before .before .before .before .before .before .before .before .before .before .before .before .before .before .before .before .before .before .before .before .before .before .before .loop in
+    let run = loop .inv .0 in
+    let turn = c .before .before .before .before .before .before .before .before .before .before .before .before .before .before .before .before .before .before .before .before .before .before .before .before .before .loop-test .taken in
+    let row = c .before .before .before .before .before .before .before .before .before .before .before .before .before .before .before .before .before .before .before .before .before .before .before .before .frame-at .ensures in
     let long = frame-long _ _ _ _ turn (run .fit .bytes) row in
     let does =
-    planned base limit (a .pgns .now) (c .before .before .before .before .before .before .before .before .before .before .before .before .before .before .before .before .before .before .before .frame-at .result) (loop .q) (loop .c) (run .whole) long _ _ _ _ _ _ (c .before .before .before .before .before .before .before .before .before .before .before .before .before .before .before .before .before .walk2 .ensures) (c .before .before .before .before .before .before .before .before .before .before .before .before .before .before .before .before .is-listed .ensures) (c .before .before .before .before .before .before .before .before .before .before .before .before .before .before .before .place-for .ensures) (c .before .before .before .before .before .before .before .before .before .before .before .before .before .before .within-limit .ensures .0) (c .before .before .before .before .before .before .before .before .before .before .before .before .decide .ensures) in
+    seeks (a .pgns .now) (c .before .before .before .before .before .before .before .before .before .before .before .before .before .before .before .before .before .before .before .before .before .before .before .before .frame-at .result) (loop .q) (loop .c) (run .whole) long _ (loop .inv .1) (loop .keys) (loop .owners) (loop .lasts) (loop .inv .2) (c .before .before .before .before .before .before .before .before .before .before .before .before .before .before .before .before .before .before .before .before .key-of-frame .ensures .1) _ _ _ _ _ (c .before .before .before .before .before .before .before .before .before .before .before .before .before .before .before .before .before .before .before .before .before .looked-up .ensures .0) (c .before .before .before .before .before .before .before .before .before .before .before .before .before .before .before .before .before .before .before .before .key-of-frame .ensures .0) (c .before .before .before .before .before .before .before .before .before .before .before .before .before .before .before .before .seek .ensures) (c .before .before .before .before .before .before .before .before .before .before .before .before .before .before .before .within-limit .ensures .0) (c .before .before .before .before .before .before .before .before .before .before .before .before .before .decide .ensures) in
     let fits = does .fits in
-    let alone = apart base _ _ _ _ _ _ (c .before .before .before .before .before .before .before .before .before .before .before .before .decide .ensures) in (
-      refl,
-      goes-on base _ _ _ _ _ _ _ _ _ _ _ _ _ _ run turn _ row _ _ does _ (c .before .before .before .before .before .before .before .before .before .before .no-room .ensures) (c .before .before .before .before .before .before .before .before .before .if3 .left) (c .before .before .before .before .before .before .before .before .before .before .before .before .before .before .within-limit .ensures .1) long alone _ (c .before .before .before .before .carry .ensures .0) _ (c .before .before .before .before .carry .ensures .1) _ (c .before .count .ensures) _ (c .number-of .ensures),
+    let alone = apart base _ _ _ _ _ _ (c .before .before .before .before .before .before .before .before .before .before .before .before .before .decide .ensures) in
+    let low = c .before .before .before .before .before .before .before .before .before .before .before .before .before .before .before .within-limit .ensures .1 in
+    let stored = c .before .before .before .before .carry .ensures .0 in (
+      goes-on base _ _ _ _ _ _ _ _ _ _ _ _ _ _ run turn _ row _ _ does _ (c .before .before .before .before .before .before .before .before .before .before .before .no-room .ensures) (c .before .before .before .before .before .before .before .before .before .before .if3 .left) low long alone _ stored _ (c .before .before .before .before .carry .ensures .1) _ (c .before .count .ensures) _ (c .number-of .ensures),
+      stays-possible (a .pgns .now) (c .before .before .before .before .before .before .before .before .before .before .before .before .before .before .before .before .before .before .before .before .before .before .before .before .frame-at .result) (loop .q) (loop .c) (run .whole) long (c .before .before .before .before .before .before .before .before .before .before .before .before .before .before .before .before .before .before .before .before .key-of-frame .ensures .1 .byte) (loop .inv .1) _ _ does _ stored,
+      mirrors-set _ _ _ _ _ low _ _ _ _ (run .whole .heads) (loop .inv .2) (record { key = c .before .before .before .before .before .before .before .before .key-of .ensures .0; owner = refl; last = refl; range = c .before .before .before .before .before .before .before .before .key-of .ensures .1 }),
+      c .before .before .before .before .before .before .before .before .before .before .before .before .before .before .before .before .before .before .before .before .before .looked-up .ensures .1,
     )
 
 same-length-4 : tie.Need-same-length-4 Inv-loop μ-loop
-same-length-4 c = search (needs, c .before .loop .inv .1 .kinds)
+same-length-4 c = search (needs, c .before .loop .inv .0 .kinds)
 
 same-length-5 : tie.Need-same-length-5 Inv-loop μ-loop
-same-length-5 c = search (needs, c .before .loop .inv .1 .lengths)
+same-length-5 c = search (needs, c .before .loop .inv .0 .lengths)
 
 same-length-6 : tie.Need-same-length-6 Inv-loop μ-loop
-same-length-6 c = search (needs, c .before .loop .inv .1 .arena)
+same-length-6 c = search (needs, c .before .loop .inv .0 .arena)
 
 returns-4 : tie.Need-returns-4 Inv-loop μ-loop
 returns-4 c =
-    let a = c .before .before .before .before .before .before .before .before .before .before .before .before .before .before .before .before .args in
-    let all = c .before .loop .inv .0 in
+    let a = c .before .before .before .before .before .before .before .before .before .before .before .before .before .before .before .before .before .before .before .before .before .args in
     let past = c .loop-test .left in
     gives-run base (a .pgns .now) (record { times = a .times .now; pgns = a .frame-pgns .now; sources = a .sources .now; bytes = a .«data» .now }) (a .pool) (a .counters) (a .kinds .now) (a .lengths .now) (a .arena .now) _
-    (ap (λ (s : Found). s .bad) (c .before .before .before .before .before .walk .ensures) ∙ looked-at base _ (a .pool) limit) (c .before .before .before .before .if1 .left) _ (c .before .before .before .too-short .ensures) (c .before .before .if2 .left) _
-    (ends base _ _ _ _ _ _ _ _ _ _ _ _ _ _ (c .before .loop .inv .1) (omega (arith, all, past)))
+    (ap (λ (s : Found). s .bad) (c .before .before .before .before .before .before .before .before .before .before .walk .ensures) ∙ looked-at base _ (a .pool) limit) (c .before .before .before .before .before .before .before .before .before .if1 .left) _ (c .before .before .before .before .before .before .before .before .too-short .ensures) (c .before .before .before .before .before .before .before .if2 .left) _
+    (ends base _ _ _ _ _ _ _ _ _ _ _ _ _ _ (c .before .loop .inv .0) past)
 
 pub process-frames-spec : {M : Type 1} → statement M
 process-frames-spec =
@@ -199,11 +220,13 @@ process-frames-spec =
     returns
     (λ c κs. search needs)
     returns-2
+    (λ c κs. search needs)
+    (λ c κs. search needs)
     loop-holds
     frame-at-requires
+    looked-up-requires
     (λ c κs. search needs)
-    (λ c κs. search needs)
-    (λ c κs. search needs)
+    seek-requires
     (λ c κs. search needs)
     (λ c. search needs)
     (λ c. search needs)
@@ -214,6 +237,12 @@ process-frames-spec =
     same-length-2
     same-length-3
     returns-3
+    (λ c. search needs)
+    (λ c. search needs)
+    (λ c κs. search needs)
+    (λ c. search needs)
+    (λ c. search needs)
+    (λ c. search needs)
     (λ c. search needs)
     (λ c. search needs)
     carry-requires

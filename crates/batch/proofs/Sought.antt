@@ -1,0 +1,291 @@
+-- A search in the rows beside the heads comes to the place that the single call's walk finds, and where a frame takes no slot any place will do.
+-- Assumes nothing.
+use Prim.Native.Nat.{ℕ, zero, suc, _+_, _*_, _/_, _≤_, _<_}
+use mathlib.Core.Path.{_≡_, refl, sym, ap, subst, _∙_}
+use mathlib.Core.Bool.{Bool, true, false, not, _&&_, _||_}
+use mathlib.Core.Option.{Option, none, some}
+use mathlib.Core.List.{List, [], _∷_}
+use lib.ListN.{length, getD, take, drop, set}
+use lib.Seq.{paste, set-getD, getD-take, length-take-le}
+use lib.Dec.{eqb, ltb, leb}
+use native.Mathlib.Nat.{zero-add, add-zero}
+use native.Mathlib.Omega.{arith}
+use borrow.Author.Tests.{ltb-false, lt-ltb, le-ltb, le-leb, leb-true, leb-false, eqb-false, eq-eqb, ne-eqb}
+use Rattle.base.specs.Pick.{pick}
+use Rattle.base.specs.Lists.{next, here, firstAt}
+use Rattle.base.proofs.Cases.{same?}
+use Rattle.fast_packet.specs.FastPacket.{maxPayload, listedIn}
+use Rattle.session.specs.declared.Heard.{Heard}
+use Rattle.session.specs.declared.Head.{Head}
+use Rattle.session.specs.declared.Plan.{Plan}
+use Rattle.session.specs.declared.Kind.{Kind}
+use Rattle.session.specs.declared.Kind.the-variants.{Ignored, MessageComplete}
+use Rattle.session.specs.declared.Mark.{Mark}
+use Rattle.session.specs.declared.Mark.the-variants.{Nothing, Rejected, Unknown}
+use Rattle.session.specs.declared.Counters.{Counters}
+use Rattle.session.specs.Rules.{base, poolLimit, silence, keysEqual}
+use Rattle.session.specs.Frames.{sequenceOf, indexOf, sizeOf, badSize, keyOf}
+use Rattle.session.specs.Heads.{headKey, hasKey, isSilent, isFree, isFreeOfSource, hasLiveKey}
+use Rattle.session.specs.inner.Search.{seen, seenIf, seenIn, firstOf, placeOf, withinLimit}
+use Rattle.session.specs.inner.Plan.{idle, planShort, planSized, planFirst, planIndex, planListed, planOf}
+use Rattle.session.proofs.Sound.{or-left, or-right}
+use Rattle.session.proofs.Seen.{place, seen-key, seen-live, seen-own, seen-free}
+use Rattle.assembler.specs.declared.Pool.{Pool}
+use Rattle.assembler.specs.declared.Received.{Received}
+use Rattle.assembler.specs.Slots.{impossible}
+use Rattle.assembler.specs.Step.{step}
+use Rattle.assembler.specs.View.{slotsOf, shown, receiveOf}
+use Rattle.assembler.proofs.Copies.{copy-none}
+use Rattle.assembler.proofs.Views.{Whole, Sized, view-forth}
+use Rattle.assembler.proofs.ByCalls.{sized-view}
+use Rattle.assembler.proofs.Keeps.{keeps}
+use Rattle.assembler.proofs.Carries.{carried, Fits, Does, receives}
+use Rattle.batch.specs.inner.Mirror.{packed, keyNumber, frameKey, InRange, Shows, Mirrors, firstFrom, keyAt, openAt, ownAt, liveAt, chosenIn, liveIn, quiet, sought}
+use Rattle.batch.proofs.Runs.{looked-at}
+
+-- ---- a packed key tells its three parts apart
+
+module _ (s p b s′ p′ b′ : ℕ) (hp : p < 4294967296) (hb : b < 256) (hp′ : p′ < 4294967296) (hb′ : b′ < 256) where
+  same-source : packed s p b ≡ packed s′ p′ b′ → s ≡ s′
+  unfolding packed
+  same-source e = omega (arith, e)
+
+  same-pgn : packed s p b ≡ packed s′ p′ b′ → p ≡ p′
+  unfolding packed
+  same-pgn e = omega (arith, e)
+
+  same-byte : packed s p b ≡ packed s′ p′ b′ → b ≡ b′
+  unfolding packed
+  same-byte e = omega (arith, e)
+
+  packed-test : eqb (packed s p b) (packed s′ p′ b′) ≡ (eqb s s′ && eqb p p′ && eqb b b′)
+  packed-test =
+      same? s s′
+      (λ es. same? p p′
+      (λ ep. same? b b′
+      (λ eb. rw (eq-eqb s s′ es, eq-eqb p p′ ep, eq-eqb b b′ eb) (eq-eqb (packed s p b) (packed s′ p′ b′) (rw (es, ep, eb))))
+      (λ nb. rw (eq-eqb s s′ es, eq-eqb p p′ ep, ne-eqb b b′ nb) (ne-eqb (packed s p b) (packed s′ p′ b′) (λ e. nb (same-byte e)))))
+      (λ np. rw (eq-eqb s s′ es, ne-eqb p p′ np) (ne-eqb (packed s p b) (packed s′ p′ b′) (λ e. np (same-pgn e)))))
+      (λ ns. rw (ne-eqb s s′ ns) (ne-eqb (packed s p b) (packed s′ p′ b′) (λ e. ns (same-source e))))
+
+idle-test : (s p b : ℕ) → eqb 0 (packed s p b) ≡ false
+unfolding packed
+idle-test s p b = ne-eqb 0 (s * 1099511627776 + p * 256 + b + 1) (λ e. absurd (omega (arith, e)))
+
+busy-test : (s p b : ℕ) → eqb (packed s p b) 0 ≡ false
+unfolding packed
+busy-test s p b = ne-eqb (s * 1099511627776 + p * 256 + b + 1) 0 (λ e. absurd (omega (arith, e)))
+
+-- ---- the tests of a place are those of its head
+
+module _ (f : Heard) (h : Head) (k o t : ℕ) (s : Shows h k o t) where
+  shown-key : InRange (f .pgn) (getD (f .«data») 0 0) → eqb k (frameKey f) ≡ hasKey base f h
+  unfolding hasKey base keysEqual headKey keyOf keyNumber frameKey pick
+  shown-key r = go (h .«in_progress») refl
+    where
+      go : (b : Bool) → h .«in_progress» ≡ b → eqb k (frameKey f) ≡ hasKey base f h
+      go true e =
+          let low : sequenceOf f < 256 = unfold sequenceOf in omega (arith, r .byte) in
+          rw (s .key, e) (packed-test (h .«source_address») (h .pgn) (h .«sequence_id») (f .«source_address») (f .pgn) (sequenceOf f) (s .range .pgn) (s .range .byte) (r .pgn) low)
+      go false e = rw (s .key, e) (idle-test (f .«source_address») (f .pgn) (sequenceOf f))
+
+  shown-silent : silence (f .«now_ms») t ≡ isSilent base f h
+  unfolding isSilent base
+  shown-silent = rw (s .last)
+
+  idle-key : eqb k 0 ≡ not (h .«in_progress»)
+  unfolding keyNumber pick
+  idle-key = go (h .«in_progress») refl
+    where
+      go : (b : Bool) → h .«in_progress» ≡ b → eqb k 0 ≡ not (h .«in_progress»)
+      go true e = rw (s .key, e) (busy-test (h .«source_address») (h .pgn) (h .«sequence_id»))
+      go false e = rw (s .key, e)
+
+  shown-open : (eqb k 0 || silence (f .«now_ms») t) ≡ isFree base f h
+  unfolding isFree
+  shown-open = rw (idle-key, shown-silent)
+
+  shown-own : ((eqb k 0 || silence (f .«now_ms») t) && eqb o (f .«source_address»)) ≡ isFreeOfSource base f h
+  unfolding isFreeOfSource
+  shown-own = rw (shown-open, s .owner)
+
+  shown-live : InRange (f .pgn) (getD (f .«data») 0 0) → (eqb k (frameKey f) && not (silence (f .«now_ms») t)) ≡ hasLiveKey base f h
+  unfolding hasLiveKey
+  shown-live r = rw (shown-key r, shown-silent)
+
+-- ---- the walk over places is the search over heads
+
+ixed : ℕ → Option ℕ → ℕ
+ixed i none = poolLimit
+ixed i (some j) = i + j
+
+ixed-here : (b : Bool) (i : ℕ) (o : Option ℕ) → pick b i (ixed (suc i) o) ≡ ixed i (here b o)
+unfolding pick ixed here next
+ixed-here true i o = sym (add-zero i)
+ixed-here false i none = refl
+ixed-here false i (some j) = omega arith
+
+ixed-place : (o : Option ℕ) → ixed 0 o ≡ place o
+unfolding ixed place
+ixed-place none = refl
+ixed-place (some j) = zero-add j
+
+from-first : (t : ℕ → Bool) (u : Head → Bool) (d : Head) (hs : List Head) (i : ℕ) → ((j : ℕ) → j < length hs → t (i + j) ≡ u (getD hs j d)) → firstFrom t i (length hs) ≡ ixed i (firstAt u hs)
+unfolding firstFrom firstAt ixed
+from-first t u d [] i same = refl
+from-first t u d (h ∷ hs) i same =
+    let at : t i ≡ u h = rw (add-zero i) at (same 0 (omega arith)) in
+    let rest = from-first t u d hs (suc i) (λ j l. let k : suc i + j ≡ i + suc j = omega arith in rw k (same (suc j) (omega arith))) in
+    rw (at, rest) (ixed-here (u h) i (firstAt u hs))
+
+module _ (f : Heard) (n : ℕ) (hs : List Head) (ks os ts : List ℕ) (long : length hs ≡ poolLimit) (small : n ≤ poolLimit) (m : Mirrors poolLimit hs ks os ts) (r : InRange (f .pgn) (getD (f .«data») 0 0)) (d : Head) where
+  one : (t : ℕ → Bool) (u : Head → Bool) → ((j : ℕ) → j < poolLimit → t j ≡ u (getD hs j d)) → firstFrom t 0 n ≡ place (firstAt u (take n hs))
+  one t u same =
+      let all : length (take n hs) ≡ n = length-take-le n hs (omega (arith, long)) in
+      ap (firstFrom t 0) (sym all)
+      ∙ from-first t u d (take n hs) 0 (λ j l. rw (zero-add j, getD-take n hs j d (omega (arith, all))) (same j (omega (arith, all))))
+      ∙ ixed-place (firstAt u (take n hs))
+
+  seen-here : seenIn base f n hs ≡ seen base f 0 (take n hs)
+  unfolding seenIn seenIf
+  seen-here = rw (le-ltb poolLimit n small)
+
+  chosen-is : chosenIn ks os ts n (frameKey f) (f .«source_address») (f .«now_ms») ≡ firstOf (seenIn base f n hs .key) (firstOf (seenIn base f n hs .own) (seenIn base f n hs .free))
+  unfolding chosenIn
+  chosen-is =
+      rw (
+        seen-here,
+        seen-key base f (take n hs),
+        seen-own base f (take n hs),
+        seen-free base f (take n hs),
+        one (keyAt ks (frameKey f)) (hasKey base f) (λ j l. unfold keyAt in shown-key f (getD hs j d) _ _ _ (m .at j d l) r),
+        one (ownAt ks os ts (f .«source_address») (f .«now_ms»)) (isFreeOfSource base f) (λ j l. unfold ownAt openAt in shown-own f (getD hs j d) _ _ _ (m .at j d l)),
+        one (openAt ks ts (f .«now_ms»)) (isFree base f) (λ j l. unfold openAt in shown-open f (getD hs j d) _ _ _ (m .at j d l)),
+      )
+
+  live-is : liveIn ks ts n (frameKey f) (f .«now_ms») ≡ seenIn base f n hs .live
+  unfolding liveIn
+  live-is =
+      rw (seen-here, seen-live base f (take n hs))
+      (one (liveAt ks ts (frameKey f) (f .«now_ms»)) (hasLiveKey base f) (λ j l. unfold liveAt in shown-live f (getD hs j d) _ _ _ (m .at j d l) r))
+
+-- ---- where a frame takes no slot, the plan may be carried out at any place
+
+module _ (f : Heard) (p : Pool) (k : Counters) (e : Head) where
+  -- a plan that leaves the head as it is, and copies nothing to its buffer
+  record Still (plan : Head → Plan) : Type 0 where
+    same : (g g′ : ℕ) → carried (plan (getD (p .heads) g e)) g f p k ≡ carried (plan (getD (p .heads) g′ e)) g′ f p k
+    fits : (h h′ : Head) → Fits (plan h) → Fits (plan h′)
+
+  moves : {plan : Head → Plan} {a : Received} → Still plan → (g g′ : ℕ) → Does f p k (plan (getD (p .heads) g e)) g a → Does f p k (plan (getD (p .heads) g′ e)) g′ a
+  moves s g g′ does = record { fits = s .fits _ _ (does .fits); is = s .same g′ g ∙ does .is }
+
+  still-idle : (kind : Kind) (mark : Mark) → Still (idle kind mark)
+  still-idle kind mark =
+      record {
+        same = λ g g′. unfold idle carried in rw (set-getD (p .heads) g e, set-getD (p .heads) g′ e, sym (copy-none (p .bytes) (g * 223 + 0)), sym (copy-none (p .bytes) (g′ * 223 + 0)));
+        fits = λ h h′ x. unfold idle in record { room = x .room; there = x .there; whole = x .whole; short = x .short; total = x .total };
+      }
+
+  still-short : (t : Bool) → Still (planShort true t base f)
+  still-short t =
+      record {
+        same = λ g g′. unfold planShort carried in rw (set-getD (p .heads) g e, set-getD (p .heads) g′ e, sym (copy-none (p .bytes) (g * 223 + 0)), sym (copy-none (p .bytes) (g′ * 223 + 0)));
+        fits = λ h h′ x. unfold planShort in record { room = x .room; there = x .there; whole = x .whole; short = x .short; total = x .total };
+      }
+
+-- ---- the search's place carries the frame out
+
+limit : base .limit ≡ poolLimit
+unfolding base
+limit = refl
+
+pub small-of : (p : Pool) → impossible base (slotsOf p) ≡ false → p .size ≤ poolLimit
+unfolding impossible slotsOf base
+small-of p fine = ltb-false poolLimit (p .size) (or-left (ltb poolLimit (p .size)) _ fine)
+
+module _ (l : List ℕ) (f : Heard) (p : Pool) (k : Counters) (w : Whole p) (eight : length (f .«data») ≡ 8) (e : Head) (fine : impossible base (slotsOf p) ≡ false) (ks os ts : List ℕ) (m : Mirrors poolLimit (p .heads) ks os ts)
+    (r : InRange (f .pgn) (getD (f .«data») 0 0)) where
+  -- with a possible pool, the plan made at place i and carried out there is the call
+  abbrev At : Bool → ℕ → Type 0
+  At t i = Does f p k (planOf false t (ltb i poolLimit) base f (getD (p .heads) (withinLimit i) e)) (withinLimit i) (receiveOf base l f p k)
+
+  abbrev real : ℕ
+  real = placeOf f (seenIn base f (p .size) (p .heads))
+
+  at-real : (t : Bool) → t ≡ listedIn (f .pgn) l → At t real
+  at-real t et =
+      rw et
+      (subst (λ (b : Bool). Does f p k (planOf b (listedIn (f .pgn) l) (ltb real poolLimit) base f (getD (p .heads) (withinLimit real) e)) (withinLimit real) (receiveOf base l f p k))
+      (looked-at base f p limit ∙ fine) (receives base f p k w eight e l limit))
+
+  at-unlisted : (i : ℕ) → At false real → At false i
+  unfolding planOf planListed
+  at-unlisted i x = moves f p k e (still-idle f p k e Ignored Unknown) (withinLimit real) (withinLimit i) x
+
+  at-rejected : (i : ℕ) → eqb (indexOf f) 0 ≡ true → badSize f ≡ true → At true real → At true i
+  unfolding planOf planListed planIndex planFirst planSized
+  at-rejected i z b x = rw (z, b) (moves f p k e (still-idle f p k e Ignored Rejected) (withinLimit real) (withinLimit i) (rw (z, b) at x))
+
+  at-short : (i : ℕ) → eqb (indexOf f) 0 ≡ true → badSize f ≡ false → leb (sizeOf f) 6 ≡ true → At true real → At true i
+  unfolding planOf planListed planIndex planFirst planSized planShort
+  at-short i z b s x = rw (z, b, s) (moves f p k e (still-short f p k e true) (withinLimit real) (withinLimit i) (rw (z, b, s) at x))
+
+  quiet-short : badSize f ≡ false → quiet f ≡ true → leb (sizeOf f) 6 ≡ true
+  unfolding badSize quiet
+  quiet-short b y = go (leb (sizeOf f) 6) y
+    where
+      go : (t : Bool) → (t || ltb maxPayload (sizeOf f)) ≡ true → t ≡ true
+      go true h = refl
+      go false h = sym (or-right (eqb (sizeOf f) 0) _ b) ∙ h
+
+  at-quiet : (i : ℕ) → eqb (indexOf f) 0 ≡ true → quiet f ≡ true → At true real → At true i
+  at-quiet i z y x = go (badSize f) refl
+    where
+      go : (b : Bool) → badSize f ≡ b → At true i
+      go true b = at-rejected i z b x
+      go false b = at-short i z b (quiet-short b y) x
+
+  real-first : eqb (indexOf f) 0 ≡ true → chosenIn ks os ts (p .size) (frameKey f) (f .«source_address») (f .«now_ms») ≡ real
+  unfolding placeOf pick
+  real-first z = rw z (chosen-is f (p .size) (p .heads) ks os ts (w .heads) (small-of p fine) m r e)
+
+  real-next : eqb (indexOf f) 0 ≡ false → liveIn ks ts (p .size) (frameKey f) (f .«now_ms») ≡ real
+  unfolding placeOf pick
+  real-next z = rw z (live-is f (p .size) (p .heads) ks os ts (w .heads) (small-of p fine) m r e)
+
+  at-index : (b : Bool) → eqb (indexOf f) 0 ≡ b → (y : Bool) → quiet f ≡ y → At true real
+      → At true (pick b (pick y poolLimit (chosenIn ks os ts (p .size) (frameKey f) (f .«source_address») (f .«now_ms»))) (liveIn ks ts (p .size) (frameKey f) (f .«now_ms»)))
+  unfolding pick
+  at-index true z true q x = at-quiet poolLimit z q x
+  at-index true z false q x = subst (At true) (sym (real-first z)) x
+  at-index false z y q x = subst (At true) (sym (real-next z)) x
+
+  at-sought : (t : Bool) → t ≡ listedIn (f .pgn) l → At t (sought ks os ts (p .size) t (frameKey f) f)
+  unfolding sought pick
+  at-sought true et = at-index (eqb (indexOf f) 0) refl (quiet f) refl (at-real true et)
+  at-sought false et = at-unlisted poolLimit (at-real false et)
+
+  -- as the code comes by it
+  pub seeks : (t : Bool) (key i g : ℕ) (d : Plan) → t ≡ listedIn (f .pgn) l → key ≡ frameKey f → i ≡ sought ks os ts (p .size) t key f → g ≡ withinLimit i
+      → d ≡ planOf false t (ltb i poolLimit) base f (getD (p .heads) g e) → Does f p k d g (receiveOf base l f p k)
+  seeks t key i g d et ek ei eg ed =
+      let at : i ≡ sought ks os ts (p .size) t (frameKey f) f = ei ∙ rw ek in
+      rw (ed, eg, at) (at-sought t et)
+
+-- ---- a possible pool stays possible
+
+module _ (l : List ℕ) (f : Heard) (p : Pool) (k : Counters) (w : Whole p) (eight : length (f .«data») ≡ 8) (byte : getD (f .«data») 0 0 < 256) (fine : impossible base (slotsOf p) ≡ false) where
+  call-possible : impossible base (slotsOf (receiveOf base l f p k .pool)) ≡ false
+  unfolding receiveOf shown
+  call-possible =
+      let kept = keeps base (slotsOf p) k (record { pgns = l; heard = f }) (record { eight = eight; byte = byte }) fine in
+      let all : Sized (slotsOf p .slots) = unfold slotsOf in sized-view (p .heads) (p .bytes) (omega (arith, w .heads, w .bytes)) in
+      rw (view-forth (step base (slotsOf p) k (record { pgns = l; heard = f }) .pool) (kept .sized all)) (kept .possible)
+
+  pub stays-possible : (d : Plan) (g : ℕ) → Does f p k d g (receiveOf base l f p k) → (bs : List ℕ) → bs ≡ paste (p .bytes) (g * 223 + d .at) (drop (d .from) (f .«data»)) (d .count)
+      → impossible base (slotsOf (record { size = p .size; heads = set (p .heads) g (d .head); bytes = bs })) ≡ false
+  unfolding carried
+  stays-possible d g does bs eb =
+      let after : record { size = p .size; heads = set (p .heads) g (d .head); bytes = bs } ≡ receiveOf base l f p k .pool = rw eb (ap (λ (a : Received). a .pool) (does .is)) in
+      rw after call-possible
