@@ -4,3 +4,4 @@ pub mod Paired
 pub mod Totals
 pub mod Fills
 pub mod Any
+pub mod Laying

@@ -14,14 +14,15 @@ use borrow.Author.Needs.{zero≤}
 use lib.Dec.{eqb, ltb}
 use lib.ListN.{length, getD, take, drop, length-append, length-drop, drop-of-length-le}
 use lib.Seq.{sets, length-take-le, take-all, drop-drop, take-append-add, drop-append-add}
-use Rattle.base.specs.Answer.{Answer, gives, refuses}
+use Rattle.base.specs.Answer.{Answer, gives, refuses, counted}
 use Rattle.base.specs.Pick.{pick}
 use Rattle.base.proofs.Cases.{tested, less?, same?, when-eq, when-ne, when-lt, when-ge, when-true, when-false}
-use Rattle.oracle.specs.Frames.{isOther, indexOf, sequenceOf, eight, bytesOf}
+use Rattle.splitter.specs.Frames.{eight, bytesOf}
+use Rattle.oracle.specs.Ids.{isOther, indexOf, sequenceOf}
 use Rattle.oracle.specs.Strict.{Message, Open, Outcome, refused, waits, whole, oddOf, collectedAt, firstFrame, laterFrame, outcomeOf, before, thenOf, endOf, messagesFrom, messagesOf, payloadsOf, listFrom, roomFor, deliveredTo, arenaWith, listWith}
-use Rattle.oracle.specs.Numbers.{numberOf, valuesOf, ofReassembled, counted}
+use Rattle.oracle.specs.Numbers.{numberOf, valuesOf, ofReassembled}
 use Rattle.oracle.specs.inner.Scan.{headOf, missingOf, paddingOf, firstOf, laterOf, faultOf, skipped, refusedAt, taken, isRefused, stepOn, stepOf, scanOf, startOf, Counted, addedOf, rowOf, bytesLaid, rowsLaid, refusalOf, verdictOf, isNone}
-use Rattle.oracle.specs.declared.Frame.{Frame}
+use Rattle.splitter.specs.declared.Frame.{Frame}
 use Rattle.oracle.specs.declared.Scan.{Scan}
 use Rattle.oracle.specs.declared.Fault.{Fault}
 use Rattle.oracle.specs.declared.Fault.the-variants.{Length, Restarted, Announced, Stray, Order, Padding}
@@ -29,6 +30,7 @@ use Rattle.oracle.specs.declared.Standing.{Standing}
 use Rattle.oracle.specs.declared.Standing.the-variants.{Clear, At}
 use Rattle.oracle.specs.declared.Reassembled.{Reassembled}
 use Rattle.oracle.specs.declared.Reassembled.the-variants.{Messages, Refused, Incomplete, NoRoom}
+use Rattle.splitter.proofs.FrameLaws.{eight-long}
 use Rattle.oracle.proofs.Grows.{head-low, head-high, added-end}
 
 -- ---- what the code knows of an open message: all but its bytes
@@ -404,10 +406,6 @@ module _ (s : Scan) (f : Frame) (fs : List Frame) (rest : Rest fs) (clear : s .f
         stops-on s f fs e q (subst (λ (u : Scan). Stops u k vs) (sym (stays fs (refusedAt s (At (d .why))) refl)) (by-fault (d .why) refl (d .number) (d .values)))
     outcome-tells (waits o) d = wait-tells o d (messagesFrom (s .source) (s .pgn) (s .n + 1) (some o) fs) (rest (taken s (bytesOf f)) (some o) clear (d .shows))
     outcome-tells (whole m) d = whole-tells m d (messagesFrom (s .source) (s .pgn) (s .n + 1) none fs) (rest (taken s (bytesOf f)) none clear (d .shut))
-
-pub eight-long : (bs : List ℕ) → length (eight bs) ≡ 8
-unfolding eight
-eight-long bs = refl
 
 pub row-tells : (fs : List Frame) → Rest fs
 unfolding messagesFrom endOf payloadsOf listFrom

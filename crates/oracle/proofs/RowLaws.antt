@@ -6,10 +6,10 @@ use native.Mathlib.Nat.{add-zero}
 use native.Mathlib.Omega.{arith}
 use lib.ListN.{length, getD, drop}
 use lib.Seq.{sets, getD-drop}
-use Rattle.oracle.specs.Frames.{eight, frameIn, framesIn, countIn, rowIn}
+use Rattle.splitter.specs.Frames.{eight, frameIn, framesIn, countIn, rowIn}
 use Rattle.oracle.specs.inner.Scan.{stepOf, scanOf, addedOf, rowOf, bytesLaid, rowsLaid, Counted, Small}
 use Rattle.oracle.specs.inner.Tx.{txOf, txAll}
-use Rattle.oracle.specs.declared.Frame.{Frame}
+use Rattle.splitter.specs.declared.Frame.{Frame}
 use Rattle.oracle.specs.declared.Scan.{Scan}
 use Rattle.oracle.specs.declared.Tx.{Tx}
 use Rattle.oracle.proofs.Grows.{counts, arena-more, list-more}

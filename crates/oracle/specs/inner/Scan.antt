@@ -5,9 +5,10 @@ use mathlib.Core.List.{List, [], _∷_, _++_}
 use lib.ListN.{length, getD, take, drop}
 use lib.Dec.{eqb, ltb}
 use Rattle.base.specs.Pick.{pick}
-use Rattle.oracle.specs.Frames.{isOther, indexOf, sequenceOf, bytesOf}
+use Rattle.splitter.specs.Frames.{bytesOf}
+use Rattle.oracle.specs.Ids.{isOther, indexOf, sequenceOf}
 use Rattle.oracle.specs.Strict.{oddOf}
-use Rattle.oracle.specs.declared.Frame.{Frame}
+use Rattle.splitter.specs.declared.Frame.{Frame}
 use Rattle.oracle.specs.declared.Scan.{Scan}
 use Rattle.oracle.specs.declared.Reassembled.{Reassembled}
 use Rattle.oracle.specs.declared.Reassembled.the-variants.{Messages, Refused, Incomplete, NoRoom}

@@ -6,10 +6,10 @@ use lib.ListN.{length, getD, take, drop, replicate}
 use lib.Seq.{sets}
 use lib.Dec.{eqb, ltb}
 use Rattle.base.specs.Pick.{pick}
-use Rattle.oracle.specs.Frames.{isOther}
+use Rattle.oracle.specs.Ids.{isOther}
 use Rattle.oracle.specs.Check.{hoursOf, offFrom}
 use Rattle.oracle.specs.inner.Scan.{stepOf, addedOf, startOf, isRefused}
-use Rattle.oracle.specs.declared.Frame.{Frame}
+use Rattle.splitter.specs.declared.Frame.{Frame}
 use Rattle.oracle.specs.declared.Scan.{Scan}
 use Rattle.oracle.specs.declared.Tx.{Tx}
 use Rattle.oracle.specs.declared.Checked.{Checked}

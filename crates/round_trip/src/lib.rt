@@ -1,0 +1,2 @@
+// Strict reassembly accepts exactly the splitter's frames: theorems about the definitions of `splitter` and `oracle`. No code.
+pub const NONE: usize = 0;

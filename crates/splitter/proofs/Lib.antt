@@ -1,0 +1,5 @@
+pub mod FrameLaws
+pub mod SplitLaws
+pub mod Types
+pub mod Walked
+pub mod Unique

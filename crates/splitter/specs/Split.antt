@@ -1,0 +1,82 @@
+-- The splitter, as document 01 has it under "The bench": a payload is laid out by step 6 of "Building frames", index from 0.
+use Prim.Native.Nat.{ℕ, zero, suc, _+_, _-_, _*_, _/_, _%_}
+use mathlib.Core.List.{List, [], _∷_, _++_}
+use lib.ListN.{length, drop}
+use lib.Seq.{sets}
+use lib.Dec.{eqb, ltb}
+use Rattle.base.specs.Answer.{Answer, gives, refuses}
+use Rattle.base.specs.Pick.{pick}
+use Rattle.base.specs.Lists.{fill}
+use Rattle.splitter.specs.Frames.{bytesOf}
+use Rattle.splitter.specs.declared.Frame.{Frame}
+use Rattle.splitter.specs.declared.Split.{Split}
+use Rattle.splitter.specs.declared.Split.the-variants.{Frames, BadSplit, Short}
+
+-- "byte 0 is (sequence modulo 8) times 32 plus (index modulo 32). If no byte was sent, byte 1 is the length and up to 6 bytes follow;
+-- else up to 7 follow byte 0. The rest is 0xFF": 7 × index - 1 bytes were sent
+unfoldable pub bytesAt : ℕ → List ℕ → ℕ → List ℕ
+bytesAt sequence payload index =
+    (sequence % 8 * 32 + index % 32) ∷
+    pick (eqb index 0) (length payload ∷ fill 6 payload) (fill 7 (drop (7 * index - 1) payload))
+
+-- "and the length is 8"
+unfoldable pub frameAt : ℕ → ℕ → List ℕ → ℕ → Frame
+frameAt id sequence payload index = record { id = id; «data» = bytesAt sequence payload index; len = 8 }
+
+-- n frames from an index on
+abbrev pub framesFrom : ℕ → ℕ → List ℕ → ℕ → ℕ → List Frame
+framesFrom id sequence payload index zero = []
+framesFrom id sequence payload index (suc n) = frameAt id sequence payload index ∷ framesFrom id sequence payload (suc index) n
+
+-- the first frame has up to 6 bytes, and each other up to 7
+abbrev pub countOf : ℕ → ℕ
+countOf size = size / 7 + 1
+
+-- all frames of a payload
+abbrev pub framesOf : ℕ → ℕ → List ℕ → List Frame
+framesOf id sequence payload = framesFrom id sequence payload 0 (countOf (length payload))
+
+-- "refusal 28 if the payload is not 1..223 bytes or the sequence is over 7; 27 if the row is too short"; else the frames
+unfoldable pub splitOf : ℕ → ℕ → List ℕ → ℕ → Answer (List Frame)
+splitOf id sequence payload room =
+    pick (eqb (length payload) 0) (refuses 28 [])
+    (pick (ltb 223 (length payload)) (refuses 28 [])
+    (pick (ltb 7 sequence) (refuses 28 [])
+    (pick (ltb room (countOf (length payload))) (refuses 27 [])
+    (gives (framesOf id sequence payload)))))
+
+-- this paper's number and values for each answer: "27, 28: no room; bad split: nothing"
+unfoldable pub ofSplit : Split → Answer ℕ
+ofSplit (Frames n) = gives n
+ofSplit BadSplit = refuses 28 []
+ofSplit Short = refuses 27 []
+
+-- "rows past them keep their contents"; a refusal writes nothing
+unfoldable pub rowWith : Answer (List Frame) → List Frame → List Frame
+rowWith (gives fs) row = sets row 0 fs
+rowWith (refuses k vs) row = row
+
+-- ---- the same in separate slices: identifiers, eight bytes a frame, lengths
+unfoldable pub idsOf : List Frame → List ℕ
+idsOf [] = []
+idsOf (f ∷ fs) = f .id ∷ idsOf fs
+
+unfoldable pub bytesAll : List Frame → List ℕ
+bytesAll [] = []
+bytesAll (f ∷ fs) = bytesOf f ++ bytesAll fs
+
+unfoldable pub lensOf : List Frame → List ℕ
+lensOf [] = []
+lensOf (f ∷ fs) = f .len ∷ lensOf fs
+
+unfoldable pub idsWith : Answer (List Frame) → List ℕ → List ℕ
+idsWith (gives fs) ids = sets ids 0 (idsOf fs)
+idsWith (refuses k vs) ids = ids
+
+unfoldable pub bytesWith : Answer (List Frame) → List ℕ → List ℕ
+bytesWith (gives fs) bytes = sets bytes 0 (bytesAll fs)
+bytesWith (refuses k vs) bytes = bytes
+
+unfoldable pub lensWith : Answer (List Frame) → List ℕ → List ℕ
+lensWith (gives fs) lens = sets lens 0 (lensOf fs)
+lensWith (refuses k vs) lens = lens

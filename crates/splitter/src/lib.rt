@@ -1,0 +1,269 @@
+// The bench's frames, and the splitter that makes them of a payload, byte by byte: the injection side. It shares no code with the builder.
+ghost use mathlib.Core.Path.{_≡_};
+ghost use Prim.Native.Nat.{_<_, _≤_, _+_, _*_, _/_, min};
+ghost use lib.ListN.{length, take, getD};
+ghost use lib.Seq.{sets};
+ghost use Rattle.base.specs.Answer.{counted};
+ghost use Rattle.splitter.specs.Frames.{countIn};
+ghost use Rattle.splitter.specs.Split.{countOf, splitOf, ofSplit, rowWith, idsOf, bytesAll, lensOf, idsWith, bytesWith, lensWith};
+ghost use Rattle.splitter.specs.inner.Job.{toldOf, isUnsplit, Made, frameOf, afterOne, jobEnd, jobFrames};
+
+// Maximum payload a Fast Packet can transport once reassembled. The bench has its own, as it shares no code with what it judges.
+const MAX_FAST_PACKET_PAYLOAD: usize = 223;
+
+// What fills the bytes of a frame that carry nothing.
+const FILL: u8 = 0xFF;
+
+// A frame's bytes: all of them, or the frame is refused.
+const FRAME_BYTES: usize = 8;
+
+// Byte 0 of a frame is the sequence times this, plus the index.
+const INDICES: u8 = 32;
+
+// Sequences count modulo this.
+const SEQUENCES: u8 = 8;
+
+// The greatest sequence.
+const LAST_SEQUENCE: u8 = 7;
+
+// A first frame has its length and six bytes; any other has up to this many.
+const LATER_BYTES: usize = 7;
+
+// A captured or injected frame: identifier, bytes and length.
+pub struct Frame {
+    pub id: u32,
+    pub data: [u8; 8],
+    pub len: usize,
+}
+
+fn wide(x: u8) -> usize
+    ensures { λ r. ⌜ (r ≡ x) × (r < 256) ⌝ }
+{
+    x as usize
+}
+
+// What the splitter answers: the number of frames, or why there is none.
+pub enum Split {
+    Frames(usize),
+    BadSplit,
+    Short,
+}
+
+// A payload that is being laid out, with the index of its next frame.
+struct Job {
+    pub id: u32,
+    pub sequence: u8,
+    pub index: u8,
+    pub size: u8,
+    pub payload: [u8; 256],
+}
+
+fn split_of(sequence: u8, size: usize, room: usize) -> Split
+    ensures { λ r. ⌜ r ≡ toldOf sequence size room ⌝ }
+{
+    if size == 0 {
+        return Split::BadSplit;
+    }
+    if MAX_FAST_PACKET_PAYLOAD < size {
+        return Split::BadSplit;
+    }
+    if LAST_SEQUENCE < sequence {
+        return Split::BadSplit;
+    }
+    if room < size / LATER_BYTES + 1 {
+        return Split::Short;
+    }
+    Split::Frames(size / LATER_BYTES + 1)
+}
+
+fn unsplit(s: Split) -> bool
+    ensures { λ r. ⌜ r ≡ isUnsplit s ⌝ }
+{
+    match s {
+        Split::Frames(_) => false,
+        Split::BadSplit => true,
+        Split::Short => true,
+    }
+}
+
+fn count_of(size: usize) -> usize
+    requires { ⌜ size ≤ 223 ⌝ }
+    ensures { λ r. ⌜ r ≡ countOf size ⌝ }
+{
+    size / LATER_BYTES + 1
+}
+
+fn new_job(id: u32, sequence: u8, payload: &[u8]) -> Job
+    requires { ⌜ length (now payload) ≤ 223 ⌝ }
+    ensures { λ r. ⌜ Made id sequence (now (payload .entry)) r ⌝ }
+{
+    let mut out = [0; 256];
+    let mut i = 0;
+    while i < payload.len() {
+        out[i] = payload[i];
+        i = i + 1;
+    }
+    Job {
+        id,
+        sequence,
+        index: 0,
+        size: i as u8,
+        payload: out,
+    }
+}
+
+fn byte(bytes: [u8; 256], size: u8, at: usize) -> u8
+    ensures { λ r. ⌜ r ≡ getD (take size bytes) at 255 ⌝ }
+{
+    let count = wide(size);
+    if at < count { bytes[at] } else { FILL }
+}
+
+fn frame_of(j: Job) -> Frame
+    ensures { λ r. ⌜ r ≡ frameOf j ⌝ }
+{
+    let b = j.payload;
+    let h = j.sequence % SEQUENCES * INDICES + j.index % INDICES;
+    if j.index == 0 {
+        return Frame {
+            id: j.id,
+            data: [
+                h,
+                j.size,
+                byte(b, j.size, 0),
+                byte(b, j.size, 1),
+                byte(b, j.size, 2),
+                byte(b, j.size, 3),
+                byte(b, j.size, 4),
+                byte(b, j.size, 5),
+            ],
+            len: FRAME_BYTES,
+        };
+    }
+    let s = LATER_BYTES * wide(j.index) - 1;
+    Frame {
+        id: j.id,
+        data: [
+            h,
+            byte(b, j.size, s),
+            byte(b, j.size, s + 1),
+            byte(b, j.size, s + 2),
+            byte(b, j.size, s + 3),
+            byte(b, j.size, s + 4),
+            byte(b, j.size, s + 5),
+            byte(b, j.size, s + 6),
+        ],
+        len: FRAME_BYTES,
+    }
+}
+
+fn after_one(j: Job) -> Job
+    ensures { λ r. ⌜ r ≡ afterOne j ⌝ }
+{
+    let mut k = j;
+    k.index = std::num::wrapping_add_u8(j.index, 1);
+    k
+}
+
+fn lay(row: &mut [Frame], start: Job, n: usize) -> Job
+    requires { ⌜ n ≤ length (now row) ⌝ }
+    ensures { λ r. ⌜ (r ≡ jobEnd n start) × (now (row .exit) ≡ sets (now (row .entry)) 0 (jobFrames n start)) ⌝ }
+{
+    let mut st = start;
+    let mut i = 0;
+    while i < n {
+        let f = frame_of(st);
+        row[i] = f;
+        st = after_one(st);
+        i = i + 1;
+    }
+    st
+}
+
+// Splits a payload into Fast Packet frames of an identifier, in the lent row.
+pub fn fast_packet_frames(id: u32, sequence: u8, payload: &[u8], row: &mut [Frame]) -> Split
+    ensures { λ r. ⌜ (ofSplit r ≡ counted (splitOf id sequence (now (payload .entry)) (length (now (row .entry)))))
+        × (now (row .exit) ≡ rowWith (splitOf id sequence (now (payload .entry)) (length (now (row .entry)))) (now (row .entry))) ⌝ }
+{
+    let s = split_of(sequence, payload.len(), row.len());
+    if unsplit(s) {
+        return s;
+    }
+    let j = new_job(id, sequence, payload);
+    let n = count_of(payload.len());
+    let e = lay(row, j, n);
+    s
+}
+
+// ---- the same in separate slices: frame i has the identifier at i, the eight bytes from 8 * i on, and the length at i
+
+fn lesser(a: usize, b: usize) -> usize
+    ensures { λ r. ⌜ r ≡ min a b ⌝ }
+{
+    if a < b { a } else { b }
+}
+
+// How many frames the slices have: the shortest decides.
+pub fn frame_count(ids: usize, bytes: usize, lens: usize) -> usize
+    ensures { λ r. ⌜ r ≡ countIn ids bytes lens ⌝ }
+{
+    lesser(ids, lesser(bytes / FRAME_BYTES, lens))
+}
+
+fn put_frame(bytes: &mut [u8], at: usize, frame: [u8; 8])
+    requires { ⌜ at + 8 ≤ length (now bytes) ⌝ }
+    ensures { λ r. ⌜ now (bytes .exit) ≡ sets (now (bytes .entry)) at frame ⌝ }
+{
+    let mut k = 0;
+    while k < FRAME_BYTES {
+        bytes[at + k] = frame[k];
+        k = k + 1;
+    }
+}
+
+fn lay_rows(ids: &mut [u32], bytes: &mut [u8], lens: &mut [usize], start: Job, n: usize)
+    requires { ⌜ n ≤ countIn (length (now ids)) (length (now bytes)) (length (now lens)) ⌝ }
+    ensures { λ r. ⌜ (now (ids .exit) ≡ sets (now (ids .entry)) 0 (idsOf (jobFrames n start)))
+        × (now (bytes .exit) ≡ sets (now (bytes .entry)) 0 (bytesAll (jobFrames n start)))
+        × (now (lens .exit) ≡ sets (now (lens .entry)) 0 (lensOf (jobFrames n start))) ⌝ }
+{
+    let mut st = start;
+    let mut i = 0;
+    while i < n {
+        let f = frame_of(st);
+        let b = f.data;
+        ids[i] = f.id;
+        put_frame(bytes, FRAME_BYTES * i, b);
+        lens[i] = f.len;
+        st = after_one(st);
+        i = i + 1;
+    }
+}
+
+// `fast_packet_frames` into separate slices.
+pub fn fast_packet_rows(
+    id: u32,
+    sequence: u8,
+    payload: &[u8],
+    ids: &mut [u32],
+    bytes: &mut [u8],
+    lens: &mut [usize],
+) -> Split
+    ensures { λ r. ⌜ (ofSplit r ≡ counted (splitOf id sequence (now (payload .entry)) (countIn (length (now (ids .entry))) (length (now (bytes .entry))) (length (now (lens .entry))))))
+        × (now (ids .exit) ≡ idsWith (splitOf id sequence (now (payload .entry)) (countIn (length (now (ids .entry))) (length (now (bytes .entry))) (length (now (lens .entry))))) (now (ids .entry)))
+        × (now (bytes .exit) ≡ bytesWith (splitOf id sequence (now (payload .entry)) (countIn (length (now (ids .entry))) (length (now (bytes .entry))) (length (now (lens .entry))))) (now (bytes .entry)))
+        × (now (lens .exit) ≡ lensWith (splitOf id sequence (now (payload .entry)) (countIn (length (now (ids .entry))) (length (now (bytes .entry))) (length (now (lens .entry))))) (now (lens .entry))) ⌝ }
+{
+    let s = split_of(
+        sequence,
+        payload.len(),
+        frame_count(ids.len(), bytes.len(), lens.len()),
+    );
+    if unsplit(s) {
+        return s;
+    }
+    let j = new_job(id, sequence, payload);
+    let n = count_of(payload.len());
+    lay_rows(ids, bytes, lens, j, n);
+    s
+}
