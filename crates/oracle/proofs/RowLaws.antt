@@ -6,7 +6,8 @@ use native.Mathlib.Nat.{add-zero}
 use native.Mathlib.Omega.{arith}
 use lib.ListN.{length, getD, drop}
 use lib.Seq.{sets, getD-drop}
-use Rattle.splitter.specs.Frames.{eight, frameIn, framesIn, countIn, rowIn}
+use Rattle.splitter.specs.Frames.{eight, countIn}
+use Rattle.oracle.specs.Rows.{frameIn, framesIn, rowIn}
 use Rattle.oracle.specs.inner.Scan.{stepOf, scanOf, addedOf, rowOf, bytesLaid, rowsLaid, Counted, Small}
 use Rattle.oracle.specs.inner.Tx.{txOf, txAll}
 use Rattle.splitter.specs.declared.Frame.{Frame}
