@@ -3,10 +3,10 @@ use crate::say;
 use oracle::Checked;
 use oracle::Fault;
 use oracle::Reassembled;
-use oracle::Split;
 use oracle::check_tx_rows;
-use oracle::fast_packet_rows;
 use oracle::reassemble_rows;
+use splitter::Split;
+use splitter::fast_packet_rows;
 
 // PGN 127489, and an address claim, both from source 35.
 const ENGINE: u32 = 0x19F2_0123;
@@ -76,7 +76,7 @@ fn show_split(s: Split) {
     }
 }
 
-pub fn refusals() {
+pub(crate) fn refusals() {
     say::text(b"length 7: ");
     judge(b"\x00\x06\x01\x02\x03\x04\x05\x06", &[7]);
     say::text(b"a first frame while open: ");
@@ -198,7 +198,7 @@ fn check_two(first: [u8; 26], sequence: u8, second: [u8; 26], expected: usize, b
     );
 }
 
-pub fn transmit_refusals() {
+pub(crate) fn transmit_refusals() {
     let claim = b"\xFF\xFF\xFF\xFF\xFF\xFF\xFF\xFF";
     say::text(b"two records as they should be: ");
     check_two(record(7, 0), 1, record(8, 0), 2, 7);

@@ -28,7 +28,7 @@ fn first_answer(pgn: u32, destination: Destination, payload: &[u8]) {
     }
 }
 
-pub fn refusals() {
+pub(crate) fn refusals() {
     say::text(b"PGN 0x40000: ");
     first_answer(0x4_0000, Destination::Nobody, b"1");
     say::text(b"PGN 60928 to nobody: ");

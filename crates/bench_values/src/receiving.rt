@@ -55,7 +55,7 @@ fn second_source_at(now_ms: u64) {
 }
 
 // One slot, another key's message silent 500, and 501.
-pub fn one_slot() {
+pub(crate) fn one_slot() {
     say::text(b"one slot, silent 500: ");
     second_source_at(500);
     say::text(b"one slot, silent 501: ");
@@ -63,7 +63,7 @@ pub fn one_slot() {
 }
 
 // A pool of nine, and a frame for a pool whose size is over eight.
-pub fn refusals() {
+pub(crate) fn refusals() {
     let made = Pool::new(9);
     say::text(b"a pool of nine: ");
     say::refusal(made.refused as u64);

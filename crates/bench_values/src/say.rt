@@ -1,22 +1,22 @@
 // Words and numbers on standard output.
 use libc::STDOUT_FILENO;
 
-pub fn text(words: &[u8]) {
+pub(crate) fn text(words: &[u8]) {
     io::write_all(STDOUT_FILENO, words);
 }
 
-pub fn number(n: u64) {
+pub(crate) fn number(n: u64) {
     io::print_decimal(STDOUT_FILENO, n);
 }
 
 // A refusal's number, and what it carries.
-pub fn refusal(n: u64) {
+pub(crate) fn refusal(n: u64) {
     text(b"refusal ");
     number(n);
     text(b"\n");
 }
 
-pub fn refusal_with(n: u64, a: u64) {
+pub(crate) fn refusal_with(n: u64, a: u64) {
     text(b"refusal ");
     number(n);
     text(b": ");
@@ -24,7 +24,7 @@ pub fn refusal_with(n: u64, a: u64) {
     text(b"\n");
 }
 
-pub fn refusal_with_two(n: u64, a: u64, b: u64) {
+pub(crate) fn refusal_with_two(n: u64, a: u64, b: u64) {
     text(b"refusal ");
     number(n);
     text(b": ");

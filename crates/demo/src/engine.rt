@@ -3,9 +3,9 @@ ghost use Prim.Native.Nat.{_<_};
 use builder::FastPacketBuilder;
 use can_id::Destination;
 
-pub const PGN: u32 = 127489;
+pub(crate) const PGN: u32 = 127489;
 
-pub fn record(hours: u32) -> [u8; 26] {
+pub(crate) fn record(hours: u32) -> [u8; 26] {
     let mut payload = [0u8; 26];
     payload[11] = (hours % 0x100) as u8;
     payload[12] = (hours / 0x100 % 0x100) as u8;
@@ -22,7 +22,7 @@ fn wide(x: u8) -> u64
 }
 
 // The hours of a delivered record.
-pub fn hours(payload: [u8; 223]) -> u64 {
+pub(crate) fn hours(payload: [u8; 223]) -> u64 {
     wide(payload[11])
         + wide(payload[12]) * 0x100
         + wide(payload[13]) * 0x1_0000
@@ -30,7 +30,7 @@ pub fn hours(payload: [u8; 223]) -> u64 {
 }
 
 // The eight bytes of the record's frame at an index up to 3, as the builder gives them.
-pub fn frame(hours: u32, source: u8, sequence: u8, index: u8) -> [u8; 8] {
+pub(crate) fn frame(hours: u32, source: u8, sequence: u8, index: u8) -> [u8; 8] {
     let payload = record(hours);
     let made = FastPacketBuilder::new(PGN, source, Destination::Nobody, &payload, &[PGN], sequence);
     let b = made.builder;

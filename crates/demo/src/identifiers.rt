@@ -60,7 +60,7 @@ fn show_built(builder: CanIdBuilder) {
     say::text(b"\n");
 }
 
-pub fn show() {
+pub(crate) fn show() {
     say::text(b"Identifiers taken apart\n");
     show_parts(CanId(0x19F2_0123));
     show_parts(CanId(0x18EE_FF23));

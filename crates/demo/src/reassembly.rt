@@ -142,7 +142,7 @@ fn show_clock_set_back() {
     show_counters(g);
 }
 
-pub fn show() {
+pub(crate) fn show() {
     show_old_half();
     show_full_pool();
     show_clock_set_back();

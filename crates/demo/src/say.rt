@@ -1,22 +1,22 @@
 // Words and numbers on standard output.
 use libc::STDOUT_FILENO;
 
-pub fn text(words: &[u8]) {
+pub(crate) fn text(words: &[u8]) {
     io::write_all(STDOUT_FILENO, words);
 }
 
-pub fn number(n: u64) {
+pub(crate) fn number(n: u64) {
     io::print_decimal(STDOUT_FILENO, n);
 }
 
 // Eight hex digits.
-pub fn identifier(id: u32) {
+pub(crate) fn identifier(id: u32) {
     text(b"0x");
     io::print_hex(STDOUT_FILENO, id as u64, 8);
 }
 
 // Seconds, and the same as hours and minutes.
-pub fn hours(seconds: u64) {
+pub(crate) fn hours(seconds: u64) {
     number(seconds);
     text(b" s, ");
     number(seconds / 3600);
