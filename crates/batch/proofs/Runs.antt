@@ -5,7 +5,7 @@ use mathlib.Core.Logic.{_⊎_, inl, inr}
 use mathlib.Core.Bool.{Bool, true, false, _||_}
 use mathlib.Core.List.{List, [], _∷_, _++_}
 use lib.ListN.{length, getD, take, drop, set, replicate, length-set, length-drop, take-append-drop}
-use lib.Seq.{paste, paste-zero, take-paste, drop-paste, length-paste, length-take-le, take-suc-set, drop-set-lt, drop-drop, take-append-le, take-at}
+use lib.Seq.{paste, paste-zero, take-paste, drop-paste, set-getD, length-paste, length-take-le, take-suc-set, drop-set-lt, drop-drop, take-append-le, take-at}
 use lib.Dec.{ltb}
 use native.Mathlib.Nat.{sub-zero, add-zero}
 use native.Mathlib.Numerals.{add-one}
@@ -23,7 +23,6 @@ use Rattle.session.specs.Frames.{indexOf, sizeOf, badSize}
 use Rattle.session.specs.Heads.{impossibleHead, inTurn, copiedHead, allThere}
 use Rattle.session.specs.Counting.{raised}
 use Rattle.session.specs.inner.Search.{blank, seen, seenIf, seenIn}
-use Rattle.session.specs.inner.Plan.{idle, planOpen, planShort, planSized, planFirst, planCopy, planTurn, planNext, planIndex, planListed, planOf}
 use Rattle.session.proofs.Seen.{seen-bad}
 use Rattle.session.proofs.Sound.{or-left, or-right}
 use Rattle.assembler.specs.declared.Pool.{Pool}
@@ -32,62 +31,9 @@ use Rattle.assembler.specs.Slots.{onHead, impossible}
 use Rattle.assembler.specs.View.{slotsFrom, slotsOf, receiveOf}
 use Rattle.assembler.proofs.Views.{Whole, any-view}
 use Rattle.assembler.proofs.Carries.{carried, Fits, Does, slot-long}
+use Rattle.batch.proofs.Plans.{Apart, Untouched}
 use Rattle.batch.specs.declared.Batch.{Batch}
 use Rattle.batch.specs.Rows.{Rows, frameAt, kindNumber, Run, start, took, answerTo, runFrom, runOf, Left, over, leaves, refusedBy, tooShort, batchOf}
-
--- ---- a message comes from the buffer or from the frame, never from both
-
-abbrev pub Apart : Plan → Type 0
-Apart d = (d .whole ≡ 0) ⊎ (d .short ≡ 0)
-
-module _ (R : Rules) (f : Heard) (h : Head) where
-  apart-open : (b : Bool) → Apart (planOpen b R f h)
-  unfolding planOpen idle
-  apart-open true = inl refl
-  apart-open false = inl refl
-
-  apart-short : (b t : Bool) → Apart (planShort b t R f h)
-  unfolding planShort
-  apart-short true t = inl refl
-  apart-short false t = apart-open t
-
-  apart-sized : (b t : Bool) → Apart (planSized b t R f h)
-  unfolding planSized idle
-  apart-sized true t = inl refl
-  apart-sized false t = apart-short _ t
-
-  apart-copy : (b : Bool) → Apart (planCopy b f h)
-  unfolding planCopy
-  apart-copy true = inr refl
-  apart-copy false = inr refl
-
-  apart-turn : (b : Bool) → Apart (planTurn b f h)
-  unfolding planTurn idle
-  apart-turn true = apart-copy _
-  apart-turn false = inl refl
-
-  apart-next : (b : Bool) → Apart (planNext b f h)
-  unfolding planNext idle
-  apart-next true = apart-turn _
-  apart-next false = inl refl
-
-  apart-index : (b t : Bool) → Apart (planIndex b t R f h)
-  unfolding planIndex planFirst
-  apart-index true t = apart-sized _ t
-  apart-index false t = apart-next t
-
-  apart-listed : (b t : Bool) → Apart (planListed b t R f h)
-  unfolding planListed idle
-  apart-listed true t = apart-index _ t
-  apart-listed false t = inl refl
-
-  apart-of : (bad listed found : Bool) → Apart (planOf bad listed found R f h)
-  unfolding planOf idle
-  apart-of true listed found = inl refl
-  apart-of false listed found = apart-listed listed found
-
-  pub apart : (bad listed found : Bool) (d : Plan) → d ≡ planOf bad listed found R f h → Apart d
-  apart bad listed found d e = subst Apart (sym e) (apart-of bad listed found)
 
 -- ---- the bytes of a message, in the arena and as the answer has them
 
@@ -307,6 +253,17 @@ module _ (R : Rules) (l : List ℕ) (w : Rows) (p : Pool) (k : Counters) (ks₀ 
                   ∙ rw (← drop-drop (d .whole + d .short) used ar, ← drop-drop (d .whole + d .short) used ar₀, h .arena-kept);
               run = rw (← took-is, add-one i) (unfold pick in rw y at turned);
             }
+
+      -- a frame that takes no slot: the pool is as it was
+      pub goes-past : b ≡ false → g < poolLimit → length (f .«data») ≡ 8 → Apart d → (e : Head) → Untouched (getD (q .heads) g e) d → (ar′ : List ℕ) → ar′ ≡ paste ar used (drop 2 (f .«data»)) (d .short)
+          → (m : Counters) → m ≡ raised (d .mark) c → (v : ℕ) → v ≡ kindNumber (d .kind) → Running (set ks i v) (set ls i (d .whole + d .short)) ar′ q m (used + (d .whole + d .short)) (i + 1)
+      goes-past y low eight alone e u ar′ ear m em v ev =
+          let bs : List ℕ = paste (q .bytes) (g * 223 + d .at) (drop (d .from) (f .«data»)) (d .count) in
+          let kept : bs ≡ q .bytes = rw (u .count) (sym (paste-zero (q .bytes) (g * 223 + d .at) (drop (d .from) (f .«data»)))) in
+          let same : record { size = q .size; heads = set (q .heads) g (d .head); bytes = bs } ≡ q = rw (u .head, kept, set-getD (q .heads) g e) in
+          let laid-short : ar′ ≡ paste (paste ar used (drop (g * 223) bs) (d .whole)) used (drop 2 (f .«data»)) (d .short) = rw (u .whole, ← paste-zero ar used (drop (g * 223) bs)) ear in
+          subst (λ (x : Pool). Running (set ks i v) (set ls i (d .whole + d .short)) ar′ x m (used + (d .whole + d .short)) (i + 1)) same
+          (goes-on y low eight alone bs refl ar′ laid-short m em v ev)
 
 -- ---- the call's three ways out
 

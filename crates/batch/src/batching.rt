@@ -4,6 +4,7 @@ ghost use Rattle.session.specs.Rules.{base};
 ghost use Rattle.batch.specs.Rows.{Left, batchOf};
 use crate::Batch;
 use crate::bytes::carry;
+use crate::bytes::deliver_short;
 use crate::memory::PLACES;
 use crate::memory::looked_up;
 use crate::rows::frame_at;
@@ -110,17 +111,30 @@ pub fn process_frames(
                 pool: q,
             };
         }
+        let mark = d.mark;
+        c = count(c, mark);
+        let kind = d.kind;
+        kinds[i] = number_of(kind);
+        lengths[i] = length as u8;
+        let at = used;
+        used += length;
+        i += 1;
+        let frame = heard.data;
+        // a frame that takes no slot leaves the pool as it is
+        if POOL_LIMIT <= place {
+            deliver_short(arena, at, frame, d.short);
+            continue;
+        }
         let h = d.head;
         q.heads[g] = h;
         keys[g] = key_of(h);
         owners[g] = h.source_address;
         lasts[g] = h.last_seen_ms;
-        let frame = heard.data;
         carry(
             &mut q.bytes,
             arena,
             g,
-            used,
+            at,
             frame,
             d.at,
             d.from,
@@ -128,13 +142,6 @@ pub fn process_frames(
             d.whole,
             d.short,
         );
-        let mark = d.mark;
-        c = count(c, mark);
-        let kind = d.kind;
-        kinds[i] = number_of(kind);
-        lengths[i] = length as u8;
-        used += length;
-        i += 1;
     }
     Batch {
         refused: 0,

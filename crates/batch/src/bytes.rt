@@ -8,9 +8,11 @@ ghost use Rattle.session.specs.Rules.{poolLimit};
 ghost use Rattle.assembler.specs.View.{poolBytes};
 use assembler::POOL_BYTES;
 use fast_packet::MAX_FAST_PACKET_PAYLOAD;
+use session::CONTINUATION_PAYLOAD;
+use session::FIRST_FRAME_PAYLOAD;
 
 // Stores `n` bytes of the frame, from `from` on, at `at`.
-fn store(out: &mut [u8; POOL_BYTES], at: usize, frame: [u8; 8], from: usize, n: usize)
+fn put(out: &mut [u8; POOL_BYTES], at: usize, frame: [u8; 8], from: usize, n: usize)
     requires { ⌜ (length (now out) ≡ poolBytes) × (at + n ≤ poolBytes) × (from + n ≤ 8) ⌝ }
     ensures { λ r. ⌜ now (out .exit) ≡ paste (now (out .entry)) at (drop from frame) n ⌝ }
 {
@@ -19,6 +21,22 @@ fn store(out: &mut [u8; POOL_BYTES], at: usize, frame: [u8; 8], from: usize, n: 
         out[at + i] = frame[from + i];
         i += 1;
     }
+}
+
+// The same. Nearly every frame has 6 or 7 bytes to store, and a copy whose length the compiler knows needs no call.
+fn store(out: &mut [u8; POOL_BYTES], at: usize, frame: [u8; 8], from: usize, n: usize)
+    requires { ⌜ (length (now out) ≡ poolBytes) × (at + n ≤ poolBytes) × (from + n ≤ 8) ⌝ }
+    ensures { λ r. ⌜ now (out .exit) ≡ paste (now (out .entry)) at (drop from frame) n ⌝ }
+{
+    if n == CONTINUATION_PAYLOAD {
+        put(out, at, frame, from, CONTINUATION_PAYLOAD);
+        return;
+    }
+    if n == FIRST_FRAME_PAYLOAD {
+        put(out, at, frame, from, FIRST_FRAME_PAYLOAD);
+        return;
+    }
+    put(out, at, frame, from, n);
 }
 
 // Puts the `n` bytes of a session from `start` on at `at` of the arena.
@@ -34,7 +52,7 @@ fn deliver(arena: &mut [u8], at: usize, bytes: &[u8; POOL_BYTES], start: usize, 
 }
 
 // The same for the message of a short first frame.
-fn deliver_short(arena: &mut [u8], at: usize, frame: [u8; 8], n: usize)
+pub(crate) fn deliver_short(arena: &mut [u8], at: usize, frame: [u8; 8], n: usize)
     requires { ⌜ (at + n ≤ length (now arena)) × (n ≤ 6) ⌝ }
     ensures { λ r. ⌜ now (arena .exit) ≡ paste (now (arena .entry)) at (drop 2 frame) n ⌝ }
 {

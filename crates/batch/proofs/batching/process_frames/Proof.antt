@@ -6,6 +6,7 @@ use mathlib.Core.Bool.{false}
 use lib.ListN.{length, length-set, length-drop}
 use lib.Seq.{length-take-le}
 use native.Mathlib.Omega.{arith}
+use borrow.Author.Tests.{le-ltb}
 use Rattle.session.specs.Rules.{base, poolLimit}
 use Rattle.session.specs.declared.Found.{Found}
 use Rattle.assembler.proofs.Copies.{length-unmap}
@@ -15,7 +16,8 @@ use Rattle.assembler.specs.View.{slotsOf}
 use Rattle.batch.specs.Rows.{frameAt, refusedBy}
 use Rattle.batch.specs.inner.Mirror.{Mirrors}
 use Rattle.batch.specs.inner.Memory.{Remembers}
-use Rattle.batch.proofs.Runs.{Running, begins, ends, stops, goes-on, fits-arena, apart, looked-at, gives-1, gives-27, gives-run, fits-all, frame-long}
+use Rattle.batch.proofs.Runs.{Running, begins, ends, stops, goes-on, goes-past, fits-arena, looked-at, gives-1, gives-27, gives-run, fits-all, frame-long}
+use Rattle.batch.proofs.Plans.{apart, untouched}
 use Rattle.batch.proofs.Sought.{small-of, seeks, stays-possible}
 use Rattle.batch.proofs.Mirrors.{mirrors-set, remembers-none}
 use Rattle.batch.proofs.batching.process_frames.Statement.{statement}
@@ -118,8 +120,8 @@ returns-3 c =
     (ap (λ (s : Found). s .bad) (c .before .before .before .before .before .before .before .before .before .before .before .before .before .before .before .before .before .before .before .before .before .before .before .before .before .walk .ensures) ∙ looked-at base _ (a .pool) limit) (c .before .before .before .before .before .before .before .before .before .before .before .before .before .before .before .before .before .before .before .before .before .before .before .before .if1 .left) _ (c .before .before .before .before .before .before .before .before .before .before .before .before .before .before .before .before .before .before .before .before .before .before .before .too-short .ensures) (c .before .before .before .before .before .before .before .before .before .before .before .before .before .before .before .before .before .before .before .before .before .before .if2 .left) _
     (stops base _ _ _ _ _ _ _ _ _ _ _ _ _ _ run turn _ row _ _ does _ (c .before .no-room .ensures) (c .if3 .taken))
 
-carry-requires : tie.Need-carry-requires Inv-loop μ-loop
-carry-requires c κs =
+deliver-short-requires : tie.Need-deliver-short-requires Inv-loop μ-loop
+deliver-short-requires c κs =
     let a = c .before .before .before .before .before .before .before .before .before .before .before .before .before .before .before .before .before .before .before .before .before .before .before .before .before .before .before .before .before .before .before .before .before .before .before .before .before .before .before .before .before .args in
     let loop = c .before .before .before .before .before .before .before .before .before .before .before .before .before .before .before .before .before .before .before .before .before .loop in
     let run = loop .inv .0 in
@@ -130,66 +132,103 @@ carry-requires c κs =
     seeks (a .pgns .now) (c .before .before .before .before .before .before .before .before .before .before .before .before .before .before .before .before .before .before .before .frame-at .result) (loop .q) (loop .c) (run .whole) long _ (loop .inv .1) (loop .keys) (loop .owners) (loop .lasts) (loop .inv .2) (c .before .before .before .before .before .before .before .before .before .before .before .before .before .before .before .key-of-frame .ensures .1) _ _ _ _ _ (c .before .before .before .before .before .before .before .before .before .before .before .before .before .before .before .before .looked-up .ensures .0) (c .before .before .before .before .before .before .before .before .before .before .before .before .before .before .before .key-of-frame .ensures .0) (c .before .before .before .before .before .before .before .before .before .before .before .seek .ensures) (c .before .before .before .before .before .before .before .before .before .before .within-limit .ensures .0) (c .before .before .before .before .before .before .before .before .decide .ensures) in
     let fits = does .fits in
     let room = fits-arena base _ _ _ _ _ _ _ _ _ _ _ _ _ _ run turn _ row _ _ does _ (c .before .before .before .before .before .before .no-room .ensures) (c .before .before .before .before .before .if3 .left) in
-    (run .whole .bytes, c .before .before .before .before .before .before .before .before .before .before .within-limit .ensures .1, fits .room, fits .there, fits .whole, fits .short, omega (arith, room), omega (arith, room))
+    (omega (arith, room), fits .short)
+
+carry-requires : tie.Need-carry-requires Inv-loop μ-loop
+carry-requires c κs =
+    let a = c .before .before .before .before .before .before .before .before .before .before .before .before .before .before .before .before .before .before .before .before .before .before .before .before .before .before .before .before .before .before .before .before .before .before .before .before .before .before .before .before .before .before .before .before .args in
+    let loop = c .before .before .before .before .before .before .before .before .before .before .before .before .before .before .before .before .before .before .before .before .before .before .before .before .loop in
+    let run = loop .inv .0 in
+    let turn = c .before .before .before .before .before .before .before .before .before .before .before .before .before .before .before .before .before .before .before .before .before .before .before .loop-test .taken in
+    let row = c .before .before .before .before .before .before .before .before .before .before .before .before .before .before .before .before .before .before .before .before .before .before .frame-at .ensures in
+    let long = frame-long _ _ _ _ turn (run .fit .bytes) row in
+    let does =
+    seeks (a .pgns .now) (c .before .before .before .before .before .before .before .before .before .before .before .before .before .before .before .before .before .before .before .before .before .before .frame-at .result) (loop .q) (loop .c) (run .whole) long _ (loop .inv .1) (loop .keys) (loop .owners) (loop .lasts) (loop .inv .2) (c .before .before .before .before .before .before .before .before .before .before .before .before .before .before .before .before .before .before .key-of-frame .ensures .1) _ _ _ _ _ (c .before .before .before .before .before .before .before .before .before .before .before .before .before .before .before .before .before .before .before .looked-up .ensures .0) (c .before .before .before .before .before .before .before .before .before .before .before .before .before .before .before .before .before .before .key-of-frame .ensures .0) (c .before .before .before .before .before .before .before .before .before .before .before .before .before .before .seek .ensures) (c .before .before .before .before .before .before .before .before .before .before .before .before .before .within-limit .ensures .0) (c .before .before .before .before .before .before .before .before .before .before .before .decide .ensures) in
+    let fits = does .fits in
+    let room = fits-arena base _ _ _ _ _ _ _ _ _ _ _ _ _ _ run turn _ row _ _ does _ (c .before .before .before .before .before .before .before .before .before .no-room .ensures) (c .before .before .before .before .before .before .before .before .if3 .left) in
+    (run .whole .bytes, c .before .before .before .before .before .before .before .before .before .before .before .before .before .within-limit .ensures .1, fits .room, fits .there, fits .whole, fits .short, omega (arith, room), omega (arith, room))
 
 slice-write-kinds : tie.Need-slice-write-kinds Inv-loop μ-loop
-slice-write-kinds c = omega (arith, c .before .before .before .before .before .before .before .before .before .before .before .before .before .before .before .before .before .before .before .before .before .before .before .before .before .loop-test .taken, c .before .before .before .before .before .before .before .before .before .before .before .before .before .before .before .before .before .before .before .before .before .before .before .before .before .before .loop .inv .0 .kinds, c .before .before .before .before .before .before .before .before .before .before .before .before .before .before .before .before .before .before .before .before .before .before .before .before .before .before .loop .inv .0 .fit .kinds)
+slice-write-kinds c = omega (arith, c .before .before .before .before .before .before .before .before .before .before .before .before .before .before .before .before .before .loop-test .taken, c .before .before .before .before .before .before .before .before .before .before .before .before .before .before .before .before .before .before .loop .inv .0 .kinds, c .before .before .before .before .before .before .before .before .before .before .before .before .before .before .before .before .before .before .loop .inv .0 .fit .kinds)
 
 cast-lengths : tie.Need-cast-lengths Inv-loop μ-loop
 cast-lengths c =
-    let a = c .before .before .before .before .before .before .before .before .before .before .before .before .before .before .before .before .before .before .before .before .before .before .before .before .before .before .before .before .before .before .before .before .before .before .before .before .before .before .before .before .before .before .before .before .before .before .args in
-    let loop = c .before .before .before .before .before .before .before .before .before .before .before .before .before .before .before .before .before .before .before .before .before .before .before .before .before .before .loop in
+    let a = c .before .before .before .before .before .before .before .before .before .before .before .before .before .before .before .before .before .before .before .before .before .before .before .before .before .before .before .before .before .before .before .before .before .before .before .before .before .before .args in
+    let loop = c .before .before .before .before .before .before .before .before .before .before .before .before .before .before .before .before .before .before .loop in
     let run = loop .inv .0 in
-    let turn = c .before .before .before .before .before .before .before .before .before .before .before .before .before .before .before .before .before .before .before .before .before .before .before .before .before .loop-test .taken in
-    let row = c .before .before .before .before .before .before .before .before .before .before .before .before .before .before .before .before .before .before .before .before .before .before .before .before .frame-at .ensures in
+    let turn = c .before .before .before .before .before .before .before .before .before .before .before .before .before .before .before .before .before .loop-test .taken in
+    let row = c .before .before .before .before .before .before .before .before .before .before .before .before .before .before .before .before .frame-at .ensures in
     let long = frame-long _ _ _ _ turn (run .fit .bytes) row in
     let does =
-    seeks (a .pgns .now) (c .before .before .before .before .before .before .before .before .before .before .before .before .before .before .before .before .before .before .before .before .before .before .before .before .frame-at .result) (loop .q) (loop .c) (run .whole) long _ (loop .inv .1) (loop .keys) (loop .owners) (loop .lasts) (loop .inv .2) (c .before .before .before .before .before .before .before .before .before .before .before .before .before .before .before .before .before .before .before .before .key-of-frame .ensures .1) _ _ _ _ _ (c .before .before .before .before .before .before .before .before .before .before .before .before .before .before .before .before .before .before .before .before .before .looked-up .ensures .0) (c .before .before .before .before .before .before .before .before .before .before .before .before .before .before .before .before .before .before .before .before .key-of-frame .ensures .0) (c .before .before .before .before .before .before .before .before .before .before .before .before .before .before .before .before .seek .ensures) (c .before .before .before .before .before .before .before .before .before .before .before .before .before .before .before .within-limit .ensures .0) (c .before .before .before .before .before .before .before .before .before .before .before .before .before .decide .ensures) in
+    seeks (a .pgns .now) (c .before .before .before .before .before .before .before .before .before .before .before .before .before .before .before .before .frame-at .result) (loop .q) (loop .c) (run .whole) long _ (loop .inv .1) (loop .keys) (loop .owners) (loop .lasts) (loop .inv .2) (c .before .before .before .before .before .before .before .before .before .before .before .before .key-of-frame .ensures .1) _ _ _ _ _ (c .before .before .before .before .before .before .before .before .before .before .before .before .before .looked-up .ensures .0) (c .before .before .before .before .before .before .before .before .before .before .before .before .key-of-frame .ensures .0) (c .before .before .before .before .before .before .before .before .seek .ensures) (c .before .before .before .before .before .before .before .within-limit .ensures .0) (c .before .before .before .before .before .decide .ensures) in
     let fits = does .fits in
     omega (arith, fits .total)
 
 slice-write-lengths : tie.Need-slice-write-lengths Inv-loop μ-loop
-slice-write-lengths c = omega (arith, c .before .before .before .before .before .before .before .before .before .before .before .before .before .before .before .before .before .before .before .before .before .before .before .before .before .loop-test .taken, c .before .before .before .before .before .before .before .before .before .before .before .before .before .before .before .before .before .before .before .before .before .before .before .before .before .before .loop .inv .0 .lengths, c .before .before .before .before .before .before .before .before .before .before .before .before .before .before .before .before .before .before .before .before .before .before .before .before .before .before .loop .inv .0 .fit .lengths)
+slice-write-lengths c = omega (arith, c .before .before .before .before .before .before .before .before .before .before .before .before .before .before .before .before .before .loop-test .taken, c .before .before .before .before .before .before .before .before .before .before .before .before .before .before .before .before .before .before .loop .inv .0 .lengths, c .before .before .before .before .before .before .before .before .before .before .before .before .before .before .before .before .before .before .loop .inv .0 .fit .lengths)
 
 add-used : tie.Need-add-used Inv-loop μ-loop
 add-used c =
-    let a = c .before .before .before .before .before .before .before .before .before .before .before .before .before .before .before .before .before .before .before .before .before .before .before .before .before .before .before .before .before .before .before .before .before .before .before .before .before .before .before .before .before .before .before .before .before .before .args in
-    let loop = c .before .before .before .before .before .before .before .before .before .before .before .before .before .before .before .before .before .before .before .before .before .before .before .before .before .before .loop in
+    let a = c .before .before .before .before .before .before .before .before .before .before .before .before .before .before .before .before .before .before .before .before .before .before .before .before .before .before .before .before .before .before .before .before .before .before .before .before .before .before .args in
+    let loop = c .before .before .before .before .before .before .before .before .before .before .before .before .before .before .before .before .before .before .loop in
     let run = loop .inv .0 in
-    let turn = c .before .before .before .before .before .before .before .before .before .before .before .before .before .before .before .before .before .before .before .before .before .before .before .before .before .loop-test .taken in
-    let row = c .before .before .before .before .before .before .before .before .before .before .before .before .before .before .before .before .before .before .before .before .before .before .before .before .frame-at .ensures in
+    let turn = c .before .before .before .before .before .before .before .before .before .before .before .before .before .before .before .before .before .loop-test .taken in
+    let row = c .before .before .before .before .before .before .before .before .before .before .before .before .before .before .before .before .frame-at .ensures in
     let long = frame-long _ _ _ _ turn (run .fit .bytes) row in
     let does =
-    seeks (a .pgns .now) (c .before .before .before .before .before .before .before .before .before .before .before .before .before .before .before .before .before .before .before .before .before .before .before .before .frame-at .result) (loop .q) (loop .c) (run .whole) long _ (loop .inv .1) (loop .keys) (loop .owners) (loop .lasts) (loop .inv .2) (c .before .before .before .before .before .before .before .before .before .before .before .before .before .before .before .before .before .before .before .before .key-of-frame .ensures .1) _ _ _ _ _ (c .before .before .before .before .before .before .before .before .before .before .before .before .before .before .before .before .before .before .before .before .before .looked-up .ensures .0) (c .before .before .before .before .before .before .before .before .before .before .before .before .before .before .before .before .before .before .before .before .key-of-frame .ensures .0) (c .before .before .before .before .before .before .before .before .before .before .before .before .before .before .before .before .seek .ensures) (c .before .before .before .before .before .before .before .before .before .before .before .before .before .before .before .within-limit .ensures .0) (c .before .before .before .before .before .before .before .before .before .before .before .before .before .decide .ensures) in
+    seeks (a .pgns .now) (c .before .before .before .before .before .before .before .before .before .before .before .before .before .before .before .before .frame-at .result) (loop .q) (loop .c) (run .whole) long _ (loop .inv .1) (loop .keys) (loop .owners) (loop .lasts) (loop .inv .2) (c .before .before .before .before .before .before .before .before .before .before .before .before .key-of-frame .ensures .1) _ _ _ _ _ (c .before .before .before .before .before .before .before .before .before .before .before .before .before .looked-up .ensures .0) (c .before .before .before .before .before .before .before .before .before .before .before .before .key-of-frame .ensures .0) (c .before .before .before .before .before .before .before .before .seek .ensures) (c .before .before .before .before .before .before .before .within-limit .ensures .0) (c .before .before .before .before .before .decide .ensures) in
     let fits = does .fits in
-    let room = fits-arena base _ _ _ _ _ _ _ _ _ _ _ _ _ _ run turn _ row _ _ does _ (c .before .before .before .before .before .before .before .before .before .before .before .no-room .ensures) (c .before .before .before .before .before .before .before .before .before .before .if3 .left) in
-    omega (arith, room, run .arena, c .before .before .before .before .before .before .before .before .before .before .before .before .before .before .before .before .before .before .before .before .before .before .before .before .before .before .before .before .before .before .before .before .before .before .before .before .before .before .before .before .before .before .before .before .before .before .good .1 .1 .1 .1 .1 .1 .1 .1 .1 .0)
+    let room = fits-arena base _ _ _ _ _ _ _ _ _ _ _ _ _ _ run turn _ row _ _ does _ (c .before .before .before .no-room .ensures) (c .before .before .if3 .left) in
+    omega (arith, room, run .arena, c .before .before .before .before .before .before .before .before .before .before .before .before .before .before .before .before .before .before .before .before .before .before .before .before .before .before .before .before .before .before .before .before .before .before .before .before .before .before .good .1 .1 .1 .1 .1 .1 .1 .1 .1 .0)
 
 add-i : tie.Need-add-i Inv-loop μ-loop
 add-i c =
-    omega (arith, c .before .before .before .before .before .before .before .before .before .before .before .before .before .before .before .before .before .before .before .before .before .before .before .before .before .loop-test .taken, c .before .before .before .before .before .before .before .before .before .before .before .before .before .before .before .before .before .before .before .before .before .before .before .before .before .before .before .before .before .before .before .before .before .before .before .before .before .before .before .before .before .before .before .before .before .before .good .1 .1 .1 .0)
+    omega (arith, c .before .before .before .before .before .before .before .before .before .before .before .before .before .before .before .before .before .loop-test .taken, c .before .before .before .before .before .before .before .before .before .before .before .before .before .before .before .before .before .before .before .before .before .before .before .before .before .before .before .before .before .before .before .before .before .before .before .before .before .before .good .1 .1 .1 .0)
 
 loop-less : tie.Need-loop-less Inv-loop μ-loop
-loop-less c = omega (arith, c .before .before .before .before .before .before .before .before .before .before .before .before .before .before .before .before .before .before .before .before .before .before .before .before .before .loop-test .taken)
+loop-less c = omega (arith, c .before .before .before .before .before .before .before .before .before .before .before .before .before .before .before .before .before .before .before .before .before .before .before .loop-test .taken)
+
+loop-less-2 : tie.Need-loop-less-2 Inv-loop μ-loop
+loop-less-2 c = omega (arith, c .before .before .before .before .before .before .before .before .before .before .before .before .before .before .before .before .before .before .before .before .before .before .before .before .before .before .loop-test .taken)
 
 loop-again : tie.Need-loop-again Inv-loop μ-loop
 loop-again c =
-    let a = c .before .before .before .before .before .before .before .before .before .before .before .before .before .before .before .before .before .before .before .before .before .before .before .before .before .before .before .before .before .before .before .before .before .before .before .before .before .before .before .before .before .before .before .before .before .before .args in
-    let loop = c .before .before .before .before .before .before .before .before .before .before .before .before .before .before .before .before .before .before .before .before .before .before .before .before .before .before .loop in
+    let a = c .before .before .before .before .before .before .before .before .before .before .before .before .before .before .before .before .before .before .before .before .before .before .before .before .before .before .before .before .before .before .before .before .before .before .before .before .before .before .before .before .before .before .before .before .args in
+    let loop = c .before .before .before .before .before .before .before .before .before .before .before .before .before .before .before .before .before .before .before .before .before .before .before .before .loop in
     let run = loop .inv .0 in
-    let turn = c .before .before .before .before .before .before .before .before .before .before .before .before .before .before .before .before .before .before .before .before .before .before .before .before .before .loop-test .taken in
-    let row = c .before .before .before .before .before .before .before .before .before .before .before .before .before .before .before .before .before .before .before .before .before .before .before .before .frame-at .ensures in
+    let turn = c .before .before .before .before .before .before .before .before .before .before .before .before .before .before .before .before .before .before .before .before .before .before .before .loop-test .taken in
+    let row = c .before .before .before .before .before .before .before .before .before .before .before .before .before .before .before .before .before .before .before .before .before .before .frame-at .ensures in
     let long = frame-long _ _ _ _ turn (run .fit .bytes) row in
     let does =
-    seeks (a .pgns .now) (c .before .before .before .before .before .before .before .before .before .before .before .before .before .before .before .before .before .before .before .before .before .before .before .before .frame-at .result) (loop .q) (loop .c) (run .whole) long _ (loop .inv .1) (loop .keys) (loop .owners) (loop .lasts) (loop .inv .2) (c .before .before .before .before .before .before .before .before .before .before .before .before .before .before .before .before .before .before .before .before .key-of-frame .ensures .1) _ _ _ _ _ (c .before .before .before .before .before .before .before .before .before .before .before .before .before .before .before .before .before .before .before .before .before .looked-up .ensures .0) (c .before .before .before .before .before .before .before .before .before .before .before .before .before .before .before .before .before .before .before .before .key-of-frame .ensures .0) (c .before .before .before .before .before .before .before .before .before .before .before .before .before .before .before .before .seek .ensures) (c .before .before .before .before .before .before .before .before .before .before .before .before .before .before .before .within-limit .ensures .0) (c .before .before .before .before .before .before .before .before .before .before .before .before .before .decide .ensures) in
+    seeks (a .pgns .now) (c .before .before .before .before .before .before .before .before .before .before .before .before .before .before .before .before .before .before .before .before .before .before .frame-at .result) (loop .q) (loop .c) (run .whole) long _ (loop .inv .1) (loop .keys) (loop .owners) (loop .lasts) (loop .inv .2) (c .before .before .before .before .before .before .before .before .before .before .before .before .before .before .before .before .before .before .key-of-frame .ensures .1) _ _ _ _ _ (c .before .before .before .before .before .before .before .before .before .before .before .before .before .before .before .before .before .before .before .looked-up .ensures .0) (c .before .before .before .before .before .before .before .before .before .before .before .before .before .before .before .before .before .before .key-of-frame .ensures .0) (c .before .before .before .before .before .before .before .before .before .before .before .before .before .before .seek .ensures) (c .before .before .before .before .before .before .before .before .before .before .before .before .before .within-limit .ensures .0) (c .before .before .before .before .before .before .before .before .before .before .before .decide .ensures) in
     let fits = does .fits in
-    let alone = apart base _ _ _ _ _ _ (c .before .before .before .before .before .before .before .before .before .before .before .before .before .decide .ensures) in
-    let low = c .before .before .before .before .before .before .before .before .before .before .before .before .before .before .before .within-limit .ensures .1 in
-    let stored = c .before .before .before .before .carry .ensures .0 in (
-      goes-on base _ _ _ _ _ _ _ _ _ _ _ _ _ _ run turn _ row _ _ does _ (c .before .before .before .before .before .before .before .before .before .before .before .no-room .ensures) (c .before .before .before .before .before .before .before .before .before .before .if3 .left) low long alone _ stored _ (c .before .before .before .before .carry .ensures .1) _ (c .before .count .ensures) _ (c .number-of .ensures),
-      stays-possible (a .pgns .now) (c .before .before .before .before .before .before .before .before .before .before .before .before .before .before .before .before .before .before .before .before .before .before .before .before .frame-at .result) (loop .q) (loop .c) (run .whole) long (c .before .before .before .before .before .before .before .before .before .before .before .before .before .before .before .before .before .before .before .before .key-of-frame .ensures .1 .byte) (loop .inv .1) _ _ does _ stored,
-      mirrors-set _ _ _ _ _ low _ _ _ _ (run .whole .heads) (loop .inv .2) (record { key = c .before .before .before .before .before .before .before .before .key-of .ensures .0; owner = refl; last = refl; range = c .before .before .before .before .before .before .before .before .key-of .ensures .1 }),
-      c .before .before .before .before .before .before .before .before .before .before .before .before .before .before .before .before .before .before .before .before .before .looked-up .ensures .1,
+    let alone = apart base _ _ _ _ _ _ (c .before .before .before .before .before .before .before .before .before .before .before .decide .ensures) in
+    let low = c .before .before .before .before .before .before .before .before .before .before .before .before .before .within-limit .ensures .1 in
+    let none = untouched base _ _ _ _ _ (c .before .before .before .before .before .before .before .before .before .before .before .decide .ensures) (le-ltb _ poolLimit (c .before .before .before .before .if4 .taken)) in (
+      goes-past base _ _ _ _ _ _ _ _ _ _ _ _ _ _ run turn _ row _ _ does _ (c .before .before .before .before .before .before .before .before .before .no-room .ensures) (c .before .before .before .before .before .before .before .before .if3 .left) low long alone _ none _ (c .before .before .deliver-short .ensures) _ (c .before .before .before .before .before .before .before .count .ensures) _ (c .before .before .before .before .before .before .number-of .ensures),
+      loop .inv .1,
+      loop .inv .2,
+      c .before .before .before .before .before .before .before .before .before .before .before .before .before .before .before .before .before .before .before .looked-up .ensures .1,
+    )
+
+loop-again-2 : tie.Need-loop-again-2 Inv-loop μ-loop
+loop-again-2 c =
+    let a = c .before .before .before .before .before .before .before .before .before .before .before .before .before .before .before .before .before .before .before .before .before .before .before .before .before .before .before .before .before .before .before .before .before .before .before .before .before .before .before .before .before .before .before .before .before .before .before .args in
+    let loop = c .before .before .before .before .before .before .before .before .before .before .before .before .before .before .before .before .before .before .before .before .before .before .before .before .before .before .before .loop in
+    let run = loop .inv .0 in
+    let turn = c .before .before .before .before .before .before .before .before .before .before .before .before .before .before .before .before .before .before .before .before .before .before .before .before .before .before .loop-test .taken in
+    let row = c .before .before .before .before .before .before .before .before .before .before .before .before .before .before .before .before .before .before .before .before .before .before .before .before .before .frame-at .ensures in
+    let long = frame-long _ _ _ _ turn (run .fit .bytes) row in
+    let does =
+    seeks (a .pgns .now) (c .before .before .before .before .before .before .before .before .before .before .before .before .before .before .before .before .before .before .before .before .before .before .before .before .before .frame-at .result) (loop .q) (loop .c) (run .whole) long _ (loop .inv .1) (loop .keys) (loop .owners) (loop .lasts) (loop .inv .2) (c .before .before .before .before .before .before .before .before .before .before .before .before .before .before .before .before .before .before .before .before .before .key-of-frame .ensures .1) _ _ _ _ _ (c .before .before .before .before .before .before .before .before .before .before .before .before .before .before .before .before .before .before .before .before .before .before .looked-up .ensures .0) (c .before .before .before .before .before .before .before .before .before .before .before .before .before .before .before .before .before .before .before .before .before .key-of-frame .ensures .0) (c .before .before .before .before .before .before .before .before .before .before .before .before .before .before .before .before .before .seek .ensures) (c .before .before .before .before .before .before .before .before .before .before .before .before .before .before .before .before .within-limit .ensures .0) (c .before .before .before .before .before .before .before .before .before .before .before .before .before .before .decide .ensures) in
+    let fits = does .fits in
+    let alone = apart base _ _ _ _ _ _ (c .before .before .before .before .before .before .before .before .before .before .before .before .before .before .decide .ensures) in
+    let low = c .before .before .before .before .before .before .before .before .before .before .before .before .before .before .before .before .within-limit .ensures .1 in
+    let stored = c .before .before .carry .ensures .0 in (
+      goes-on base _ _ _ _ _ _ _ _ _ _ _ _ _ _ run turn _ row _ _ does _ (c .before .before .before .before .before .before .before .before .before .before .before .before .no-room .ensures) (c .before .before .before .before .before .before .before .before .before .before .before .if3 .left) low long alone _ stored _ (c .before .before .carry .ensures .1) _ (c .before .before .before .before .before .before .before .before .before .before .count .ensures) _ (c .before .before .before .before .before .before .before .before .before .number-of .ensures),
+      stays-possible (a .pgns .now) (c .before .before .before .before .before .before .before .before .before .before .before .before .before .before .before .before .before .before .before .before .before .before .before .before .before .frame-at .result) (loop .q) (loop .c) (run .whole) long (c .before .before .before .before .before .before .before .before .before .before .before .before .before .before .before .before .before .before .before .before .before .key-of-frame .ensures .1 .byte) (loop .inv .1) _ _ does _ stored,
+      mirrors-set _ _ _ _ _ low _ _ _ _ (run .whole .heads) (loop .inv .2) (record { key = c .before .before .before .before .before .key-of .ensures .0; owner = refl; last = refl; range = c .before .before .before .before .before .key-of .ensures .1 }),
+      c .before .before .before .before .before .before .before .before .before .before .before .before .before .before .before .before .before .before .before .before .before .before .looked-up .ensures .1,
     )
 
 same-length-4 : tie.Need-same-length-4 Inv-loop μ-loop
@@ -237,6 +276,16 @@ process-frames-spec =
     same-length-2
     same-length-3
     returns-3
+    (λ c κs. search needs)
+    (λ c κs. search needs)
+    slice-write-kinds
+    cast-lengths
+    slice-write-lengths
+    add-used
+    add-i
+    deliver-short-requires
+    loop-less
+    loop-again
     (λ c. search needs)
     (λ c. search needs)
     (λ c κs. search needs)
@@ -246,15 +295,8 @@ process-frames-spec =
     (λ c. search needs)
     (λ c. search needs)
     carry-requires
-    (λ c κs. search needs)
-    (λ c κs. search needs)
-    slice-write-kinds
-    cast-lengths
-    slice-write-lengths
-    add-used
-    add-i
-    loop-less
-    loop-again
+    loop-less-2
+    loop-again-2
     same-length-4
     same-length-5
     same-length-6
