@@ -9,19 +9,19 @@ ghost use Rattle.splitter.specs.Split.{countOf, splitOf, ofSplit, rowWit
 ghost use Rattle.splitter.specs.inner.Job.{toldOf, isUnsplit, Made, frameOf, afterOne, jobEnd, jobFrames};
 
 // Maximum payload a Fast Packet can transport once reassembled. The bench has its own, as it shares no code with what it judges.
-const MAX_FAST_PACKET_PAYLOAD: usize = 223;
+pub const MAX_FAST_PACKET_PAYLOAD: usize = 223;
 
 // What fills the bytes of a frame that carry nothing.
-const FILL: u8 = 0xFF;
+pub const FILL: u8 = 0xFF;
 
 // A frame's bytes: all of them, or the frame is refused.
-const FRAME_BYTES: usize = 8;
+pub const FRAME_BYTES: usize = 8;
 
 // Byte 0 of a frame is the sequence times this, plus the index.
-const INDICES: u8 = 32;
+pub const INDICES: u8 = 32;
 
 // Sequences count modulo this.
-const SEQUENCES: u8 = 8;
+pub const SEQUENCES: u8 = 8;
 
 // The greatest sequence.
 const LAST_SEQUENCE: u8 = 7;
