@@ -5,3 +5,4 @@ pub mod Plans
 pub mod Runs
 pub mod Sought
 pub mod Unique
+pub mod Continues
