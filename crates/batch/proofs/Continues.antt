@@ -4,8 +4,8 @@ use Prim.Native.Nat.{ℕ, zero, suc, _+_, _*_, _≤_, _<_}
 use mathlib.Core.Path.{_≡_, refl, sym, ap, subst, _∙_}
 use mathlib.Core.Logic.{_⊎_, inl, inr}
 use mathlib.Core.Bool.{Bool, true, false}
-use mathlib.Core.List.{List, [], _∷_, _++_, append-nil, append-assoc}
-use lib.ListN.{length, getD, take, drop, length-append}
+use mathlib.Core.List.{List, append-nil, append-assoc}
+use lib.ListN.{length, length-append}
 use lib.Seq.{getD-drop, drop-drop}
 use lib.Dec.{ltb}
 use native.Mathlib.Omega.{arith}
@@ -15,7 +15,7 @@ use Rattle.session.specs.declared.Counters.{Counters}
 use Rattle.session.specs.Rules.{Rules}
 use Rattle.assembler.specs.declared.Pool.{Pool}
 use Rattle.assembler.specs.declared.Received.{Received}
-use Rattle.batch.specs.Rows.{Rows, frameAt, kindNumber, Run, start, took, answerTo, runFrom, runOf}
+use Rattle.batch.specs.Rows.{Rows, frameAt, Run, start, took, answerTo, runFrom, runOf}
 use Rattle.batch.specs.Calls.{calls, rest, joined}
 
 module _ (R : Rules) (l : List ℕ) where

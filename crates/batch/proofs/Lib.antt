@@ -6,3 +6,4 @@ pub mod Runs
 pub mod Sought
 pub mod Unique
 pub mod Continues
+pub mod Told

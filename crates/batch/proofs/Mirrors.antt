@@ -1,6 +1,6 @@
 -- The rows beside the heads, and the memory of the list, after a store. Assumes nothing.
-use Prim.Native.Nat.{ℕ, zero, suc, _+_, _≤_, _<_}
-use mathlib.Core.Path.{_≡_, refl, sym, ap, subst, _∙_}
+use Prim.Native.Nat.{ℕ, zero, suc, _+_, _<_}
+use mathlib.Core.Path.{_≡_, refl, _∙_}
 use mathlib.Core.Bool.{Bool, false}
 use mathlib.Core.List.{List, [], _∷_}
 use lib.ListN.{length, getD, set, replicate, length-set, length-replicate, getD-replicate}
@@ -11,7 +11,7 @@ use Rattle.base.proofs.Cases.{same?}
 use Rattle.fast_packet.specs.FastPacket.{listedIn}
 use Rattle.session.specs.declared.Head.{Head}
 use Rattle.session.specs.Rules.{poolLimit}
-use Rattle.batch.specs.inner.Mirror.{InRange, keyNumber, Shows, Mirrors}
+use Rattle.batch.specs.inner.Mirror.{Shows, Mirrors}
 use Rattle.batch.specs.inner.Memory.{places, Remembers}
 
 -- within a list the default does not matter

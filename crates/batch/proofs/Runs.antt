@@ -1,38 +1,34 @@
 -- The loop over the frames: what the code's pool, counters and rows are after i of them, and why one frame more is one step of the run. Assumes nothing.
-use Prim.Native.Nat.{ℕ, zero, suc, _+_, _*_, _-_, _≤_, _<_}
+use Prim.Native.Nat.{ℕ, suc, _+_, _*_, _-_, _≤_, _<_}
 use mathlib.Core.Path.{_≡_, refl, sym, ap, subst, _∙_}
 use mathlib.Core.Logic.{_⊎_, inl, inr}
 use mathlib.Core.Bool.{Bool, true, false, _||_}
-use mathlib.Core.List.{List, [], _∷_, _++_}
+use mathlib.Core.List.{List, _++_}
 use lib.ListN.{length, getD, take, drop, set, replicate, length-set, length-drop, take-append-drop}
-use lib.Seq.{paste, paste-zero, take-paste, drop-paste, set-getD, length-paste, length-take-le, take-suc-set, drop-set-lt, drop-drop, take-append-le, take-at}
+use lib.Seq.{paste, paste-zero, take-paste, drop-paste, set-getD, length-paste, length-take-le, take-suc-set, drop-set-lt, drop-drop, take-at}
 use lib.Dec.{ltb}
-use native.Mathlib.Nat.{sub-zero, add-zero}
+use native.Mathlib.Nat.{sub-zero}
 use native.Mathlib.Numerals.{add-one}
 use native.Mathlib.Omega.{arith}
-use borrow.Author.Tests.{ltb-false, lt-ltb, le-ltb}
+use borrow.Author.Tests.{ltb-false}
 use Rattle.base.specs.Pick.{pick}
 use Rattle.base.specs.Lists.{any}
-use Rattle.fast_packet.specs.FastPacket.{maxPayload}
 use Rattle.session.specs.declared.Heard.{Heard}
 use Rattle.session.specs.declared.Head.{Head}
 use Rattle.session.specs.declared.Plan.{Plan}
 use Rattle.session.specs.declared.Counters.{Counters}
 use Rattle.session.specs.Rules.{Rules, poolLimit}
-use Rattle.session.specs.Frames.{indexOf, sizeOf, badSize}
-use Rattle.session.specs.Heads.{impossibleHead, inTurn, copiedHead, allThere}
+use Rattle.session.specs.Heads.{impossibleHead}
 use Rattle.session.specs.Counting.{raised}
-use Rattle.session.specs.inner.Search.{blank, seen, seenIf, seenIn}
+use Rattle.session.specs.inner.Search.{blank, seenIf, seenIn}
 use Rattle.session.proofs.Seen.{seen-bad}
 use Rattle.session.proofs.Sound.{or-left, or-right}
 use Rattle.assembler.specs.declared.Pool.{Pool}
-use Rattle.assembler.specs.declared.Received.{Received}
 use Rattle.assembler.specs.Slots.{onHead, impossible}
 use Rattle.assembler.specs.View.{slotsFrom, slotsOf, receiveOf}
 use Rattle.assembler.proofs.Views.{Whole, any-view}
-use Rattle.assembler.proofs.Carries.{carried, Fits, Does, slot-long}
+use Rattle.assembler.proofs.Carries.{carried, Does, slot-long}
 use Rattle.batch.proofs.Plans.{Apart, Untouched}
-use Rattle.batch.specs.declared.Batch.{Batch}
 use Rattle.batch.specs.Rows.{Rows, frameAt, kindNumber, Run, start, took, answerTo, runFrom, runOf, Left, over, leaves, refusedBy, tooShort, batchOf}
 
 -- ---- the bytes of a message, in the arena and as the answer has them

@@ -1,10 +1,10 @@
 -- The cases of the tests of one place, and the loops that walk over places, as the code meets them. Assumes nothing.
-use Prim.Native.Nat.{ℕ, zero, suc, _+_, _-_, _%_, _≤_, _<_}
-use mathlib.Core.Path.{_≡_, refl, sym, ap, subst, _∙_}
-use mathlib.Core.Bool.{Bool, true, false, not, _&&_, _||_}
+use Prim.Native.Nat.{ℕ, suc, _+_, _-_, _%_, _≤_, _<_}
+use mathlib.Core.Path.{_≡_, refl, sym, _∙_}
+use mathlib.Core.Bool.{Bool, true, false, not, _&&_, _||_, true≢false}
 use mathlib.Core.List.{List}
-use lib.ListN.{length, getD}
-use lib.Dec.{eqb, ltb, leb}
+use lib.ListN.{getD}
+use lib.Dec.{eqb, ltb}
 use native.Mathlib.Omega.{arith}
 use native.Mathlib.Numerals.{add-one}
 use borrow.Author.Tests.{not-true, not-false, lt-ltb, le-ltb, le-leb, lt-leb, eq-eqb, ne-eqb}
@@ -44,11 +44,28 @@ own-free b o s e = rw e
 pub own-busy : (b : Bool) (o s : ℕ) → b ≡ false → false ≡ (b && eqb o s)
 own-busy b o s e = rw e
 
+module _ (b : Bool) (here key : ℕ) where
+  pub passed-open : b ≡ true → false ≡ (not b && not (eqb here key))
+  passed-open e = rw e
+
+  pub passed-other : (r : Bool) → b ≡ false → r ≡ not (eqb here key) → r ≡ (not b && not (eqb here key))
+  passed-other r e er = rw e er
+
+-- what passing a place by says of it
+pub passed-vacant : (r a b : Bool) → r ≡ (not a && not b) → r ≡ true → false ≡ a
+passed-vacant r true b e y = absurd (true≢false (sym y ∙ e))
+passed-vacant r false b e y = refl
+
+pub passed-key : (r a b : Bool) → r ≡ (not a && not b) → r ≡ true → false ≡ b
+passed-key r true b e y = absurd (true≢false (sym y ∙ e))
+passed-key r false true e y = absurd (true≢false (sym y ∙ e))
+passed-key r false false e y = refl
+
 pub size-is : (f : Heard) → getD (f .«data») 1 0 ≡ sizeOf f
 unfolding sizeOf
 size-is f = refl
 
-pub ruleset places = (silent-since, silent-before, open-idle, open-busy, live-same, live-other, own-free, own-busy, size-is)
+pub ruleset places = (silent-since, silent-before, open-idle, open-busy, live-same, live-other, own-free, own-busy, passed-open, passed-other, size-is)
 
 -- ---- keys
 
@@ -73,6 +90,9 @@ module _ (t : ℕ → Bool) (n : ℕ) where
       let m : n - (s - 1) ≡ suc (n - s) = omega arith in
       let back : suc (s - 1) ≡ s = omega arith in
       er ∙ rw (m, back, eb, ex)
+
+  pub down-past : (s x : ℕ) → 0 < s → s ≤ n → x ≡ firstFrom t s (n - s) → false ≡ t (s - 1) → x ≡ firstFrom t (s - 1) (n - (s - 1))
+  down-past s x low high ex eb = down-turn s x x false low high ex eb (unfold pick in refl)
 
   pub down-done : (s x : ℕ) → s ≤ 0 → x ≡ firstFrom t s (n - s) → x ≡ firstFrom t 0 n
   down-done s x low e =

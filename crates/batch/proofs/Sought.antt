@@ -1,6 +1,6 @@
 -- A search in the rows beside the heads comes to the place that the single call's walk finds, and where a frame takes no slot any place will do.
 -- Assumes nothing.
-use Prim.Native.Nat.{ℕ, zero, suc, _+_, _*_, _/_, _≤_, _<_}
+use Prim.Native.Nat.{ℕ, suc, _+_, _*_, _≤_, _<_}
 use mathlib.Core.Path.{_≡_, refl, sym, ap, subst, _∙_}
 use mathlib.Core.Bool.{Bool, true, false, not, _&&_, _||_}
 use mathlib.Core.Option.{Option, none, some}
@@ -10,7 +10,7 @@ use lib.Seq.{paste, set-getD, getD-take, length-take-le}
 use lib.Dec.{eqb, ltb, leb}
 use native.Mathlib.Nat.{zero-add, add-zero}
 use native.Mathlib.Omega.{arith}
-use borrow.Author.Tests.{ltb-false, lt-ltb, le-ltb, le-leb, leb-true, leb-false, eqb-false, eq-eqb, ne-eqb}
+use borrow.Author.Tests.{ltb-false, le-ltb, eq-eqb, ne-eqb}
 use Rattle.base.specs.Pick.{pick}
 use Rattle.base.specs.Lists.{next, here, firstAt}
 use Rattle.base.proofs.Cases.{same?}
@@ -19,9 +19,9 @@ use Rattle.session.specs.declared.Heard.{Heard}
 use Rattle.session.specs.declared.Head.{Head}
 use Rattle.session.specs.declared.Plan.{Plan}
 use Rattle.session.specs.declared.Kind.{Kind}
-use Rattle.session.specs.declared.Kind.the-variants.{Ignored, MessageComplete}
+use Rattle.session.specs.declared.Kind.the-variants.{Ignored}
 use Rattle.session.specs.declared.Mark.{Mark}
-use Rattle.session.specs.declared.Mark.the-variants.{Nothing, Rejected, Unknown}
+use Rattle.session.specs.declared.Mark.the-variants.{Rejected, Unknown}
 use Rattle.session.specs.declared.Counters.{Counters}
 use Rattle.session.specs.Rules.{base, poolLimit, silence, keysEqual}
 use Rattle.session.specs.Frames.{sequenceOf, indexOf, sizeOf, badSize, keyOf}
@@ -276,7 +276,7 @@ module _ (l : List ℕ) (f : Heard) (p : Pool) (k : Counters) (w : Whole p) (eig
 -- ---- a possible pool stays possible
 
 module _ (l : List ℕ) (f : Heard) (p : Pool) (k : Counters) (w : Whole p) (eight : length (f .«data») ≡ 8) (byte : getD (f .«data») 0 0 < 256) (fine : impossible base (slotsOf p) ≡ false) where
-  call-possible : impossible base (slotsOf (receiveOf base l f p k .pool)) ≡ false
+  pub call-possible : impossible base (slotsOf (receiveOf base l f p k .pool)) ≡ false
   unfolding receiveOf shown
   call-possible =
       let kept = keeps base (slotsOf p) k (record { pgns = l; heard = f }) (record { eight = eight; byte = byte }) fine in

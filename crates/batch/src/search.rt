@@ -137,6 +137,13 @@ fn is_live(here: u64, key: u64, time: u64, last: u64) -> bool
     }
 }
 
+// A place of another key that is not open is nothing to a first frame.
+fn is_passed(here: u64, key: u64, vacant: bool) -> bool
+    ensures { λ r. ⌜ r ≡ (not vacant && not (eqb here key)) ⌝ }
+{
+    if vacant { false } else { here != key }
+}
+
 fn either(b: bool, x: usize, y: usize) -> usize
     ensures { λ r. ⌜ r ≡ pick b x y ⌝ }
 {
@@ -179,6 +186,9 @@ fn choose(
         s -= 1;
         let here = keys[s];
         let vacant = is_open(here, time, lasts[s]);
+        if is_passed(here, key, vacant) {
+            continue;
+        }
         hit = either(here == key, s, hit);
         own = either(is_own(vacant, owners[s], source), s, own);
         free = either(vacant, s, free);

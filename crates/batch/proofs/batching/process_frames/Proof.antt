@@ -1,10 +1,9 @@
 -- `batching::process_frames` meets its contract: after i frames the code's state is the run's, and each frame more is a step of it. Assumes nothing.
 use borrow.Author.Needs.{needs}
-use Prim.Native.Nat.{_+_, _*_, _-_, _≤_}
+use Prim.Native.Nat.{_-_}
 use mathlib.Core.Path.{_≡_, refl, sym, ap, _∙_}
 use mathlib.Core.Bool.{false}
-use lib.ListN.{length, length-set, length-drop}
-use lib.Seq.{length-take-le}
+use lib.ListN.{length}
 use native.Mathlib.Omega.{arith}
 use borrow.Author.Tests.{le-ltb}
 use Rattle.session.specs.Rules.{base, poolLimit}
@@ -13,7 +12,7 @@ use Rattle.assembler.proofs.Copies.{length-unmap}
 use Rattle.assembler.proofs.Views.{Whole}
 use Rattle.assembler.specs.Slots.{impossible}
 use Rattle.assembler.specs.View.{slotsOf}
-use Rattle.batch.specs.Rows.{frameAt, refusedBy}
+use Rattle.batch.specs.Rows.{refusedBy}
 use Rattle.batch.specs.inner.Mirror.{Mirrors}
 use Rattle.batch.specs.inner.Memory.{Remembers}
 use Rattle.batch.proofs.Runs.{Running, begins, ends, stops, goes-on, goes-past, fits-arena, looked-at, gives-1, gives-27, gives-run, fits-all, frame-long}

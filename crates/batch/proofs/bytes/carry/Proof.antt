@@ -1,6 +1,6 @@
 -- `bytes::carry` meets its contract: the copies one after the other. Assumes nothing.
 use borrow.Author.Needs.{needs}
-use Prim.Native.Nat.{_+_, _*_, _≤_}
+use Prim.Native.Nat.{_+_, _*_}
 use mathlib.Core.Path.{_≡_, refl, ap, _∙_}
 use lib.ListN.{length, drop, length-drop}
 use lib.Seq.{length-paste}

@@ -1,8 +1,8 @@
 -- `bytes::put` meets its contract: after i turns the bytes are a copy of i of the frame's. Assumes nothing.
 use borrow.Author.Needs.{needs}
 use Prim.Native.Nat.{_≤_, _-_}
-use mathlib.Core.Path.{_≡_, refl, _∙_}
-use lib.ListN.{length, drop, length-set}
+use mathlib.Core.Path.{_≡_, refl}
+use lib.ListN.{length, drop}
 use lib.Seq.{paste}
 use native.Mathlib.Omega.{arith}
 use Rattle.assembler.proofs.Copies.{copy-none, copy-turn}

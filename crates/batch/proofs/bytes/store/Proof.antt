@@ -1,6 +1,6 @@
 -- `bytes::store` meets its contract. Assumes nothing.
 use borrow.Author.Needs.{needs}
-use mathlib.Core.Path.{_≡_, refl, sym, _∙_}
+use mathlib.Core.Path.{_≡_, refl, _∙_}
 use Rattle.batch.proofs.bytes.store.Statement.{statement}
 use Rattle.batch.proofs.bytes.store.Tie as tie
 

@@ -3,7 +3,7 @@ use borrow.Author.Needs.{needs}
 use Prim.Native.Nat.{_≤_, _-_}
 use mathlib.Core.Path.{_≡_, refl}
 use mathlib.Core.List.{append-nil}
-use lib.ListN.{length, drop, replicate}
+use lib.ListN.{drop, replicate}
 use lib.Seq.{paste}
 use native.Mathlib.Omega.{arith}
 use Rattle.assembler.proofs.Copies.{front-turn}

@@ -2,10 +2,11 @@
 use borrow.Author.Needs.{needs}
 use Prim.Native.Nat.{_-_, _≤_}
 use mathlib.Core.Path.{_≡_, refl, _∙_}
-use lib.ListN.{length}
+use lib.ListN.{length, getD}
+use lib.Dec.{eqb}
 use native.Mathlib.Omega.{arith}
 use Rattle.batch.specs.inner.Mirror.{firstFrom, keyAt, ownAt, openAt, chosenIn}
-use Rattle.batch.proofs.SearchLaws.{down-none, down-turn, down-done}
+use Rattle.batch.proofs.SearchLaws.{passed-vacant, passed-key, down-none, down-turn, down-past, down-done}
 use Rattle.batch.proofs.search.choose.Statement.{statement}
 use Rattle.batch.proofs.search.choose.Tie as tie
 
@@ -23,8 +24,25 @@ loop-holds c = (omega arith, c .pre .3, c .pre .0, c .pre .1, c .pre .2, down-no
 loop-again : tie.Need-loop-again Inv-loop μ-loop
 unfolding keyAt ownAt openAt
 loop-again c =
-    let inv = c .before .before .before .before .before .before .before .before .before .loop .inv in
-    let low = c .before .before .before .before .before .before .before .before .loop-test .taken in
+    let inv = c .before .before .before .before .before .before .loop .inv in
+    let low = c .before .before .before .before .before .loop-test .taken in
+    let other = eqb (getD (c .before .before .before .before .before .before .before .args .keys .now) (c .before .before .before .before .before .before .loop .s - 1) 0) (c .before .before .before .before .before .before .before .args .key) in
+    let busy = passed-vacant _ (c .before .before .is-open .result) other (c .before .is-passed .ensures) (c .if1 .taken) ∙ c .before .before .is-open .ensures in (
+      omega arith,
+      inv .1,
+      inv .2,
+      inv .3,
+      inv .4,
+      down-past _ _ _ _ low (inv .0) (inv .5) (passed-key _ (c .before .before .is-open .result) other (c .before .is-passed .ensures) (c .if1 .taken)),
+      down-past _ _ _ _ low (inv .0) (inv .6) (rw (← busy)),
+      down-past _ _ _ _ low (inv .0) (inv .7) busy,
+    )
+
+loop-again-2 : tie.Need-loop-again-2 Inv-loop μ-loop
+unfolding keyAt ownAt openAt
+loop-again-2 c =
+    let inv = c .before .before .before .before .before .before .before .before .before .before .before .loop .inv in
+    let low = c .before .before .before .before .before .before .before .before .before .before .loop-test .taken in
     let own = c .before .either2 .ensures in (
       omega arith,
       inv .1,
@@ -32,8 +50,8 @@ loop-again c =
       inv .3,
       inv .4,
       down-turn _ _ _ _ _ _ low (inv .0) (inv .5) refl (c .before .before .before .before .either .ensures),
-      down-turn _ _ _ _ _ _ low (inv .0) (inv .6) (c .before .before .is-own .ensures ∙ rw (c .before .before .before .before .before .is-open .ensures)) (c .before .either2 .ensures),
-      down-turn _ _ _ _ _ _ low (inv .0) (inv .7) (c .before .before .before .before .before .is-open .ensures) (c .either3 .ensures),
+      down-turn _ _ _ _ _ _ low (inv .0) (inv .6) (c .before .before .is-own .ensures ∙ rw (c .before .before .before .before .before .before .before .is-open .ensures)) (c .before .either2 .ensures),
+      down-turn _ _ _ _ _ _ low (inv .0) (inv .7) (c .before .before .before .before .before .before .before .is-open .ensures) (c .either3 .ensures),
     )
 
 returns : tie.Need-returns Inv-loop μ-loop
@@ -59,11 +77,14 @@ choose-spec =
     (λ c κs. search needs)
     (λ c κs. search needs)
     (λ c. search needs)
+    loop-again
+    (λ c κs. search needs)
+    (λ c. search needs)
     (λ c κs. search needs)
     (λ c κs. search needs)
     (λ c κs. search needs)
     (λ c. search needs)
-    loop-again
+    loop-again-2
     (λ c κs. search needs)
     (λ c κs. search needs)
     returns)

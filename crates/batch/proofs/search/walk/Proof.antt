@@ -4,12 +4,12 @@ use Prim.Native.Nat.{_≤_}
 use mathlib.Core.Path.{_≡_, refl, sym, ap, _∙_}
 use lib.ListN.{length}
 use native.Mathlib.Omega.{arith}
-use borrow.Author.Tests.{le-ltb, lt-ltb}
+use borrow.Author.Tests.{le-ltb}
 use Rattle.base.specs.Pick.{pick}
 use Rattle.session.specs.Rules.{base, poolLimit}
 use Rattle.session.specs.inner.Search.{blank}
 use Rattle.assembler.proofs.Copies.{length-unmap}
-use Rattle.session.proofs.Walks.{Walk, crowded, walk-start, walk-low, walk-turn, walk-done}
+use Rattle.session.proofs.Walks.{Walk, crowded, walk-start, walk-turn, walk-done}
 use Rattle.batch.proofs.search.walk.Statement.{statement}
 use Rattle.batch.proofs.search.walk.Tie as tie
 
