@@ -1,0 +1,50 @@
+-- The five numbers that the code makes of an answer of the bench are those of the paper's number and values. Assumes nothing.
+use Prim.Native.Nat.{ℕ}
+use mathlib.Core.List.{List}
+use mathlib.Core.Path.{_≡_, refl, ap, _∙_}
+use Rattle.base.specs.Answer.{Answer}
+use Rattle.oracle.specs.Numbers.{numberOf, valuesOf, ofReassembled, ofChecked}
+use Rattle.oracle.specs.declared.Fault.{Fault}
+use Rattle.oracle.specs.declared.Fault.the-variants.{Length, Restarted, Announced, Stray, Order, Padding}
+use Rattle.oracle.specs.declared.Reassembled.{Reassembled}
+use Rattle.oracle.specs.declared.Reassembled.the-variants.{Messages, Refused, Incomplete, NoRoom}
+use Rattle.oracle.specs.declared.Checked.{Checked}
+use Rattle.oracle.specs.declared.Checked.the-variants.{Good, NoCount, Over, NoClaim, Faulty, Open, Count, Size, Hours, Pattern, Sequence}
+use Rattle.ffi.specs.Bench.{five, fiveOf}
+use Rattle.ffi.specs.inner.Fives.{oneNumber, twoNumbers, fiveNumbers, faultFive, reassembledFive, checkedFive}
+
+faults : (f : Fault) → faultFive f ≡ five (valuesOf f)
+unfolding five valuesOf oneNumber twoNumbers fiveNumbers
+faults (Length n len) = refl
+faults (Restarted n) = refl
+faults (Announced n size) = refl
+faults (Stray n) = refl
+faults (Order n sequence index wanted next) = refl
+faults (Padding n byte) = refl
+
+reassembled : (r : Reassembled) → reassembledFive r ≡ fiveOf (ofReassembled r)
+unfolding five fiveOf ofReassembled oneNumber
+reassembled (Messages n) = refl
+reassembled (Refused f) = faults f
+reassembled (Incomplete size) = refl
+reassembled NoRoom = refl
+
+checked : (c : Checked) → checkedFive c ≡ fiveOf (ofChecked c)
+unfolding five fiveOf ofChecked oneNumber
+checked Good = refl
+checked NoCount = refl
+checked Over = refl
+checked NoClaim = refl
+checked (Faulty f) = faults f
+checked (Open size) = refl
+checked (Count n) = refl
+checked (Size i) = refl
+checked (Hours i) = refl
+checked (Pattern i) = refl
+checked (Sequence i) = refl
+
+pub reassembled-five : (r : Reassembled) {a : Answer ℕ} {v : List ℕ} → ofReassembled r ≡ a → v ≡ reassembledFive r → v ≡ fiveOf a
+reassembled-five r e h = h ∙ reassembled r ∙ ap fiveOf e
+
+pub checked-five : (c : Checked) {a : Answer ℕ} {v : List ℕ} → ofChecked c ≡ a → v ≡ checkedFive c → v ≡ fiveOf a
+checked-five c e h = h ∙ checked c ∙ ap fiveOf e

@@ -1,0 +1,130 @@
+-- The promise of each entry determines what it returns and what it lends out: two outcomes that satisfy it are equal. Assumes nothing.
+use Prim.Native.Nat.{ℕ}
+use mathlib.Core.Bool.{Bool}
+use mathlib.Core.List.{List}
+use mathlib.Core.Path.{_≡_}
+use Rattle.base.proofs.Cases.{determined}
+use Rattle.can_id.specs.Layout.{priorityOf, pgnOf, destinationOf, sourceOf}
+use Rattle.can_id.specs.Build.{buildOf}
+use Rattle.can_id.specs.declared.CanIdBuilder.{CanIdBuilder}
+use Rattle.builder.specs.Next.{Step}
+use Rattle.builder.specs.Frames.{Turn}
+use Rattle.builder.specs.declared.FastPacketBuilder.{FastPacketBuilder}
+use Rattle.builder.specs.declared.FrameIterator.{FrameIterator}
+use Rattle.builder.specs.declared.Made.{Made as Begun}
+use Rattle.fast_packet.specs.FastPacket.{listedIn, filledFrom}
+use Rattle.assembler.specs.declared.Made.{Made}
+use Rattle.assembler.specs.declared.Received.{Received}
+use Rattle.base.specs.Answer.{Answer}
+use Rattle.batch.specs.Rows.{Left as Rowed}
+use Rattle.oracle.specs.Strict.{Message}
+use Rattle.splitter.specs.Frames.{countIn}
+use Rattle.splitter.specs.declared.Frame.{Frame}
+use Rattle.ffi.specs.Batches.{LeftBy}
+use Rattle.ffi.specs.Bench.{fiveOf, Reassembles, Splits}
+use Rattle.ffi.specs.Pool.{Left, MadeAs}
+use Rattle.ffi.specs.Numbers.{addressOf, codeOf, valueOf}
+use Rattle.ffi.specs.Frames.{builderNumbers, heldAfter, madeNumbers, placeNumbers, stepNumber, stepBytes, stepFrame, stepAfter, turnStep}
+
+-- a number returned, and memory lent out
+both : {A B : Type 0} {x r s : A} {y v w : B} → (r ≡ x) × (v ≡ y) → (s ≡ x) × (w ≡ y) → (r ≡ s) × (v ≡ w)
+both p q = (determined (p .0) (q .0), determined (p .1) (q .1))
+
+-- ---- identifiers
+module _ (id r s : ℕ) where
+  pub hf-can-id-priority-unique : r ≡ priorityOf id → s ≡ priorityOf id → r ≡ s
+  hf-can-id-priority-unique = determined
+
+  pub hf-can-id-pgn-unique : r ≡ pgnOf id → s ≡ pgnOf id → r ≡ s
+  hf-can-id-pgn-unique = determined
+
+  pub hf-can-id-destination-unique : r ≡ addressOf (destinationOf id) → s ≡ addressOf (destinationOf id) → r ≡ s
+  hf-can-id-destination-unique = determined
+
+  pub hf-can-id-source-address-unique : r ≡ sourceOf id → s ≡ sourceOf id → r ≡ s
+  hf-can-id-source-address-unique = determined
+
+-- of whatever builder: `partsOf`, `setOf` or `bothOf` of the entry's numbers
+pub hf-can-id-build-unique : (b : CanIdBuilder) (r s v w : ℕ) → (r ≡ codeOf (buildOf b)) × (v ≡ valueOf (buildOf b)) → (s ≡ codeOf (buildOf b)) × (w ≡ valueOf (buildOf b)) → (r ≡ s) × (v ≡ w)
+hf-can-id-build-unique b r s v w = both
+
+-- ---- frames
+four : {A B C D : Type 0} {x r s : A} {y v w : B} {z p q : C} {a b c : D} → (r ≡ x) × (v ≡ y) × (p ≡ z) × (b ≡ a) → (s ≡ x) × (w ≡ y) × (q ≡ z) × (c ≡ a) → (r ≡ s) × (v ≡ w) × (p ≡ q) × (b ≡ c)
+four h k = (determined (h .0) (k .0), determined (h .1) (k .1), determined (h .2) (k .2), determined (h .3) (k .3))
+
+pub hf-builder-new-unique : (m : Begun) (r s : ℕ) (v w : List ℕ) → (r ≡ heldAfter m) × (v ≡ madeNumbers m) → (s ≡ heldAfter m) × (w ≡ madeNumbers m) → (r ≡ s) × (v ≡ w)
+hf-builder-new-unique m r s v w = both
+
+-- of whatever builder: `withSequence`, `withPriority` or `withDestination` of the entry's numbers
+pub hf-builder-set-unique : (b : FastPacketBuilder) (v w : List ℕ) → v ≡ builderNumbers b → w ≡ builderNumbers b → v ≡ w
+hf-builder-set-unique b v w = determined
+
+pub hf-builder-build-unique : (t : FrameIterator) (v w : List ℕ) → v ≡ placeNumbers t → w ≡ placeNumbers t → v ≡ w
+hf-builder-build-unique t v w = determined
+
+-- `t` is `nextOf` of the entry's numbers
+pub hf-next-frame-unique : (t : Step) (r s : ℕ) (v w p q b c : List ℕ)
+    → (r ≡ stepNumber t) × (v ≡ stepBytes t) × (p ≡ stepFrame t) × (b ≡ stepAfter t)
+    → (s ≡ stepNumber t) × (w ≡ stepBytes t) × (q ≡ stepFrame t) × (c ≡ stepAfter t)
+    → (r ≡ s) × (v ≡ w) × (p ≡ q) × (b ≡ c)
+hf-next-frame-unique t r s v w p q b c = four
+
+-- `t` is `nextTurn` of the entry's numbers
+pub hf-frame-iterator-next-unique : (t : Turn) (r s : ℕ) (v w p q b c : List ℕ)
+    → (r ≡ stepNumber (turnStep t)) × (v ≡ stepBytes (turnStep t)) × (p ≡ stepFrame (turnStep t)) × (b ≡ stepAfter (turnStep t))
+    → (s ≡ stepNumber (turnStep t)) × (w ≡ stepBytes (turnStep t)) × (q ≡ stepFrame (turnStep t)) × (c ≡ stepAfter (turnStep t))
+    → (r ≡ s) × (v ≡ w) × (p ≡ q) × (b ≡ c)
+hf-frame-iterator-next-unique t = hf-next-frame-unique (turnStep t)
+
+-- ---- the list and the filling
+pub hf-is-listed-unique : (pgn : ℕ) (pgns : List ℕ) (r s : Bool) → r ≡ listedIn pgn pgns → s ≡ listedIn pgn pgns → r ≡ s
+hf-is-listed-unique pgn pgns r s = determined
+
+pub hf-fill-short-unique : (len : ℕ) (bytes r s : List ℕ) → r ≡ filledFrom len bytes → s ≡ filledFrom len bytes → r ≡ s
+hf-fill-short-unique len bytes r s = determined
+
+pub hf-handles-unique : (pgn : ℕ) (pgns : List ℕ) (r s : Bool) → r ≡ listedIn pgn pgns → s ≡ listedIn pgn pgns → r ≡ s
+hf-handles-unique pgn pgns r s = determined
+
+-- ---- the receive call: what is returned, the heads, the bytes, the counters, the payload and the length
+-- `r` is `calledWith` or `calledWithLength` of the entry's numbers
+pub hf-process-frame-unique : (r : Received) (old : List ℕ) (a b : ℕ) (h i j k c d p q : List ℕ) (l m : ℕ)
+    → Left r old a h j c p l → Left r old b i k d q m
+    → (a ≡ b) × (h ≡ i) × (j ≡ k) × (c ≡ d) × (p ≡ q) × (l ≡ m)
+hf-process-frame-unique r old a b h i j k c d p q l m x y =
+    (determined (x .told) (y .told), determined (x .kept) (y .kept), determined (x .stored) (y .stored), determined (x .counted) (y .counted), determined (x .delivered) (y .delivered), determined (x .measured) (y .measured))
+
+-- `n` is `madeOf` of the size wanted, or the default pool: what is returned, the heads, the bytes and the size
+pub hf-pool-new-unique : (n : Made) (old : List ℕ) (a b : ℕ) (h i j k : List ℕ) (l m : ℕ)
+    → MadeAs n old a h j l → MadeAs n old b i k m → (a ≡ b) × (h ≡ i) × (j ≡ k) × (l ≡ m)
+hf-pool-new-unique n old a b h i j k l m x y =
+    (determined (x .told) (y .told), determined (x .kept) (y .kept), determined (x .stored) (y .stored), determined (x .sized) (y .sized))
+
+-- `l` is `batchWith` of the entry's numbers: what is returned, heads, bytes, counters, kinds, lengths, arena and counts
+pub hf-process-frames-unique : (l : Rowed) (old : List ℕ) (a b : ℕ) (h i j k c d m n o p q r s t : List ℕ)
+    → LeftBy l old a h j c m o q s → LeftBy l old b i k d n p r t
+    → (a ≡ b) × (h ≡ i) × (j ≡ k) × (c ≡ d) × (m ≡ n) × (o ≡ p) × (q ≡ r) × (s ≡ t)
+hf-process-frames-unique l old a b h i j k c d m n o p q r s t x y =
+    let u = x .pool in
+    let v = y .pool in
+    (determined (u .told) (v .told), determined (u .kept) (v .kept), determined (u .stored) (v .stored), determined (u .counted) (v .counted), determined (x .answered) (y .answered), determined (x .measured) (y .measured), determined (x .delivered) (y .delivered), determined (u .taken) (v .taken))
+
+-- ---- the bench
+-- `w` is `reassembledIn` of the entry's rows: what is returned, the five numbers, the list and the arena
+pub hf-reassemble-unique : (w : Answer (List Message)) (list arena : List ℕ) (a b : ℕ) (v x l m n o : List ℕ)
+    → Reassembles w a v l list n arena → Reassembles w b x m list o arena → (a ≡ b) × (v ≡ x) × (l ≡ m) × (n ≡ o)
+hf-reassemble-unique w list arena a b v x l m n o p q =
+    (determined (p .told) (q .told), determined (p .carried) (q .carried), determined (p .listed) (q .listed), determined (p .laid) (q .laid))
+
+-- `w` is `splitIn` of the entry's rows: what is returned, the number of frames and the three rows
+pub hf-fast-packet-frames-unique : (w : Answer (List Frame)) (ids bytes lens : List ℕ) (a b f g : ℕ) (i j k l m n : List ℕ)
+    → Splits w a f i ids k bytes m lens → Splits w b g j ids l bytes n lens → (a ≡ b) × (f ≡ g) × (i ≡ j) × (k ≡ l) × (m ≡ n)
+hf-fast-packet-frames-unique w ids bytes lens a b f g i j k l m n p q =
+    (determined (p .told) (q .told), determined (p .given) (q .given), determined (p .named) (q .named), determined (p .filled) (q .filled), determined (p .measured) (q .measured))
+
+pub hf-frame-count-unique : (ids bytes lens r s : ℕ) → r ≡ countIn ids bytes lens → s ≡ countIn ids bytes lens → r ≡ s
+hf-frame-count-unique ids bytes lens r s = determined
+
+-- `w` is `checkTxOf` of the entry's rows
+pub hf-check-tx-unique : (w : Answer ℕ) (a b : ℕ) (v x : List ℕ) → (a ≡ codeOf w) × (v ≡ fiveOf w) → (b ≡ codeOf w) × (x ≡ fiveOf w) → (a ≡ b) × (v ≡ x)
+hf-check-tx-unique w a b v x = both

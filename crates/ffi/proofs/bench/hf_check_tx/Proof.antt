@@ -1,0 +1,14 @@
+-- `hf_check_tx` meets its contract: it passes on what its calls say. Assumes nothing.
+use borrow.Author.Needs.{needs}
+use Rattle.ffi.proofs.Fives.{checked-five}
+use Rattle.ffi.proofs.bench.hf_check_tx.Statement.{statement}
+use Rattle.ffi.proofs.bench.hf_check_tx.Tie as tie
+
+pub hf-check-tx-spec : {M : Type 1} → statement M
+hf-check-tx-spec =
+    tie.close
+    (tie.spec
+    (λ c κs. search needs)
+    (λ c κs. search needs)
+    (λ c κs. search needs)
+    (λ c. (cc, search (needs, checked-five))))

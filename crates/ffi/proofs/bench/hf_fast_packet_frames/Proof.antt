@@ -1,0 +1,18 @@
+-- `hf_fast_packet_frames` meets its contract: it passes on what its calls say. Assumes nothing.
+use borrow.Author.Needs.{needs}
+use Rattle.ffi.specs.Bench.{splitIn}
+use Rattle.ffi.proofs.bench.hf_fast_packet_frames.Statement.{statement}
+use Rattle.ffi.proofs.bench.hf_fast_packet_frames.Tie as tie
+
+pub hf-fast-packet-frames-spec : {M : Type 1} → statement M
+unfolding splitIn
+hf-fast-packet-frames-spec =
+    tie.close
+    (tie.spec
+    (λ c κs. search needs)
+    (λ c κs. search needs)
+    (λ c κs. search needs)
+    (λ c. search needs)
+    (λ c. search needs)
+    (λ c. search needs)
+    (λ c. record { told = cc; given = cc; named = cc; filled = cc; measured = cc }))

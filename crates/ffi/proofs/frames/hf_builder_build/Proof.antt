@@ -1,0 +1,13 @@
+-- `hf_builder_build` meets its contract: it passes on what its calls say. Assumes nothing.
+use borrow.Author.Needs.{needs}
+use Rattle.ffi.proofs.frames.hf_builder_build.Statement.{statement}
+use Rattle.ffi.proofs.frames.hf_builder_build.Tie as tie
+
+pub hf-builder-build-spec : {M : Type 1} → statement M
+hf-builder-build-spec =
+    tie.close
+    (tie.spec
+    (λ c κs. search needs)
+    (λ c κs. search needs)
+    (λ c κs. search needs)
+    (λ c. cc))

@@ -1,0 +1,14 @@
+-- `hf_frame_iterator_next` meets its contract: it passes on what its calls say. Assumes nothing.
+use borrow.Author.Needs.{needs}
+use Rattle.ffi.proofs.frames.hf_frame_iterator_next.Statement.{statement}
+use Rattle.ffi.proofs.frames.hf_frame_iterator_next.Tie as tie
+
+pub hf-frame-iterator-next-spec : {M : Type 1} → statement M
+hf-frame-iterator-next-spec =
+    tie.close
+    (tie.spec
+    (λ c κs. search needs)
+    (λ c κs. search needs)
+    (λ c κs. search needs)
+    (λ c κs. search needs)
+    (λ c. (cc, cc, cc, cc)))

@@ -1,0 +1,13 @@
+-- `lay_made` meets its contract. Assumes nothing.
+use borrow.Author.Needs.{needs}
+use Rattle.ffi.specs.Frames.{heldAfter, madeNumbers}
+use Rattle.ffi.proofs.frames.lay_made.Statement.{statement}
+use Rattle.ffi.proofs.frames.lay_made.Tie as tie
+
+pub lay-made-spec : {M : Type 1} → statement M
+unfolding heldAfter madeNumbers
+lay-made-spec =
+    tie.close
+    (tie.spec
+    (λ c κs. search needs)
+    (λ c. (cc, cc)))

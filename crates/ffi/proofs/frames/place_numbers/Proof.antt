@@ -1,0 +1,14 @@
+-- `place_numbers` meets its contract: each number as its call says. Assumes nothing.
+use borrow.Author.Needs.{needs}
+use Rattle.ffi.specs.Frames.{placeNumbers}
+use Rattle.ffi.proofs.frames.place_numbers.Statement.{statement}
+use Rattle.ffi.proofs.frames.place_numbers.Tie as tie
+
+pub place-numbers-spec : {M : Type 1} → statement M
+unfolding placeNumbers
+place-numbers-spec =
+    tie.close
+    (tie.spec
+    (λ c κs. search needs)
+    (λ c κs. search needs)
+    (λ c. cc))

@@ -1,0 +1,13 @@
+-- `hf_can_id_build_to` meets its contract: it passes on what its calls say. Assumes nothing.
+use borrow.Author.Needs.{needs}
+use Rattle.ffi.proofs.ids.hf_can_id_build_to.Statement.{statement}
+use Rattle.ffi.proofs.ids.hf_can_id_build_to.Tie as tie
+
+pub hf-can-id-build-to-spec : {M : Type 1} → statement M
+hf-can-id-build-to-spec =
+    tie.close
+    (tie.spec
+    (λ c κs. search needs)
+    (λ c κs. search needs)
+    (λ c κs. search needs)
+    (λ c. (cc, cc)))

@@ -1,0 +1,12 @@
+-- `hf_can_id_destination` meets its contract: it passes on what the two calls say. Assumes nothing.
+use borrow.Author.Needs.{needs}
+use Rattle.ffi.proofs.ids.hf_can_id_destination.Statement.{statement}
+use Rattle.ffi.proofs.ids.hf_can_id_destination.Tie as tie
+
+pub hf-can-id-destination-spec : {M : Type 1} → statement M
+hf-can-id-destination-spec =
+    tie.close
+    (tie.spec
+    (λ c κs. search needs)
+    (λ c κs. search needs)
+    (λ c. cc))

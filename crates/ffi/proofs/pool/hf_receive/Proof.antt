@@ -1,0 +1,17 @@
+-- `hf_receive` meets its contract: it passes on what its calls say. Assumes nothing.
+use borrow.Author.Needs.{needs}
+use Rattle.ffi.proofs.Laws.{left-by}
+use Rattle.ffi.specs.Pool.{calledWith}
+use Rattle.ffi.proofs.pool.hf_receive.Statement.{statement}
+use Rattle.ffi.proofs.pool.hf_receive.Tie as tie
+
+pub hf-receive-spec : {M : Type 1} → statement M
+unfolding calledWith
+hf-receive-spec =
+    tie.close
+    (tie.spec
+    (λ c κs. search needs)
+    (λ c κs. search needs)
+    (λ c κs. search needs)
+    (λ c κs. search needs)
+    (λ c. left-by (c .leave .ensures) (cc)))

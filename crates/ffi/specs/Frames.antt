@@ -1,0 +1,71 @@
+-- The frame builder, its iterator and its answers, as numbers.
+use Prim.Native.Nat.{ℕ, _%_}
+use mathlib.Core.List.{List, [], _∷_}
+use lib.ListN.{getD}
+use Rattle.base.specs.Pick.{pick}
+use Rattle.builder.specs.Next.{Kind, Step, frame, end, refusal}
+use Rattle.builder.specs.Frames.{Turn}
+use Rattle.builder.specs.declared.FastPacketBuilder.{FastPacketBuilder}
+use Rattle.builder.specs.declared.Made.{Made}
+use Rattle.builder.specs.declared.FrameIterator.{FrameIterator}
+use Rattle.ffi.specs.Numbers.{isSet, toAddress, addressOf, carriesOf}
+
+-- a builder is six numbers: PGN, source, destination, priority, sequence, and whether it is fast; each is read in the width of its field
+unfoldable pub builderFrom : List ℕ → FastPacketBuilder
+builderFrom n =
+    record {
+      pgn = getD n 0 0 % 0x1_0000_0000;
+      «source_address» = getD n 1 0 % 0x100;
+      destination = toAddress (getD n 2 0);
+      priority = getD n 3 0 % 0x100;
+      «sequence_id» = getD n 4 0 % 0x100;
+      fast = isSet (getD n 5 0);
+    }
+
+unfoldable pub builderNumbers : FastPacketBuilder → List ℕ
+builderNumbers b =
+    b .pgn ∷ b .«source_address» ∷ addressOf (b .destination) ∷ b .priority ∷ b .«sequence_id» ∷ pick (b .fast) 1 0 ∷ []
+
+-- of a new builder: its numbers, and the number that the caller holds from now on
+unfoldable pub madeNumbers : Made → List ℕ
+madeNumbers m = builderNumbers (m .builder)
+
+unfoldable pub heldAfter : Made → ℕ
+heldAfter m = m .«sequence_id»
+
+-- an iterator is a builder and its place: frame index and bytes sent
+unfoldable pub iteratorFrom : List ℕ → List ℕ → FrameIterator
+iteratorFrom n place = record { builder = builderFrom n; «frame_index» = getD place 0 0 % 0x100; «bytes_sent» = getD place 1 0 }
+
+unfoldable pub placeNumbers : FrameIterator → List ℕ
+placeNumbers t = t .«frame_index» ∷ t .«bytes_sent» ∷ []
+
+-- what asking for the next frame returns: 0 for a frame, 256 for End, a refusal's number
+abbrev pub kindNumber : Kind → ℕ
+kindNumber frame = 0
+kindNumber end = 256
+kindNumber (refusal n l) = n
+
+abbrev pub kindCarries : Kind → ℕ
+kindCarries frame = 0
+kindCarries end = 0
+kindCarries (refusal n l) = carriesOf l
+
+unfoldable pub stepNumber : Step → ℕ
+stepNumber s = kindNumber (s .kind)
+
+-- and lends out: the frame's bytes
+unfoldable pub stepBytes : Step → List ℕ
+stepBytes s = s .sent .«data»
+
+-- its identifier and length, and what a refusal carries
+unfoldable pub stepFrame : Step → List ℕ
+stepFrame s = s .sent .id .0 ∷ s .sent .len ∷ kindCarries (s .kind) ∷ []
+
+-- the frame index and the bytes sent that follow
+unfoldable pub stepAfter : Step → List ℕ
+stepAfter s = s .index ∷ s .bytes ∷ []
+
+-- of a turn of the iterator, whose builder stays as it is
+unfoldable pub turnStep : Turn → Step
+turnStep t = t .answer

@@ -1,0 +1,24 @@
+-- The builder of an identifier, from numbers.
+use Prim.Native.Nat.{ℕ}
+use lib.Dec.{ltb}
+use Rattle.base.specs.Pick.{pick}
+use Rattle.can_id.specs.Build.{fresh, withPriority, withDestination}
+use Rattle.can_id.specs.declared.CanIdBuilder.{CanIdBuilder}
+use Rattle.ffi.specs.Numbers.{toAddress}
+
+unfoldable pub partsOf : ℕ → ℕ → ℕ → ℕ → CanIdBuilder
+partsOf priority pgn source destination = record { priority = priority; pgn = pgn; «source_address» = source; destination = toAddress destination }
+
+-- a fresh builder, with the priority and the destination set where they are below 256
+unfoldable pub setPriority : ℕ → CanIdBuilder → CanIdBuilder
+setPriority p b = pick (ltb p 256) (withPriority b p) b
+
+unfoldable pub setDestination : ℕ → CanIdBuilder → CanIdBuilder
+setDestination d b = pick (ltb d 256) (withDestination b d) b
+
+unfoldable pub setOf : ℕ → ℕ → ℕ → ℕ → CanIdBuilder
+setOf pgn source priority destination = setDestination destination (setPriority priority (fresh pgn source))
+
+-- a fresh builder, with both set
+unfoldable pub bothOf : ℕ → ℕ → ℕ → ℕ → CanIdBuilder
+bothOf pgn source priority destination = withDestination (withPriority (fresh pgn source) priority) destination

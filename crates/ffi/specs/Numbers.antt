@@ -1,0 +1,36 @@
+-- The numbers that stand for what C does not have.
+use Prim.Native.Nat.{ℕ}
+use mathlib.Core.List.{List, [], _∷_}
+use mathlib.Core.Bool.{Bool, not}
+use lib.Dec.{ltb, eqb}
+use Rattle.base.specs.Answer.{Answer, gives, refuses}
+use Rattle.base.specs.Pick.{pick}
+use Rattle.can_id.specs.declared.Destination.{Destination}
+use Rattle.can_id.specs.declared.Destination.the-variants.{Nobody, To}
+
+-- a flag is any number but 0
+unfoldable pub isSet : ℕ → Bool
+isSet n = not (eqb n 0)
+
+-- a destination is an address below 256, and from 256 on there is none
+unfoldable pub toAddress : ℕ → Destination
+toAddress n = pick (ltb n 256) (To n) Nobody
+
+abbrev pub addressOf : Destination → ℕ
+addressOf Nobody = 256
+addressOf (To d) = d
+
+-- a call that may refuse returns the refusal's number, or 0
+abbrev pub codeOf : Answer ℕ → ℕ
+codeOf (gives x) = 0
+codeOf (refuses n l) = n
+
+-- the one number that a refusal carries, or 0
+abbrev pub carriesOf : List ℕ → ℕ
+carriesOf [] = 0
+carriesOf (x ∷ l) = x
+
+-- and lends out what it gives, or what the refusal carries
+abbrev pub valueOf : Answer ℕ → ℕ
+valueOf (gives x) = x
+valueOf (refuses n l) = carriesOf l

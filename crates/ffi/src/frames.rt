@@ -1,0 +1,242 @@
+// The frame builder: made, set, and asked for the next frame.
+ghost use mathlib.Core.Path.{_≡_};
+ghost use mathlib.Core.List.{[], _∷_};
+ghost use Rattle.builder.specs.Builder.{madeOf, withSequence, withPriority, withDestination};
+ghost use Rattle.builder.specs.Next.{kindOf, stepOf, nextOf};
+ghost use Rattle.builder.specs.Frames.{turnOf, started, nextTurn};
+ghost use Rattle.ffi.specs.Numbers.{toAddress};
+ghost use Rattle.ffi.specs.Frames.{builderFrom, builderNumbers, heldAfter, madeNumbers, iteratorFrom, placeNumbers, kindNumber, kindCarries, stepNumber, stepBytes, stepFrame, stepAfter, turnStep};
+use crate::numbers::carried;
+use crate::numbers::destination_from;
+use crate::numbers::flag;
+use crate::numbers::is_set;
+use crate::numbers::low_byte;
+use crate::numbers::low_word;
+use crate::numbers::number_of;
+use crate::numbers::refusal;
+use crate::numbers::size_from;
+use crate::numbers::wide;
+use crate::numbers::wide_half;
+use crate::numbers::wide_size;
+use crate::numbers::wide_word;
+use builder::FastPacketBuilder;
+use builder::FrameIterator;
+use builder::Item;
+use builder::Made;
+use builder::Next;
+use builder::NextKind;
+use can_id::CanFrame;
+
+// ---- a builder as numbers
+
+fn builder_from(n: &[u64; 6]) -> FastPacketBuilder
+    ensures { λ r. ⌜ r ≡ builderFrom (now (n .entry)) ⌝ }
+{
+    FastPacketBuilder {
+        pgn: low_word(n[0]),
+        source_address: low_byte(n[1]),
+        destination: destination_from(n[2]),
+        priority: low_byte(n[3]),
+        sequence_id: low_byte(n[4]),
+        fast: is_set(n[5]),
+    }
+}
+
+fn builder_numbers(b: FastPacketBuilder) -> [u64; 6]
+    ensures { λ r. ⌜ r ≡ builderNumbers b ⌝ }
+{
+    let destination = b.destination;
+    [
+        wide_word(b.pgn),
+        wide(b.source_address),
+        wide_half(number_of(destination)),
+        wide(b.priority),
+        wide(b.sequence_id),
+        flag(b.fast),
+    ]
+}
+
+fn lay_made(made: Made, builder: &mut [u64; 6]) -> u8
+    ensures { λ r. ⌜ (r ≡ heldAfter made) × (now (builder .exit) ≡ madeNumbers made) ⌝ }
+{
+    let b = made.builder;
+    *builder = builder_numbers(b);
+    made.sequence_id
+}
+
+// ---- a builder made and set, in place
+
+// Returns the number that the caller holds from now on.
+#[no_mangle]
+pub extern "C" fn hf_builder_new(
+    pgn: u32,
+    source_address: u8,
+    destination: u16,
+    payload: &[u8],
+    pgns: &[u32],
+    sequence_id: u8,
+    builder: &mut [u64; 6],
+) -> u8
+    ensures { λ r. ⌜ (r ≡ heldAfter (madeOf pgn «source_address» (toAddress destination) (now (payload .entry)) (now (pgns .entry)) «sequence_id»))
+        × (now (builder .exit) ≡ madeNumbers (madeOf pgn «source_address» (toAddress destination) (now (payload .entry)) (now (pgns .entry)) «sequence_id»)) ⌝ }
+{
+    let to = destination_from(wide_half(destination));
+    let made = FastPacketBuilder::new(pgn, source_address, to, payload, pgns, sequence_id);
+    lay_made(made, builder)
+}
+
+#[no_mangle]
+pub extern "C" fn hf_builder_with_sequence_id(builder: &mut [u64; 6], sequence_id: u8)
+    ensures { λ _. ⌜ now (builder .exit) ≡ builderNumbers (withSequence (builderFrom (now (builder .entry))) «sequence_id») ⌝ }
+{
+    let b = builder_from(builder);
+    *builder = builder_numbers(b.with_sequence_id(sequence_id));
+}
+
+#[no_mangle]
+pub extern "C" fn hf_builder_with_priority(builder: &mut [u64; 6], priority: u8)
+    ensures { λ _. ⌜ now (builder .exit) ≡ builderNumbers (withPriority (builderFrom (now (builder .entry))) priority) ⌝ }
+{
+    let b = builder_from(builder);
+    *builder = builder_numbers(b.with_priority(priority));
+}
+
+#[no_mangle]
+pub extern "C" fn hf_builder_to_destination(builder: &mut [u64; 6], destination: u8)
+    ensures { λ _. ⌜ now (builder .exit) ≡ builderNumbers (withDestination (builderFrom (now (builder .entry))) destination) ⌝ }
+{
+    let b = builder_from(builder);
+    *builder = builder_numbers(b.to_destination(destination));
+}
+
+// ---- an answer as numbers
+
+fn kind_number(kind: NextKind) -> u32
+    ensures { λ r. ⌜ r ≡ kindNumber (kindOf kind) ⌝ }
+{
+    match kind {
+        NextKind::Frame => 0,
+        NextKind::End => 256,
+        NextKind::Refused(error) => refusal(error),
+    }
+}
+
+fn kind_carries(kind: NextKind) -> u32
+    ensures { λ r. ⌜ r ≡ kindCarries (kindOf kind) ⌝ }
+{
+    match kind {
+        NextKind::Frame => 0,
+        NextKind::End => 0,
+        NextKind::Refused(error) => carried(error),
+    }
+}
+
+fn frame_numbers(frame: CanFrame, kind: NextKind) -> [u64; 3]
+    ensures { λ r. ⌜ r ≡ (frame .id .0 ∷ frame .len ∷ kindCarries (kindOf kind) ∷ []) ⌝ }
+{
+    [
+        wide_word(frame.id.0),
+        wide_size(frame.len),
+        wide_word(kind_carries(kind)),
+    ]
+}
+
+fn told(next: Next, data: &mut [u8; 8], frame: &mut [u64; 3], after: &mut [u64; 2]) -> u32
+    ensures { λ r. ⌜ (r ≡ stepNumber (stepOf next))
+        × (now («data» .exit) ≡ stepBytes (stepOf next))
+        × (now (frame .exit) ≡ stepFrame (stepOf next))
+        × (now (after .exit) ≡ stepAfter (stepOf next)) ⌝ }
+{
+    let f = next.frame;
+    let kind = next.kind;
+    let bytes = f.data;
+    *data = bytes;
+    *frame = frame_numbers(f, kind);
+    *after = [wide(next.frame_index), wide_size(next.bytes_sent)];
+    kind_number(kind)
+}
+
+// ---- the next frame, at any frame index and bytes sent
+
+// 0 for a frame, 256 for End, or a refusal's number.
+#[no_mangle]
+pub extern "C" fn hf_next_frame(
+    builder: &[u64; 6],
+    frame_index: u8,
+    bytes_sent: usize,
+    payload: &[u8],
+    data: &mut [u8; 8],
+    frame: &mut [u64; 3],
+    after: &mut [u64; 2],
+) -> u32
+    ensures { λ r. ⌜ (r ≡ stepNumber (nextOf (builderFrom (now (builder .entry))) «frame_index» «bytes_sent» (now (payload .entry))))
+        × (now («data» .exit) ≡ stepBytes (nextOf (builderFrom (now (builder .entry))) «frame_index» «bytes_sent» (now (payload .entry))))
+        × (now (frame .exit) ≡ stepFrame (nextOf (builderFrom (now (builder .entry))) «frame_index» «bytes_sent» (now (payload .entry))))
+        × (now (after .exit) ≡ stepAfter (nextOf (builderFrom (now (builder .entry))) «frame_index» «bytes_sent» (now (payload .entry)))) ⌝ }
+{
+    let b = builder_from(builder);
+    let next = b.next_frame(frame_index, bytes_sent, payload);
+    told(next, data, frame, after)
+}
+
+// ---- frame by frame
+
+fn iterator_from(builder: &[u64; 6], place: &[u64; 2]) -> FrameIterator
+    ensures { λ r. ⌜ r ≡ iteratorFrom (now (builder .entry)) (now (place .entry)) ⌝ }
+{
+    let b = builder_from(builder);
+    FrameIterator {
+        builder: b,
+        frame_index: low_byte(place[0]),
+        bytes_sent: size_from(place[1]),
+    }
+}
+
+fn place_numbers(t: FrameIterator) -> [u64; 2]
+    ensures { λ r. ⌜ r ≡ placeNumbers t ⌝ }
+{
+    [wide(t.frame_index), wide_size(t.bytes_sent)]
+}
+
+// The place before the first frame.
+#[no_mangle]
+pub extern "C" fn hf_builder_build(builder: &[u64; 6], place: &mut [u64; 2])
+    ensures { λ _. ⌜ now (place .exit) ≡ placeNumbers (started (builderFrom (now (builder .entry)))) ⌝ }
+{
+    let b = builder_from(builder);
+    *place = place_numbers(b.build());
+}
+
+// The step that an item is.
+fn step_in(item: Item) -> Next
+    ensures { λ r. ⌜ stepOf r ≡ turnStep (turnOf item) ⌝ }
+{
+    let t = item.iterator;
+    let f = item.frame;
+    let kind = item.kind;
+    Next {
+        kind: kind,
+        frame: f,
+        frame_index: t.frame_index,
+        bytes_sent: t.bytes_sent,
+    }
+}
+
+// As `hf_next_frame`; the place goes on in the lent memory.
+#[no_mangle]
+pub extern "C" fn hf_frame_iterator_next(
+    builder: &[u64; 6],
+    place: &mut [u64; 2],
+    payload: &[u8],
+    data: &mut [u8; 8],
+    frame: &mut [u64; 3],
+) -> u32
+    ensures { λ r. ⌜ (r ≡ stepNumber (turnStep (nextTurn (iteratorFrom (now (builder .entry)) (now (place .entry))) (now (payload .entry)))))
+        × (now («data» .exit) ≡ stepBytes (turnStep (nextTurn (iteratorFrom (now (builder .entry)) (now (place .entry))) (now (payload .entry)))))
+        × (now (frame .exit) ≡ stepFrame (turnStep (nextTurn (iteratorFrom (now (builder .entry)) (now (place .entry))) (now (payload .entry)))))
+        × (now (place .exit) ≡ stepAfter (turnStep (nextTurn (iteratorFrom (now (builder .entry)) (now (place .entry))) (now (payload .entry))))) ⌝ }
+{
+    let t = iterator_from(builder, place);
+    let item = t.next(payload);
+    told(step_in(item), data, frame, place)
+}

@@ -1,0 +1,123 @@
+// Identifiers, read and built.
+ghost use mathlib.Core.Path.{_≡_};
+ghost use Rattle.can_id.specs.Layout.{priorityOf, pgnOf, destinationOf, sourceOf};
+ghost use Rattle.can_id.specs.Build.{buildOf};
+ghost use Rattle.ffi.specs.Numbers.{addressOf, codeOf, valueOf};
+ghost use Rattle.ffi.specs.Ids.{partsOf, setPriority, setDestination, setOf, bothOf};
+use crate::numbers::answered;
+use crate::numbers::destination_from;
+use crate::numbers::number_of;
+use crate::numbers::wide_half;
+use can_id::CanId;
+use can_id::CanIdBuilder;
+
+#[no_mangle]
+pub extern "C" fn hf_can_id_priority(id: u32) -> u8
+    ensures { λ r. ⌜ r ≡ priorityOf id ⌝ }
+{
+    CanId(id).priority()
+}
+
+#[no_mangle]
+pub extern "C" fn hf_can_id_pgn(id: u32) -> u32
+    ensures { λ r. ⌜ r ≡ pgnOf id ⌝ }
+{
+    CanId(id).pgn()
+}
+
+// 256 where there is none.
+#[no_mangle]
+pub extern "C" fn hf_can_id_destination(id: u32) -> u16
+    ensures { λ r. ⌜ r ≡ addressOf (destinationOf id) ⌝ }
+{
+    number_of(CanId(id).destination())
+}
+
+#[no_mangle]
+pub extern "C" fn hf_can_id_source_address(id: u32) -> u8
+    ensures { λ r. ⌜ r ≡ sourceOf id ⌝ }
+{
+    CanId(id).source_address()
+}
+
+// From these parts as they are.
+#[no_mangle]
+pub extern "C" fn hf_can_id_build(
+    priority: u8,
+    pgn: u32,
+    source_address: u8,
+    destination: u16,
+    value: &mut u32,
+) -> u32
+    ensures { λ r. ⌜ (r ≡ codeOf (buildOf (partsOf priority pgn «source_address» destination)))
+        × (now (value .exit) ≡ valueOf (buildOf (partsOf priority pgn «source_address» destination))) ⌝ }
+{
+    let b = CanIdBuilder {
+        priority: priority,
+        pgn: pgn,
+        source_address: source_address,
+        destination: destination_from(wide_half(destination)),
+    };
+    answered(b.build(), value)
+}
+
+fn set_priority(b: CanIdBuilder, priority: u16) -> CanIdBuilder
+    ensures { λ r. ⌜ r ≡ setPriority priority b ⌝ }
+{
+    if priority < 256 {
+        return b.with_priority(priority as u8);
+    }
+    b
+}
+
+fn set_destination(b: CanIdBuilder, destination: u16) -> CanIdBuilder
+    ensures { λ r. ⌜ r ≡ setDestination destination b ⌝ }
+{
+    if destination < 256 {
+        return b.to_destination(destination as u8);
+    }
+    b
+}
+
+// By the setters: a priority or a destination of 256 or more is not set.
+#[no_mangle]
+pub extern "C" fn hf_can_id_build_with(
+    pgn: u32,
+    source_address: u8,
+    priority: u16,
+    destination: u16,
+    value: &mut u32,
+) -> u32
+    ensures { λ r. ⌜ (r ≡ codeOf (buildOf (setOf pgn «source_address» priority destination)))
+        × (now (value .exit) ≡ valueOf (buildOf (setOf pgn «source_address» priority destination))) ⌝ }
+{
+    let b = set_destination(
+        set_priority(CanId::builder(pgn, source_address), priority),
+        destination,
+    );
+    answered(b.build(), value)
+}
+
+fn both_set(pgn: u32, source_address: u8, priority: u8, destination: u8) -> CanIdBuilder
+    ensures { λ r. ⌜ r ≡ bothOf pgn «source_address» priority destination ⌝ }
+{
+    CanIdBuilder::new(pgn, source_address)
+        .priority(priority)
+        .destination(destination)
+}
+
+// By the setters' second names, both set.
+#[no_mangle]
+pub extern "C" fn hf_can_id_build_to(
+    pgn: u32,
+    source_address: u8,
+    priority: u8,
+    destination: u8,
+    value: &mut u32,
+) -> u32
+    ensures { λ r. ⌜ (r ≡ codeOf (buildOf (bothOf pgn «source_address» priority destination)))
+        × (now (value .exit) ≡ valueOf (buildOf (bothOf pgn «source_address» priority destination))) ⌝ }
+{
+    let b = both_set(pgn, source_address, priority, destination);
+    answered(b.build(), value)
+}

@@ -1,0 +1,128 @@
+// Numbers for what C does not have: a destination that may be missing, and a refusal.
+ghost use mathlib.Core.Path.{_≡_};
+ghost use Prim.Native.Nat.{_%_};
+ghost use Rattle.base.specs.Pick.{pick};
+ghost use Rattle.can_id.specs.Build.{answerOf, numberOf, carriedOf};
+ghost use Rattle.ffi.specs.Numbers.{isSet, toAddress, addressOf, codeOf, valueOf, carriesOf};
+use can_id::Built;
+use can_id::CanIdBuildError;
+use can_id::Destination;
+
+pub(crate) fn wide(x: u8) -> u64
+    ensures { λ r. ⌜ r ≡ x ⌝ }
+{
+    x as u64
+}
+
+pub(crate) fn wide_half(x: u16) -> u64
+    ensures { λ r. ⌜ r ≡ x ⌝ }
+{
+    x as u64
+}
+
+pub(crate) fn wide_word(x: u32) -> u64
+    ensures { λ r. ⌜ r ≡ x ⌝ }
+{
+    x as u64
+}
+
+pub(crate) fn wide_size(x: usize) -> u64
+    ensures { λ r. ⌜ r ≡ x ⌝ }
+{
+    x as u64
+}
+
+pub(crate) fn flag(x: bool) -> u64
+    ensures { λ r. ⌜ r ≡ pick x 1 0 ⌝ }
+{
+    if x {
+        return 1;
+    }
+    0
+}
+
+pub(crate) fn low_byte(x: u64) -> u8
+    ensures { λ r. ⌜ r ≡ x % 0x100 ⌝ }
+{
+    (x % 0x100) as u8
+}
+
+pub(crate) fn low_word(x: u64) -> u32
+    ensures { λ r. ⌜ r ≡ x % 0x1_0000_0000 ⌝ }
+{
+    (x % 0x1_0000_0000) as u32
+}
+
+pub(crate) fn size_from(x: u64) -> usize
+    ensures { λ r. ⌜ r ≡ x ⌝ }
+{
+    x as usize
+}
+
+pub(crate) fn is_set(x: u64) -> bool
+    ensures { λ r. ⌜ r ≡ isSet x ⌝ }
+{
+    x != 0
+}
+
+// An address, or none from 256 on.
+pub(crate) fn destination_from(n: u64) -> Destination
+    ensures { λ r. ⌜ r ≡ toAddress n ⌝ }
+{
+    if n < 256 {
+        Destination::To(n as u8)
+    } else {
+        Destination::Nobody
+    }
+}
+
+pub(crate) fn number_of(destination: Destination) -> u16
+    ensures { λ r. ⌜ r ≡ addressOf destination ⌝ }
+{
+    match destination {
+        Destination::Nobody => 256,
+        Destination::To(address) => address as u16,
+    }
+}
+
+pub(crate) fn refusal(error: CanIdBuildError) -> u32
+    ensures { λ r. ⌜ r ≡ numberOf error ⌝ }
+{
+    match error {
+        CanIdBuildError::InvalidData => 2,
+        CanIdBuildError::InvalidDestination => 3,
+        CanIdBuildError::InvalidForBroadcast => 4,
+        CanIdBuildError::InvalidForFocusedMessage { pgn: _ } => 5,
+        CanIdBuildError::PsFocusMessageMustBeNull => 6,
+        CanIdBuildError::EmptyPayload => 7,
+    }
+}
+
+pub(crate) fn carried(error: CanIdBuildError) -> u32
+    ensures { λ r. ⌜ r ≡ carriesOf (carriedOf error) ⌝ }
+{
+    match error {
+        CanIdBuildError::InvalidData => 0,
+        CanIdBuildError::InvalidDestination => 0,
+        CanIdBuildError::InvalidForBroadcast => 0,
+        CanIdBuildError::InvalidForFocusedMessage { pgn } => pgn as u32,
+        CanIdBuildError::PsFocusMessageMustBeNull => 0,
+        CanIdBuildError::EmptyPayload => 0,
+    }
+}
+
+// The refusal's number or 0; in `value` the identifier, or what the refusal carries.
+pub(crate) fn answered(built: Built, value: &mut u32) -> u32
+    ensures { λ r. ⌜ (r ≡ codeOf (answerOf built)) × (now (value .exit) ≡ valueOf (answerOf built)) ⌝ }
+{
+    match built {
+        Built::Id(id) => {
+            *value = id.0;
+            0
+        }
+        Built::Refused(error) => {
+            *value = carried(error);
+            refusal(error)
+        }
+    }
+}

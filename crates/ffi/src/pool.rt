@@ -1,0 +1,355 @@
+// The receive call: a pool as its size, 64 numbers for the heads of its slots and their bytes, the counters as five numbers.
+ghost use mathlib.Core.Path.{_≡_};
+ghost use Prim.Native.Nat.{_<_, _+_, _%_};
+ghost use lib.ListN.{getD};
+ghost use Rattle.assembler.specs.View.{freshPool, madeOf};
+ghost use Rattle.fast_packet.specs.FastPacket.{listedIn};
+ghost use Rattle.ffi.specs.Numbers.{isSet};
+ghost use Rattle.ffi.specs.Pool.{headAt, headLaid, headsFrom, laid, poolFrom, countersFrom, counterNumbers, heardOf, kindCode, Left, calledWith, calledWithLength, MadeAs, plainly};
+use crate::numbers::flag;
+use crate::numbers::is_set;
+use crate::numbers::low_byte;
+use crate::numbers::low_word;
+use crate::numbers::size_from;
+use crate::numbers::wide;
+use crate::numbers::wide_size;
+use crate::numbers::wide_word;
+use assembler::HeardWithLength;
+use assembler::Made;
+use assembler::POOL_BYTES;
+use assembler::Pool;
+use assembler::Received;
+use assembler::handles;
+use assembler::process_frame_through;
+use assembler::process_frame_with_length_through;
+use assembler::receive;
+use fast_packet::MAX_FAST_PACKET_PAYLOAD;
+use session::Counters;
+use session::Head;
+use session::Heard;
+use session::Kind;
+use session::POOL_LIMIT;
+
+// ---- heads as numbers
+
+fn set_at(n: &[u64; 64], i: usize) -> bool
+    requires { ⌜ i < 64 ⌝ }
+    ensures { λ r. ⌜ r ≡ isSet (getD (now (n .entry)) i 0) ⌝ }
+{
+    is_set(n[i])
+}
+
+fn byte_at(n: &[u64; 64], i: usize) -> u8
+    requires { ⌜ i < 64 ⌝ }
+    ensures { λ r. ⌜ r ≡ getD (now (n .entry)) i 0 % 0x100 ⌝ }
+{
+    low_byte(n[i])
+}
+
+fn word_at(n: &[u64; 64], i: usize) -> u32
+    requires { ⌜ i < 64 ⌝ }
+    ensures { λ r. ⌜ r ≡ getD (now (n .entry)) i 0 % 0x1_0000_0000 ⌝ }
+{
+    low_word(n[i])
+}
+
+fn size_at(n: &[u64; 64], i: usize) -> usize
+    requires { ⌜ i < 64 ⌝ }
+    ensures { λ r. ⌜ r ≡ getD (now (n .entry)) i 0 ⌝ }
+{
+    size_from(n[i])
+}
+
+fn time_at(n: &[u64; 64], i: usize) -> u64
+    requires { ⌜ i < 64 ⌝ }
+    ensures { λ r. ⌜ r ≡ getD (now (n .entry)) i 0 ⌝ }
+{
+    n[i]
+}
+
+fn head_at(n: &[u64; 64], at: usize) -> Head
+    requires { ⌜ at < 57 ⌝ }
+    ensures { λ r. ⌜ r ≡ headAt (now (n .entry)) at ⌝ }
+{
+    Head {
+        in_progress: set_at(n, at),
+        source_address: byte_at(n, at + 1),
+        sequence_id: byte_at(n, at + 2),
+        last_frame_index: byte_at(n, at + 3),
+        pgn: word_at(n, at + 4),
+        expected_size: size_at(n, at + 5),
+        current_size: size_at(n, at + 6),
+        last_seen_ms: time_at(n, at + 7),
+    }
+}
+
+fn heads_from(n: &[u64; 64]) -> [Head; POOL_LIMIT]
+    ensures { λ r. ⌜ r ≡ headsFrom (now (n .entry)) ⌝ }
+{
+    [
+        head_at(n, 0),
+        head_at(n, 8),
+        head_at(n, 16),
+        head_at(n, 24),
+        head_at(n, 32),
+        head_at(n, 40),
+        head_at(n, 48),
+        head_at(n, 56),
+    ]
+}
+
+fn put_head(n: &mut [u64; 64], at: usize, h: Head)
+    requires { ⌜ at < 57 ⌝ }
+    ensures { λ r. ⌜ now (n .exit) ≡ headLaid (now (n .entry)) at h ⌝ }
+{
+    n[at] = flag(h.in_progress);
+    n[at + 1] = wide(h.source_address);
+    n[at + 2] = wide(h.sequence_id);
+    n[at + 3] = wide(h.last_frame_index);
+    n[at + 4] = wide_word(h.pgn);
+    n[at + 5] = wide_size(h.expected_size);
+    n[at + 6] = wide_size(h.current_size);
+    n[at + 7] = h.last_seen_ms;
+}
+
+pub(crate) fn put_heads(n: &mut [u64; 64], heads: [Head; POOL_LIMIT])
+    ensures { λ r. ⌜ now (n .exit) ≡ laid 8 heads (now (n .entry)) ⌝ }
+{
+    let mut k = 0;
+    while k < POOL_LIMIT {
+        let h = heads[k];
+        put_head(n, 8 * k, h);
+        k += 1;
+    }
+}
+
+// ---- a pool, counters and a frame from numbers
+
+pub(crate) fn pool_from(size: usize, heads: &[u64; 64], bytes: &[u8; POOL_BYTES]) -> Pool
+    ensures { λ r. ⌜ r ≡ poolFrom size (now (heads .entry)) (now (bytes .entry)) ⌝ }
+{
+    let h = heads_from(heads);
+    let b = *bytes;
+    Pool {
+        size: size,
+        heads: h,
+        bytes: b,
+    }
+}
+
+pub(crate) fn counters_from(n: &[u32; 5]) -> Counters
+    ensures { λ r. ⌜ r ≡ countersFrom (now (n .entry)) ⌝ }
+{
+    Counters {
+        expired_sessions: n[0],
+        pool_exhausted: n[1],
+        rejected_frames: n[2],
+        lost_fragments: n[3],
+        unknown_pgn: n[4],
+    }
+}
+
+pub(crate) fn counter_numbers(c: Counters) -> [u32; 5]
+    ensures { λ r. ⌜ r ≡ counterNumbers c ⌝ }
+{
+    [
+        c.expired_sessions,
+        c.pool_exhausted,
+        c.rejected_frames,
+        c.lost_fragments,
+        c.unknown_pgn,
+    ]
+}
+
+fn kind_code(kind: Kind) -> u32
+    ensures { λ r. ⌜ r ≡ kindCode kind ⌝ }
+{
+    match kind {
+        Kind::Refused(number) => number as u32,
+        Kind::Ignored => 256,
+        Kind::FragmentConsumed => 257,
+        Kind::MessageComplete => 258,
+    }
+}
+
+// What an answer leaves in the lent memory.
+fn leave(
+    r: Received,
+    heads: &mut [u64; 64],
+    bytes: &mut [u8; POOL_BYTES],
+    counters: &mut [u32; 5],
+    payload: &mut [u8; MAX_FAST_PACKET_PAYLOAD],
+    length: &mut usize,
+) -> u32
+    ensures { λ code. ⌜ Left r (now (heads .entry)) code (now (heads .exit)) (now (bytes .exit)) (now (counters .exit)) (now (payload .exit)) (now (length .exit)) ⌝ }
+{
+    let pool = r.pool;
+    let h = pool.heads;
+    put_heads(heads, h);
+    let b = pool.bytes;
+    *bytes = b;
+    let c = r.counters;
+    *counters = counter_numbers(c);
+    let p = r.payload;
+    *payload = p;
+    *length = r.length;
+    let kind = r.kind;
+    kind_code(kind)
+}
+
+// ---- the entries
+
+#[no_mangle]
+pub extern "C" fn hf_handles(pgns: &[u32], pgn: u32) -> bool
+    ensures { λ r. ⌜ r ≡ listedIn pgn (now (pgns .entry)) ⌝ }
+{
+    handles(pgns, pgn)
+}
+
+fn leave_made(
+    made: Made,
+    heads: &mut [u64; 64],
+    bytes: &mut [u8; POOL_BYTES],
+    size: &mut usize,
+) -> u32
+    ensures { λ code. ⌜ MadeAs made (now (heads .entry)) code (now (heads .exit)) (now (bytes .exit)) (now (size .exit)) ⌝ }
+{
+    let pool = made.pool;
+    let h = pool.heads;
+    put_heads(heads, h);
+    let b = pool.bytes;
+    *bytes = b;
+    *size = pool.size;
+    made.refused as u32
+}
+
+// 0, or 1 and a pool of size 0; `size` is the pool's.
+#[no_mangle]
+pub extern "C" fn hf_pool_new(
+    wanted: usize,
+    heads: &mut [u64; 64],
+    bytes: &mut [u8; POOL_BYTES],
+    size: &mut usize,
+) -> u32
+    ensures { λ code. ⌜ MadeAs (madeOf wanted) (now (heads .entry)) code (now (heads .exit)) (now (bytes .exit)) (now (size .exit)) ⌝ }
+{
+    leave_made(Pool::new(wanted), heads, bytes, size)
+}
+
+// The pool of the default size; returns 0.
+#[no_mangle]
+pub extern "C" fn hf_pool_default(
+    heads: &mut [u64; 64],
+    bytes: &mut [u8; POOL_BYTES],
+    size: &mut usize,
+) -> u32
+    ensures { λ code. ⌜ MadeAs (plainly (freshPool 4)) (now (heads .entry)) code (now (heads .exit)) (now (bytes .exit)) (now (size .exit)) ⌝ }
+{
+    let pool = Pool::default();
+    let made = Made {
+        refused: 0,
+        pool: pool,
+    };
+    leave_made(made, heads, bytes, size)
+}
+
+// A refusal's number, 256 Ignored, 257 FragmentConsumed or 258 MessageComplete.
+#[no_mangle]
+pub extern "C" fn hf_process_frame(
+    size: usize,
+    heads: &mut [u64; 64],
+    bytes: &mut [u8; POOL_BYTES],
+    counters: &mut [u32; 5],
+    pgns: &[u32],
+    now_ms: u64,
+    pgn: u32,
+    source_address: u8,
+    data: &[u8; 8],
+    payload: &mut [u8; MAX_FAST_PACKET_PAYLOAD],
+    length: &mut usize,
+) -> u32
+    ensures { λ code. ⌜ Left
+        (calledWith size (now (heads .entry)) (now (bytes .entry)) (now (counters .entry)) (now (pgns .entry)) (heardOf «now_ms» pgn «source_address» (now («data» .entry))))
+        (now (heads .entry)) code (now (heads .exit)) (now (bytes .exit)) (now (counters .exit)) (now (payload .exit)) (now (length .exit)) ⌝ }
+{
+    let p = pool_from(size, heads, bytes);
+    let c = counters_from(counters);
+    let d = *data;
+    let heard = Heard {
+        now_ms: now_ms,
+        pgn: pgn,
+        source_address: source_address,
+        data: d,
+    };
+    let r = process_frame_through(p, c, pgns, heard);
+    leave(r, heads, bytes, counters, payload, length)
+}
+
+// The same by the call that has the counters by value.
+#[no_mangle]
+pub extern "C" fn hf_receive(
+    size: usize,
+    heads: &mut [u64; 64],
+    bytes: &mut [u8; POOL_BYTES],
+    counters: &mut [u32; 5],
+    pgns: &[u32],
+    now_ms: u64,
+    pgn: u32,
+    source_address: u8,
+    data: &[u8; 8],
+    payload: &mut [u8; MAX_FAST_PACKET_PAYLOAD],
+    length: &mut usize,
+) -> u32
+    ensures { λ code. ⌜ Left
+        (calledWith size (now (heads .entry)) (now (bytes .entry)) (now (counters .entry)) (now (pgns .entry)) (heardOf «now_ms» pgn «source_address» (now («data» .entry))))
+        (now (heads .entry)) code (now (heads .exit)) (now (bytes .exit)) (now (counters .exit)) (now (payload .exit)) (now (length .exit)) ⌝ }
+{
+    let p = pool_from(size, heads, bytes);
+    let c = counters_from(counters);
+    let d = *data;
+    let heard = Heard {
+        now_ms: now_ms,
+        pgn: pgn,
+        source_address: source_address,
+        data: d,
+    };
+    let r = receive(p, c, pgns, heard);
+    leave(r, heads, bytes, counters, payload, length)
+}
+
+// The same for a frame with a length.
+#[no_mangle]
+pub extern "C" fn hf_process_frame_with_length(
+    size: usize,
+    heads: &mut [u64; 64],
+    bytes: &mut [u8; POOL_BYTES],
+    counters: &mut [u32; 5],
+    pgns: &[u32],
+    now_ms: u64,
+    pgn: u32,
+    source_address: u8,
+    data: &[u8; 8],
+    frame_length: usize,
+    payload: &mut [u8; MAX_FAST_PACKET_PAYLOAD],
+    length: &mut usize,
+) -> u32
+    ensures { λ code. ⌜ Left
+        (calledWithLength size (now (heads .entry)) (now (bytes .entry)) (now (counters .entry)) (now (pgns .entry)) (heardOf «now_ms» pgn «source_address» (now («data» .entry))) «frame_length»)
+        (now (heads .entry)) code (now (heads .exit)) (now (bytes .exit)) (now (counters .exit)) (now (payload .exit)) (now (length .exit)) ⌝ }
+{
+    let p = pool_from(size, heads, bytes);
+    let c = counters_from(counters);
+    let d = *data;
+    let heard = Heard {
+        now_ms: now_ms,
+        pgn: pgn,
+        source_address: source_address,
+        data: d,
+    };
+    let x = HeardWithLength {
+        heard: heard,
+        length: frame_length,
+    };
+    let r = process_frame_with_length_through(p, c, pgns, x);
+    leave(r, heads, bytes, counters, payload, length)
+}

@@ -1,0 +1,262 @@
+//! Both sides over the same inputs in one process, repetitions interleaved: nanoseconds an item of the original (median),
+//! and of the port the ratio to it (median of the ratios of neighbours, with lower and upper quartile).
+//!
+//! cargo run --offline --profile speed --bin bench [repetitions] [frames]
+mod workloads;
+use port::assembler::{Answer, Pool, ProcessResult as Ours, Rows, Told};
+use reference::oracle as bench_oracle;
+use reference::protocol::messages::stand_for;
+use reference::protocol::transport::can_id::{CanId, CanIdBuilder};
+use reference::protocol::transport::fast_packet::assembler::{FastPacketAssembler, ProcessResult};
+use reference::protocol::transport::fast_packet::builder::FastPacketBuilder;
+use std::hint::black_box;
+use std::time::Instant;
+
+/// The original over rows: messages end to end in the arena, kinds and lengths beside.
+#[inline(never)]
+fn original<const N: usize>(list: &'static [u32], w: &Rows, t: &mut Told) -> usize {
+    let mut a = FastPacketAssembler::<N>::with_pool(list);
+    let mut at = 0;
+    for i in 0..w.len() {
+        let d: &[u8; 8] = w.data[i * 8..i * 8 + 8].try_into().unwrap();
+        match a.process_frame(w.times[i], w.pgns[i], w.sources[i], d) {
+            ProcessResult::Ignored => (t.kinds[i], t.lengths[i]) = (0, 0),
+            ProcessResult::FragmentConsumed => (t.kinds[i], t.lengths[i]) = (1, 0),
+            ProcessResult::MessageComplete(m) => {
+                (t.kinds[i], t.lengths[i]) = (2, m.len as u8);
+                t.arena[at..at + m.len].copy_from_slice(&m.payload[..m.len]);
+                at += m.len;
+            }
+        }
+    }
+    at
+}
+
+/// The port, one call a frame.
+#[inline(never)]
+fn one_by_one(size: usize, list: &[u32], w: &Rows, by_value: bool, t: &mut Told) -> usize {
+    let (mut p, mut c) = (Pool::new(size).1, [0; 5]);
+    let mut a = Answer { result: Ours::Ignored, payload: [0; 223], length: 0 };
+    let mut at = 0;
+    for i in 0..w.len() {
+        let d: &[u8; 8] = w.data[i * 8..i * 8 + 8].try_into().unwrap();
+        if by_value {
+            p.receive_into(&mut c, list, w.times[i], w.pgns[i], w.sources[i], d, &mut a);
+        } else {
+            p.process_frame_into(&mut c, list, w.times[i], w.pgns[i], w.sources[i], d, &mut a);
+        }
+        match a.result {
+            Ours::Ignored => (t.kinds[i], t.lengths[i]) = (0, 0),
+            Ours::FragmentConsumed => (t.kinds[i], t.lengths[i]) = (1, 0),
+            Ours::MessageComplete => {
+                (t.kinds[i], t.lengths[i]) = (2, a.length as u8);
+                t.arena[at..at + a.length].copy_from_slice(&a.payload[..a.length]);
+                at += a.length;
+            }
+            Ours::Refused(n) => panic!("refused by {n}"),
+        }
+    }
+    at
+}
+
+/// The port, in batches of `chunk` frames.
+#[inline(never)]
+fn in_batches(size: usize, list: &[u32], w: &Rows, chunk: usize, t: &mut Told) -> usize {
+    let (mut p, mut c) = (Pool::new(size).1, [0; 5]);
+    let (mut i, mut at) = (0, 0);
+    while i < w.len() {
+        let end = (i + chunk).min(w.len());
+        let (number, taken, used) = p.process_frames_in(
+            &mut c, list, &w.times[i..end], &w.pgns[i..end], &w.sources[i..end], &w.data[8 * i..8 * end], &mut t.kinds[i..end], &mut t.lengths[i..end], &mut t.arena[at..],
+        );
+        assert!(number == 0 && taken == end - i);
+        i = end;
+        at += used;
+    }
+    at
+}
+
+/// Runs the first, the reference, and the others in turn; items for each run.
+fn compare(name: &str, items: usize, reps: usize, runs: &mut [(&str, &mut dyn FnMut())]) {
+    let mut times = vec![vec![]; runs.len()];
+    for rep in 0..reps + 2 {
+        for (k, (_, run)) in runs.iter_mut().enumerate() {
+            let from = Instant::now();
+            run();
+            let ns = from.elapsed().as_nanos() as f64 / items as f64;
+            if rep >= 2 {
+                times[k].push(ns);
+            }
+        }
+    }
+    let quartiles = |mut v: Vec<f64>| {
+        v.sort_by(f64::total_cmp);
+        (v[v.len() / 4], v[v.len() / 2], v[v.len() * 3 / 4])
+    };
+    let o = quartiles(times[0].clone());
+    print!("| {name} | {:.1} [{:.1}..{:.1}] |", o.1, o.0, o.2);
+    for t in &times[1..] {
+        let q = quartiles(t.iter().zip(&times[0]).map(|(p, o)| p / o).collect());
+        print!(" {:.2} [{:.2}..{:.2}] |", q.1, q.0, q.2);
+    }
+    println!();
+}
+
+fn head(columns: &[&str]) {
+    println!("\n| | original, ns | {} |", columns.join(" | "));
+    println!("|---|---|{}", "---|".repeat(columns.len()));
+}
+
+fn receiving<const N: usize>(reps: usize, n: usize) {
+    println!("\nReceiving, pool of {N}, a frame:");
+    head(&["single call", "by value", "batch of 1", "batch of 16", "batch of 64", "batch of 256"]);
+    for (name, list, w) in workloads::all(n, N) {
+        let leaked: &'static [u32] = list.clone().leak();
+        let mut t: Vec<Told> = (0..7).map(|_| Told::room(w.len(), 8 * w.len() + 300)).collect();
+        let [t0, t1, t2, t3, t4, t5, t6] = &mut t[..] else { unreachable!() };
+        compare(name, w.len(), reps, &mut [
+            ("original", &mut || { black_box(original::<N>(leaked, black_box(&w), t0)); }),
+            ("single", &mut || { black_box(one_by_one(N, &list, black_box(&w), false, t1)); }),
+            ("by value", &mut || { black_box(one_by_one(N, &list, black_box(&w), true, t6)); }),
+            ("1", &mut || { black_box(in_batches(N, &list, black_box(&w), 1, t2)); }),
+            ("16", &mut || { black_box(in_batches(N, &list, black_box(&w), 16, t3)); }),
+            ("64", &mut || { black_box(in_batches(N, &list, black_box(&w), 64, t4)); }),
+            ("256", &mut || { black_box(in_batches(N, &list, black_box(&w), 256, t5)); }),
+        ]);
+        for x in &t[1..] {
+            assert!(*x == t[0], "both sides answer alike");
+        }
+    }
+}
+
+/// The original's accessors as calls, as the port's are: neither side is inlined into the loop.
+#[inline(never)]
+fn read_one(id: u32) -> (u8, u32, Option<u8>, u8) {
+    let id = CanId(id);
+    (id.priority(), id.pgn(), id.destination(), id.source_address())
+}
+#[inline(never)]
+fn pgn_one(id: u32) -> u32 {
+    CanId(id).pgn()
+}
+#[inline(never)]
+fn build_one(pgn: u32, source: u8, destination: Option<u8>) -> u32 {
+    CanIdBuilder { priority: 6, pgn, source_address: source, destination }.build().map_or(0, |id| id.0)
+}
+
+fn identifiers(reps: usize, n: usize) {
+    println!("\nIdentifiers, one:");
+    head(&["port"]);
+    let mut r = diff::rng::Rng::new(9);
+    let ids: Vec<u32> = (0..n).map(|_| r.next() as u32).collect();
+    compare("reading the PGN", n, reps, &mut [
+        ("original", &mut || { black_box(black_box(&ids).iter().fold(0, |s, &id| s ^ pgn_one(id))); }),
+        ("port", &mut || { black_box(black_box(&ids).iter().fold(0, |s, &id| s ^ port::can_id::CanId(id).pgn())); }),
+    ]);
+    compare("reading all four parts", n, reps, &mut [
+        ("original", &mut || for &id in black_box(&ids) { black_box(read_one(id)); }),
+        ("port", &mut || for &id in black_box(&ids) {
+            let id = port::can_id::CanId(id);
+            black_box((id.priority(), id.pgn(), id.destination(), id.source_address()));
+        }),
+    ]);
+    compare("building", n, reps, &mut [
+        ("original", &mut || for &id in black_box(&ids) { black_box(build_one(id >> 8 & 0x3_FFFF, id as u8, None)); }),
+        ("port", &mut || for &id in black_box(&ids) { black_box(port::can_id::build(6, id >> 8 & 0x3_FFFF, id as u8, None).ok()); }),
+    ]);
+}
+
+fn building(reps: usize, n: usize) {
+    println!("\nBuilding, a whole message frame by frame:");
+    head(&["port, step on numbers", "port, iterator"]);
+    stand_for(&[127_489]);
+    let payload: Vec<u8> = (0..223).map(|i| i as u8).collect();
+    for (name, pgn, len) in [("223 bytes, 32 frames", 127_489, 223), ("26 bytes, 4 frames", 127_489, 26), ("8 bytes, raw", 65_280, 8)] {
+        let p = &payload[..len];
+        let times = n / (len / 7 + 1);
+        compare(name, times, reps, &mut [
+            ("original", &mut || for _ in 0..times {
+                for f in FastPacketBuilder::new(pgn, 35, None, black_box(p)).build() { black_box(f.unwrap()); }
+            }),
+            ("step", &mut || {
+                let mut held = 0;
+                for _ in 0..times {
+                    let (b, next) = port::builder::FastPacketBuilder::new(pgn, 35, None, black_box(p), &[127_489], held);
+                    held = next;
+                    let (mut index, mut sent) = (0, 0);
+                    loop {
+                        let (item, i, s) = b.next_frame(index, sent, p);
+                        (index, sent) = (i, s);
+                        match item { Some(f) => { black_box(f.unwrap()); } None => break }
+                    }
+                }
+            }),
+            ("iterator", &mut || {
+                let mut held = 0;
+                for _ in 0..times {
+                    let (b, next) = port::builder::FastPacketBuilder::new(pgn, 35, None, black_box(p), &[127_489], held);
+                    held = next;
+                    let mut it = b.build();
+                    while let Some(f) = it.next(p) { black_box(f.unwrap()); }
+                }
+            }),
+        ]);
+    }
+}
+
+fn oracle(reps: usize, n: usize) {
+    println!("\nThe bench, a frame:");
+    head(&["port"]);
+    for (name, len) in [("strict reassembly, 223 bytes", 223), ("strict reassembly, 26 bytes", 26)] {
+        let mut frames = vec![];
+        let mut rows = port::oracle::Frames::default();
+        let mut k = 0usize;
+        while frames.len() < n {
+            let payload: Vec<u8> = (0..len).map(|j| (k * 7 + j) as u8).collect();
+            for f in bench_oracle::fast_packet_frames(0x19F2_0123, (k % 8) as u8, &payload) {
+                rows.push(f.id, f.data.clone().try_into().unwrap(), 8);
+                frames.push(f);
+            }
+            k += 1;
+        }
+        let (mut list, mut arena) = (vec![0; 3 * k], vec![0; len * k]);
+        compare(name, frames.len(), reps, &mut [
+            ("original", &mut || { black_box(bench_oracle::reassemble(black_box(&frames), 35, 127_489).unwrap()); }),
+            ("port", &mut || { black_box(port::oracle::reassemble(black_box(&rows), 35, 127_489, &mut list, &mut arena).unwrap()); }),
+        ]);
+    }
+    let mut frames = vec![bench_oracle::Frame { id: 0x18EE_FF23, data: vec![0; 8] }];
+    let mut rows = port::oracle::Frames::default();
+    rows.push(0x18EE_FF23, [0; 8], 8);
+    let count = n / 4;
+    for i in 0..count {
+        let mut p = [0u8; 26];
+        p[19] = 0xFF;
+        p[11..15].copy_from_slice(&(i as u32).to_le_bytes());
+        for f in bench_oracle::fast_packet_frames(0x19F2_0123, (i % 8) as u8, &p) {
+            rows.push(f.id, f.data.clone().try_into().unwrap(), 8);
+            frames.push(f);
+        }
+    }
+    compare("transmit check", frames.len(), reps, &mut [
+        ("original", &mut || bench_oracle::check_tx(black_box(&frames), 35, count, 0).unwrap()),
+        ("port", &mut || port::oracle::check_tx(black_box(&rows), 35, count, 0).unwrap()),
+    ]);
+    let payload: Vec<u8> = (0..223).map(|i| i as u8).collect();
+    let mut row = port::oracle::Frames::room(32);
+    compare("splitter, 223 bytes", 32 * (n / 32), reps, &mut [
+        ("original", &mut || for _ in 0..n / 32 { black_box(bench_oracle::fast_packet_frames(0x19F2_0123, 3, black_box(&payload))); }),
+        ("port", &mut || for _ in 0..n / 32 { black_box(port::oracle::fast_packet_frames(0x19F2_0123, 3, black_box(&payload), &mut row).unwrap()); }),
+    ]);
+}
+
+fn main() {
+    let number = |k: usize, other: usize| std::env::args().nth(k).and_then(|x| x.parse().ok()).unwrap_or(other);
+    let (reps, n) = (number(1, 31), number(2, 16_384));
+    println!("{reps} repetitions, interleaved, {n} frames each; the port as the ratio to the original: median [lower quartile..upper quartile]");
+    receiving::<4>(reps, n);
+    receiving::<8>(reps, n);
+    building(reps, n);
+    identifiers(reps, n);
+    oracle(reps, n);
+}

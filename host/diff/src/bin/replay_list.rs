@@ -1,0 +1,115 @@
+//! Writes the list that the program `replay` is held to: crates/replay/stdin, calls, and crates/replay/stdout, what the
+//! original answered to them. Nothing of the port is called. cargo run --offline --release -p diff --bin replay_list
+//!
+//! The calls are made by a generator with a fixed seed: runs of several senders with losses, repeats, damage, silences around
+//! 500 ms and a clock that goes back, on pools of 0 to 8; and builders at any place.
+use diff::rng::Rng;
+use diff::{ids, receive};
+use reference::hooks::{Parts, Progress};
+use reference::protocol::messages::stand_for;
+use reference::protocol::transport::can_id::CanIdBuilder;
+use reference::protocol::transport::fast_packet::assembler::{FastPacketAssembler, ProcessResult};
+use reference::protocol::transport::fast_packet::builder::FastPacketBuilder;
+use std::fmt::Write;
+
+const LIST: &[u32] = &[127_489, 129_029];
+
+fn hex(bytes: &[u8]) -> String {
+    bytes.iter().map(|b| format!("{b:02X}")).collect()
+}
+
+fn run<const N: usize>(r: &mut Rng, frames: usize, calls: &mut String, answers: &mut String) {
+    let mut a = FastPacketAssembler::<N>::with_pool(LIST);
+    let mut now = r.pick(&[0, 1000, u64::MAX - 1_000_000]);
+    let mut senders: Vec<(u8, u32, Vec<[u8; 8]>, usize)> = vec![];
+    for i in 0..frames {
+        match r.below(30) {
+            0 => now = now.saturating_add(501),
+            1 => now = now.saturating_sub(600),
+            2 => now = now.saturating_add(500),
+            3 => now = now.saturating_add(499),
+            _ => now = now.saturating_add(r.below(20)),
+        }
+        if senders.is_empty() || senders.len() < N + 3 && r.one_in(3) {
+            let len = if r.one_in(2) { r.pick(&[1, 5, 6, 7, 13, 14, 20, 26]) } else { 1 + r.below(40) as usize };
+            let len = if r.one_in(20) { 223 } else { len };
+            let payload = r.vec(len);
+            senders.push((r.below(N as u64 + 2) as u8, r.pick(&[127_489, 127_489, 129_029, 5]), receive::frames(r.below(8) as u8, &payload), 0));
+        }
+        let k = r.below(senders.len() as u64) as usize;
+        let (source, pgn, fs, at) = &mut senders[k];
+        let (source, pgn, mut data) = (*source, *pgn, fs[*at]);
+        if r.one_in(25) {
+            data[r.below(2) as usize] = r.byte();
+        }
+        if !r.one_in(40) {
+            *at += 1;
+        }
+        if *at >= fs.len() || r.one_in(60) {
+            senders.swap_remove(k);
+        }
+        let first = if i == 0 { char::from(b'0' + N as u8) } else { '.' };
+        writeln!(calls, "{first}{now:016X}{pgn:08X}{source:02X}{}", hex(&data)).unwrap();
+        let (kind, message) = match a.process_frame(now, pgn, source, &data) {
+            ProcessResult::Ignored => ("Ignored", vec![]),
+            ProcessResult::FragmentConsumed => ("FragmentConsumed", vec![]),
+            ProcessResult::MessageComplete(m) => ("MessageComplete", m.payload[..m.len].to_vec()),
+        };
+        let c = [a.expired_sessions(), a.pool_exhausted(), a.rejected_frames(), a.lost_fragments(), a.unknown_pgn()];
+        writeln!(answers, "{kind} {} {} {} {} {} {}", c[0], c[1], c[2], c[3], c[4], hex(&message)).unwrap();
+    }
+}
+
+fn build(r: &mut Rng, calls: &mut String, answers: &mut String) {
+    let payload: Vec<u8> = (0..300).map(|i| (7 * i + 1) as u8).collect();
+    let len = if r.one_in(2) { r.pick(&[0, 1, 6, 7, 8, 9, 13, 14, 222, 223, 224, 300]) } else { r.below(300) as usize };
+    let sent = if r.one_in(3) { 0 } else { r.below(len as u64 + 2) as usize };
+    let address = r.byte();
+    let p = Parts {
+        pgn: if r.one_in(8) { r.next() as u32 } else { r.pick(&[127_489, 60_928, 60_929, 126_208, 0x3_FFFF, 0x4_0000]) },
+        source: r.byte(),
+        destination: r.one_in(2).then_some(address),
+        priority: r.byte(),
+        sequence: r.byte(),
+        fast: !r.one_in(3) || len > 8,
+    };
+    let index = r.byte();
+    let mut line = format!(
+        "B{:08X}{:02X}{:04X}{:02X}{:02X}{:02X}{index:02X}{sent:04X}{len:04X}",
+        p.pgn, p.source, p.destination.map_or(256, u16::from), p.priority, p.sequence, p.fast as u8
+    );
+    while line.len() < 43 {
+        line.push('.');
+    }
+    writeln!(calls, "{line}").unwrap();
+    stand_for(LIST);
+    let mut it = FastPacketBuilder::new(0, 0, None, &payload[..len]).build();
+    it.set_parts(p);
+    it.set_progress(index, sent);
+    let (what, id, data, n) = match it.next() {
+        None => ("End".to_string(), 0, [0; 8], 0),
+        Some(Err(e)) => (format!("Refused {}", ids::numbered(&e).number), 0, [0; 8], 0),
+        Some(Ok(f)) => ("Frame".to_string(), f.id.0, f.data, f.len),
+    };
+    writeln!(answers, "{what} {id} {} {n} {} {}", hex(&data), it.progress().0, it.progress().1).unwrap();
+    // What the original would trap at is not in the list.
+    assert!(p.fast || len <= 8 || CanIdBuilder { priority: p.priority % 8, pgn: p.pgn, source_address: p.source, destination: p.destination }.build().is_err());
+}
+
+fn main() {
+    let mut r = Rng::new(20_261_107);
+    let (mut calls, mut answers) = (String::new(), String::new());
+    for _ in 0..3 {
+        let runs: [fn(&mut Rng, usize, &mut String, &mut String); 9] = [run::<0>, run::<1>, run::<2>, run::<3>, run::<4>, run::<5>, run::<6>, run::<7>, run::<8>];
+        for (size, one) in runs.into_iter().enumerate() {
+            one(&mut r, if size == 0 { 20 } else { 150 }, &mut calls, &mut answers);
+        }
+    }
+    for _ in 0..1500 {
+        build(&mut r, &mut calls, &mut answers);
+    }
+    let dir = concat!(env!("CARGO_MANIFEST_DIR"), "/../../crates/replay/");
+    std::fs::write(format!("{dir}stdin"), &calls).unwrap();
+    std::fs::write(format!("{dir}stdout"), &answers).unwrap();
+    println!("{} calls", calls.lines().count());
+}

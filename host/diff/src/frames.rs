@@ -1,0 +1,159 @@
+//! The frame builder: made, set, and stepped at any index and bytes sent.
+use crate::ids::numbered;
+use crate::rng::Rng;
+use port::builder as ours;
+use reference::error::CanIdBuildError;
+use reference::hooks::{GlobalSequence, Here, Parts, Progress};
+use reference::protocol::messages::stand_for;
+use reference::protocol::transport::can_frame::CanFrame;
+use reference::protocol::transport::can_id::CanIdBuilder;
+use reference::protocol::transport::fast_packet::builder::FastPacketBuilder;
+use std::sync::{Mutex, MutexGuard};
+
+/// The original counts its builders in one number for the whole program: one run at a time.
+static COUNT: Mutex<()> = Mutex::new(());
+fn alone() -> MutexGuard<'static, ()> {
+    COUNT.lock().unwrap_or_else(|e| e.into_inner())
+}
+
+/// Lists that live for ever, as the original wants them; each is strictly ascending.
+const LISTS: [&[u32]; 4] = [&[], &[127_489], &[60_928, 126_208, 126_720, 127_489, 129_029], &[0, 1, 0x3_FFFF, 0x4_0000, 0xFFFF_FFFF]];
+const PGNS: [u32; 12] = [127_489, 60_928, 126_208, 126_720, 129_029, 0, 1, 0xEF00, 0x3_FFFF, 0x4_0000, 0x1_F0FF, 0xFFFF_FFFF];
+/// Payload lengths at the edges of the framing.
+const EDGES: [usize; 19] = [0, 1, 2, 5, 6, 7, 8, 9, 12, 13, 14, 20, 62, 221, 222, 223, 224, 255, 300];
+
+fn told(item: Option<Result<CanFrame, CanIdBuildError>>) -> ours::Item {
+    item.map(|r| r.map(|f| ours::CanFrame { id: f.id.0, data: f.data, len: f.len }).map_err(|e| numbered(&e)))
+}
+
+fn numbers(p: Parts) -> [u64; 6] {
+    [p.pgn as u64, p.source as u64, p.destination.map_or(256, u64::from), p.priority as u64, p.sequence as u64, p.fast as u64]
+}
+
+/// One step of any builder. Document 01 gives refusal 2 where the original traps: not fast with over 8 bytes.
+pub fn step(parts: Parts, index: u8, sent: usize, payload: &[u8]) {
+    let b = ours::FastPacketBuilder(numbers(parts));
+    let got = b.next_frame(index, sent, payload);
+    let mut at = b.build();
+    assert_eq!(at.place, [0, 0]);
+    at.place = [index as u64, sent as u64];
+    let item = at.next(payload);
+    assert_eq!((item, at.place), (got.0, [got.1 as u64, got.2 as u64]), "the iterator and the step");
+    let want = if traps(parts, sent, payload) {
+        (Some(Err(port::Refusal { number: 2, carried: [0] })), index, payload.len())
+    } else {
+        stand_for(&[]);
+        let mut it = FastPacketBuilder::new(0, 0, None, payload).build();
+        it.set_parts(parts);
+        it.set_progress(index, sent);
+        let item = told(it.next());
+        (item, it.progress().0, it.progress().1)
+    };
+    assert_eq!(got, want, "{parts:?}, index {index}, sent {sent}, {} bytes", payload.len());
+}
+
+/// Where the original would copy over 8 bytes into a raw frame.
+fn traps(p: Parts, sent: usize, payload: &[u8]) -> bool {
+    !p.fast && (9..=223).contains(&payload.len()) && sent < payload.len() && CanIdBuilder { priority: p.priority % 8, pgn: p.pgn, source_address: p.source, destination: p.destination }.build().is_ok()
+}
+
+/// A new builder, its setters, and all its frames to the End and beyond.
+pub fn message(pgn: u32, source: u8, destination: Option<u8>, payload: &[u8], list: &'static [u32], held: u8, sequence: Option<u8>, priority: Option<u8>, to: Option<u8>) -> u64 {
+    let _one = alone();
+    stand_for(list);
+    // The original holds its number below 8; a caller of the port may hold any.
+    Here::set(held % 8);
+    let mut o = FastPacketBuilder::new(pgn, source, destination, payload);
+    let (mut p, next) = ours::FastPacketBuilder::new(pgn, source, destination, payload, list, held);
+    assert_eq!(next, Here::get(), "the number held from {held}");
+    if let Some(s) = sequence {
+        (o, p) = (o.with_sequence_id(s), p.with_sequence_id(s));
+    }
+    if let Some(x) = priority {
+        (o, p) = (o.with_priority(x), p.with_priority(x));
+    }
+    let mut it = o.build();
+    // The original has no setter for the destination: its field is set through the door.
+    if let Some(d) = to {
+        let parts = it.parts();
+        it.set_parts(Parts { destination: Some(d), ..parts });
+        p = p.to_destination(d);
+    }
+    assert_eq!(p.0, numbers(it.parts()), "the builder of {pgn:#X}, {source}, {destination:?}, {} bytes", payload.len());
+    let mut at = p.build();
+    let mut steps = 0;
+    let mut over = 0;
+    while over < 3 {
+        let (want, got) = (told(it.next()), at.next(payload));
+        assert_eq!(got, want, "frame {steps} of {pgn:#X}, {source}, {destination:?}, {} bytes", payload.len());
+        assert_eq!(at.place, [it.progress().0 as u64, it.progress().1 as u64]);
+        over += want.is_none() as u32;
+        steps += 1;
+    }
+    steps
+}
+
+/// Every frame index at every edge of payload and bytes sent, fast and raw.
+pub fn every_index() -> u64 {
+    let _one = alone();
+    let mut steps = 0;
+    let payload: Vec<u8> = (0..300).map(|i| (i * 7 + 1) as u8).collect();
+    for index in 0..=255 {
+        for len in EDGES {
+            for sent in EDGES.into_iter().chain([len.wrapping_sub(1), len + 1, usize::MAX]) {
+                for (pgn, destination, fast) in [(127_489, None, true), (60_928, Some(255), false), (60_929, Some(1), true)] {
+                    step(Parts { pgn, source: 35, destination, priority: 6, sequence: index % 9, fast }, index, sent, &payload[..len]);
+                    steps += 1;
+                }
+            }
+        }
+    }
+    steps
+}
+
+/// Every payload length from 0 to 300, listed and not: the whole message.
+pub fn every_length() -> u64 {
+    let mut steps = 0;
+    let payload: Vec<u8> = (0..300).map(|i| (i * 13 + 5) as u8).collect();
+    for len in 0..=300 {
+        for list in LISTS {
+            for held in [0, 7, 8, 255] {
+                steps += message(127_489, 35, None, &payload[..len], list, held, None, None, None);
+                steps += message(126_208, 1, Some(16), &payload[..len], list, held, Some(held), Some(held), None);
+                steps += message(126_208, 1, None, &payload[..len], list, held, None, None, Some(3));
+            }
+        }
+    }
+    steps
+}
+
+pub fn random(seed: u64, wanted: u64) -> u64 {
+    let mut r = Rng::new(seed);
+    let mut steps = 0;
+    let bytes = r.vec(300);
+    while steps < wanted {
+        let len = if r.one_in(2) { r.pick(&EDGES) } else { r.below(301) as usize };
+        let from = r.below(300 - len as u64 + 1) as usize;
+        let payload = &bytes[from..from + len];
+        let pgn = if r.one_in(4) { r.next() as u32 >> r.below(16) } else { r.pick(&PGNS) };
+        let (source, address) = (r.byte(), r.byte());
+        let destination = if r.one_in(2) { None } else { Some(address) };
+        if r.one_in(8) {
+            let (s, p, d) = (r.byte(), r.byte(), r.byte());
+            let list = r.pick(&LISTS);
+            steps += message(pgn, source, destination, payload, list, r.byte(), r.one_in(2).then_some(s), r.one_in(2).then_some(p), r.one_in(4).then_some(d));
+        } else {
+            let _one = alone();
+            let sent = match r.below(5) {
+                0 => 0,
+                1 => r.pick(&EDGES),
+                2 => (len + 2).saturating_sub(r.below(5) as usize),
+                3 => r.next() as usize,
+                _ => r.below(len as u64 + 1) as usize,
+            };
+            step(Parts { pgn, source, destination, priority: r.byte(), sequence: r.byte(), fast: !r.one_in(3) }, r.byte(), sent, payload);
+            steps += 1;
+        }
+    }
+    steps
+}

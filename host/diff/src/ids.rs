@@ -1,0 +1,102 @@
+//! Identifiers: read and built.
+use crate::rng::Rng;
+use port::can_id as ours;
+use port::Refusal;
+use reference::error::CanIdBuildError;
+use reference::protocol::transport::can_id::{CanId, CanIdBuilder};
+
+/// Document 01's number for each of the original's errors, and what it carries.
+pub fn numbered(e: &CanIdBuildError) -> Refusal<1> {
+    let (number, carried) = match *e {
+        CanIdBuildError::InvalidData => (2, 0),
+        CanIdBuildError::InvalidDestination => (3, 0),
+        CanIdBuildError::InvalidForBroadcast => (4, 0),
+        CanIdBuildError::InvalidForFocusedMessage { pgn } => (5, pgn as u64),
+        CanIdBuildError::PsFocusMessageMustBeNull => (6, 0),
+        CanIdBuildError::EmptyPayload => (7, 0),
+    };
+    Refusal { number, carried: [carried] }
+}
+
+fn told(r: Result<CanId, CanIdBuildError>) -> ours::Built {
+    r.map(|id| ours::CanId(id.0)).map_err(|e| numbered(&e))
+}
+
+pub fn read(id: u32) {
+    let (o, p) = (CanId(id), ours::CanId(id));
+    assert_eq!(
+        (p.priority(), p.pgn(), p.destination(), p.source_address()),
+        (o.priority(), o.pgn(), o.destination(), o.source_address()),
+        "reading {id:#010X}"
+    );
+}
+
+/// From public fields, which the original lets a caller set to anything.
+pub fn build(priority: u8, pgn: u32, source_address: u8, destination: Option<u8>) {
+    let want = told(CanIdBuilder { priority, pgn, source_address, destination }.build());
+    assert_eq!(ours::build(priority, pgn, source_address, destination), want, "building {priority} {pgn:#X} {source_address} {destination:?}");
+}
+
+/// By the setters, under both of their names.
+pub fn build_with(pgn: u32, source: u8, priority: Option<u8>, destination: Option<u8>) {
+    let mut b = CanId::builder(pgn, source);
+    if let Some(p) = priority {
+        b = b.with_priority(p);
+    }
+    if let Some(d) = destination {
+        b = b.to_destination(d);
+    }
+    assert_eq!(ours::build_with(pgn, source, priority, destination), told(b.build()), "setting {pgn:#X} {source} {priority:?} {destination:?}");
+    if let (Some(p), Some(d)) = (priority, destination) {
+        assert_eq!(ours::build_to(pgn, source, p, d), told(CanIdBuilder::new(pgn, source).priority(p).destination(d).build()), "setting {pgn:#X} {source} {p} {d}");
+    }
+}
+
+/// Every PF with every reserved bit, data page and flag bit above, at the edges of the other fields.
+pub fn every_pf() -> u64 {
+    let mut steps = 0;
+    for high in 0..256u32 {
+        for pf in 0..256u32 {
+            for (ps, source) in [(0, 0), (1, 254), (255, 255), (16, 35)] {
+                read(high << 24 | pf << 16 | ps << 8 | source);
+                steps += 1;
+            }
+        }
+    }
+    steps
+}
+
+/// Every PGN of 18 bits and some above, to nobody and to an address, at the bounds of the priority.
+pub fn every_pgn() -> u64 {
+    let mut steps = 0;
+    for pgn in (0..0x4_0400).chain([0x8_0000, 0xFFFF_FFFF, 0x8000_0000, 0x1_0000_F000]).map(|n: u64| n as u32) {
+        for (priority, destination) in [(6, None), (6, Some(255)), (7, None), (0, Some(0)), (8, None), (255, Some(1))] {
+            build(priority, pgn, (pgn % 251) as u8, destination);
+            steps += 1;
+        }
+        build_with(pgn, 35, Some((pgn % 256) as u8), Some((pgn % 253) as u8));
+        build_with(pgn, 35, None, None);
+        steps += 2;
+    }
+    steps
+}
+
+pub fn random(seed: u64, steps: u64) -> u64 {
+    let mut r = Rng::new(seed);
+    for _ in 0..steps {
+        match r.below(3) {
+            0 => read(r.next() as u32),
+            1 => {
+                let pgn = if r.one_in(4) { r.next() as u32 } else { r.below(0x4_0000) as u32 & r.pick(&[!0, !0xFF]) };
+                let destination = if r.one_in(2) { None } else { Some(r.byte()) };
+                build(if r.one_in(4) { r.byte() } else { r.below(8) as u8 }, pgn, r.byte(), destination);
+            }
+            _ => {
+                let pgn = r.below(0x4_1000) as u32 & r.pick(&[!0, !0xFF]);
+                let (p, d) = (r.byte(), r.byte());
+                build_with(pgn, r.byte(), if r.one_in(3) { None } else { Some(p) }, if r.one_in(3) { None } else { Some(d) });
+            }
+        }
+    }
+    steps
+}

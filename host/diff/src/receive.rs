@@ -1,0 +1,583 @@
+//! The receive call: one frame on any pool, and runs of frames. Compared after every call: answer, payload (all 223
+//! bytes), length, counters, and every slot left behind with its buffer, those past the size too.
+use crate::rng::Rng;
+use port::assembler::{handles, Answer, Counters, Pool, ProcessResult as Ours, Rows, Told};
+use reference::hooks::{PoolState, Slot};
+use reference::protocol::transport::fast_packet::assembler::{FastPacketAssembler, ProcessResult};
+
+/// A frame as it is heard.
+#[derive(Clone, Copy, Debug)]
+pub struct Heard {
+    pub now: u64,
+    pub pgn: u32,
+    pub source: u8,
+    pub data: [u8; 8],
+}
+
+/// The original, whatever its number of sessions is.
+trait Original {
+    fn slot(&self, i: usize) -> Slot;
+    fn set_slot(&mut self, i: usize, slot: &Slot);
+    fn set_counters(&mut self, counters: [u32; 5]);
+    fn counters(&self) -> [u32; 5];
+    fn handles(&self, pgn: u32) -> bool;
+    fn process(&mut self, h: &Heard) -> ProcessResult;
+}
+
+impl<const N: usize> Original for FastPacketAssembler<N> {
+    fn slot(&self, i: usize) -> Slot {
+        PoolState::slot(self, i)
+    }
+    fn set_slot(&mut self, i: usize, slot: &Slot) {
+        PoolState::set_slot(self, i, slot)
+    }
+    fn set_counters(&mut self, counters: [u32; 5]) {
+        PoolState::set_counters(self, counters)
+    }
+    fn counters(&self) -> [u32; 5] {
+        [self.expired_sessions(), self.pool_exhausted(), self.rejected_frames(), self.lost_fragments(), self.unknown_pgn()]
+    }
+    fn handles(&self, pgn: u32) -> bool {
+        FastPacketAssembler::handles(self, pgn)
+    }
+    fn process(&mut self, h: &Heard) -> ProcessResult {
+        self.process_frame(h.now, h.pgn, h.source, &h.data)
+    }
+}
+
+fn original(size: usize, list: &'static [u32]) -> Box<dyn Original> {
+    fn with<const N: usize>(list: &'static [u32]) -> Box<dyn Original> {
+        Box::new(FastPacketAssembler::<N>::with_pool(list))
+    }
+    [with::<0>, with::<1>, with::<2>, with::<3>, with::<4>, with::<5>, with::<6>, with::<7>, with::<8>][size](list)
+}
+
+/// The original's answer in the port's words: without a message, zeros and length 0.
+fn told(r: &ProcessResult) -> Answer {
+    let (result, payload, length) = match r {
+        ProcessResult::Ignored => (Ours::Ignored, [0; 223], 0),
+        ProcessResult::FragmentConsumed => (Ours::FragmentConsumed, [0; 223], 0),
+        ProcessResult::MessageComplete(m) => (Ours::MessageComplete, m.payload, m.len),
+    };
+    Answer { result, payload, length }
+}
+
+pub fn lay(p: &mut Pool, k: usize, s: &Slot) {
+    p.heads[8 * k..8 * k + 8].copy_from_slice(&[
+        s.in_progress as u64, s.source as u64, s.sequence as u64, s.last_index as u64, s.pgn as u64, s.expected as u64, s.current as u64, s.last_time,
+    ]);
+    p.bytes[223 * k..223 * k + 223].copy_from_slice(&s.bytes);
+}
+
+fn stands(p: &Pool, k: usize, s: &Slot) -> bool {
+    p.heads[8 * k..8 * k + 8] == [s.in_progress as u64, s.source as u64, s.sequence as u64, s.last_index as u64, s.pgn as u64, s.expected as u64, s.current as u64, s.last_time]
+        && p.bytes[223 * k..223 * k + 223] == s.bytes
+}
+
+/// Step 1 of document 01, in its own words, over slots.
+pub fn impossible(size: usize, slots: &[Slot]) -> bool {
+    size > 8
+        || slots[..size].iter().any(|s| {
+            s.in_progress && (s.sequence > 7 || !(7..=223).contains(&s.expected) || s.current != 6 + 7 * s.last_index as usize || s.current >= s.expected)
+        })
+}
+
+/// Both sides, with the list that the port is lent and the strictly ascending one that the original takes.
+pub struct Pair {
+    size: usize,
+    list: Vec<u32>,
+    o: Box<dyn Original>,
+    p: Pool,
+    counters: Counters,
+    past: Vec<Slot>,
+}
+
+/// The original wants a list that lives for ever: a strictly ascending one of the same PGNs.
+fn sorted(list: &[u32]) -> &'static [u32] {
+    let mut l = list.to_vec();
+    l.sort_unstable();
+    l.dedup();
+    l.leak()
+}
+
+impl Pair {
+    /// Fresh pools.
+    pub fn fresh(size: usize, list: &[u32]) -> Pair {
+        let (number, p) = Pool::new(size);
+        assert_eq!((number, p.size), (0, size));
+        for k in 0..8 {
+            assert!(stands(&p, k, &Slot::FRESH), "a fresh slot");
+        }
+        if size == 4 {
+            assert_eq!(p, Pool::default_pool());
+        }
+        Pair { size, list: list.to_vec(), o: original(size, sorted(list)), p, counters: [0; 5], past: vec![Slot::FRESH; 8 - size] }
+    }
+    /// Sets every slot, within the size and past it, and the counters.
+    pub fn set(&mut self, slots: &[Slot; 8], counters: Counters) {
+        for (k, s) in slots.iter().enumerate() {
+            lay(&mut self.p, k, s);
+            if k < self.size {
+                self.o.set_slot(k, s);
+            }
+        }
+        self.o.set_counters(counters);
+        self.counters = counters;
+        self.past = slots[self.size..].to_vec();
+    }
+    pub fn slots(&self) -> [Slot; 8] {
+        std::array::from_fn(|k| if k < self.size { self.o.slot(k) } else { self.past[k - self.size] })
+    }
+    pub fn counters(&self) -> Counters {
+        self.counters
+    }
+    /// One call, and all that it leaves. `length` is that of the entry with a length.
+    pub fn hear(&mut self, h: &Heard, length: Option<usize>) -> Answer {
+        let before = length.is_none().then(|| (self.p.clone(), self.counters));
+        let got = match length {
+            None => self.p.process_frame(&mut self.counters, &self.list, h.now, h.pgn, h.source, &h.data),
+            Some(n) => self.p.process_frame_with_length(&mut self.counters, &self.list, h.now, h.pgn, h.source, &h.data, n),
+        };
+        if let Some((mut p, mut counters)) = before {
+            let mut a = Answer { result: Ours::Ignored, payload: [0xEE; 223], length: 0xEE };
+            p.receive_into(&mut counters, &self.list, h.now, h.pgn, h.source, &h.data, &mut a);
+            assert!(a == got && p == self.p && counters == self.counters, "the two calls of the port, {h:?}");
+        }
+        let mut heard = *h;
+        if let Some(n) = length {
+            // As the original's own advice has it (fast_packet/mod.rs).
+            let mut data = [0xFF; 8];
+            let len = n.min(8);
+            data[..len].copy_from_slice(&h.data[..len]);
+            heard.data = data;
+        }
+        let want = told(&self.o.process(&heard));
+        assert_eq!(got, want, "{h:?}, length {length:?}, size {}", self.size);
+        assert_eq!(self.counters, self.o.counters(), "counters after {h:?}");
+        for k in 0..8 {
+            let s = if k < self.size { self.o.slot(k) } else { self.past[k - self.size] };
+            assert!(stands(&self.p, k, &s), "slot {k} after {h:?}: {s:?}, {:?}", &self.p.heads[8 * k..8 * k + 8]);
+        }
+        got
+    }
+    /// Compares the list test of this list.
+    pub fn ask(&self, pgn: u32) {
+        assert_eq!(handles(&self.list, pgn), self.o.handles(pgn), "{pgn} in {:?}", self.list);
+    }
+}
+
+/// A call on a pool that document 01 calls impossible: refusal 1, and nothing changed.
+pub fn refused(size: usize, slots: &[Slot; 8], counters: Counters, list: &[u32], h: &Heard, length: Option<usize>) {
+    let mut p = Pool { size, heads: [0; 64], bytes: [0; 1784] };
+    for (k, s) in slots.iter().enumerate() {
+        lay(&mut p, k, s);
+    }
+    let before = p.clone();
+    let mut c = counters;
+    let got = match length {
+        None => p.process_frame(&mut c, list, h.now, h.pgn, h.source, &h.data),
+        Some(n) => p.process_frame_with_length(&mut c, list, h.now, h.pgn, h.source, &h.data, n),
+    };
+    assert_eq!(got, Answer { result: Ours::Refused(1), payload: [0; 223], length: 0 }, "size {size}, {slots:?}");
+    assert_eq!(p, before, "the pool comes back unchanged with 1");
+    assert_eq!(c, counters);
+}
+
+/// The frames of a message, by the original's splitter.
+pub fn frames(sequence: u8, payload: &[u8]) -> Vec<[u8; 8]> {
+    reference::oracle::fast_packet_frames(0, sequence, payload).into_iter().map(|f| f.data.try_into().unwrap()).collect()
+}
+
+// ---- small spaces, whole
+
+/// Every first byte and announced size, on pools of one and four.
+pub fn every_first_byte() -> u64 {
+    let mut steps = 0;
+    for size in [0, 1, 4] {
+        let mut p = Pair::fresh(size, &[127_489]);
+        for b0 in 0..=255u8 {
+            for b1 in 0..=255u8 {
+                p.hear(&Heard { now: 7 * b1 as u64, pgn: 127_489, source: b0 / 64, data: [b0, b1, 1, 2, 3, 4, 5, 6] }, None);
+                steps += 1;
+            }
+        }
+    }
+    steps
+}
+
+/// Every valid expected size and last index of a slot, under every frame index, in time and late.
+pub fn every_slot() -> u64 {
+    let mut steps = 0;
+    let mut p = Pair::fresh(1, &[127_489]);
+    let bytes: [u8; 223] = std::array::from_fn(|i| i as u8 ^ 0xA5);
+    for expected in 7..=223usize {
+        for last_index in (0..32u8).filter(|&i| 6 + 7 * (i as usize) < expected) {
+            let slot = Slot { in_progress: true, source: 9, pgn: 127_489, sequence: 3, bytes, expected, current: 6 + 7 * last_index as usize, last_index, last_time: 1000 };
+            for index in 0..32u8 {
+                let now = [1000, 1500, 1501, 0][(index as usize + expected) % 4];
+                p.set(&std::array::from_fn(|_| slot), [0; 5]);
+                p.hear(&Heard { now: if index == last_index + 1 { 1500 } else { now }, pgn: 127_489, source: 9, data: [3 << 5 | index, 20, 1, 2, 3, 4, 5, 6] }, None);
+                steps += 1;
+            }
+        }
+    }
+    steps
+}
+
+/// Two slots over a small alphabet of states, under a small alphabet of frames.
+pub fn two_slots() -> u64 {
+    let mut alphabet = vec![Slot::FRESH];
+    for source in [1, 2] {
+        alphabet.push(Slot { source, bytes: [source; 223], last_time: 1000, ..Slot::FRESH });
+        for pgn in [127_489, 129_029] {
+            for (sequence, last_time) in [(0, 1000), (1, 1000), (0, 499), (1, 500), (0, 2000)] {
+                for (expected, last_index) in [(7, 0), (14, 1)] {
+                    alphabet.push(Slot { in_progress: true, source, pgn, sequence, bytes: [expected as u8; 223], expected, current: 6 + 7 * last_index as usize, last_index, last_time });
+                }
+            }
+        }
+    }
+    let mut steps = 0;
+    let mut p = Pair::fresh(2, &[127_489, 129_029]);
+    for a in &alphabet {
+        for b in &alphabet {
+            for now in [999, 1000, 1001] {
+                for source in [1, 2] {
+                    for pgn in [127_489, 129_029] {
+                        for (b0, b1) in [(0x00, 6), (0x00, 7), (0x20, 14), (0x01, 9), (0x22, 9)] {
+                            let mut slots = [Slot::FRESH; 8];
+                            (slots[0], slots[1], slots[5]) = (*a, *b, *a);
+                            p.set(&slots, [0; 5]);
+                            p.hear(&Heard { now, pgn, source, data: [b0, b1, 11, 12, 13, 14, 15, 16] }, None);
+                            steps += 1;
+                        }
+                    }
+                }
+            }
+        }
+    }
+    steps
+}
+
+/// Making pools of every size, and above.
+pub fn making() -> u64 {
+    let mut steps = 0;
+    for size in (0..1000).chain([usize::MAX, 1 << 32, 8 | 1 << 40]) {
+        let (number, p) = Pool::new(size);
+        assert_eq!((number, p.size), if size > 8 { (1, 0) } else { (0, size) });
+        assert_eq!((p.heads, p.bytes), ([0; 64], [0; 1784]));
+        steps += 1;
+    }
+    steps
+}
+
+// ---- the batch
+
+/// The original over rows, as document 01's steps and the batch's promise have it: it stops before the first frame whose
+/// message has no room in the arena.
+fn originally<const N: usize>(slots: &[Slot; 8], counters: Counters, list: &'static [u32], rows: &Rows, told: &mut Told) -> (usize, usize, [Slot; 8], Counters) {
+    let mut a = FastPacketAssembler::<N>::with_pool(list);
+    for (k, s) in slots.iter().enumerate().take(N) {
+        PoolState::set_slot(&mut a, k, s);
+    }
+    PoolState::set_counters(&mut a, counters);
+    let (mut taken, mut used) = (0, 0);
+    for i in 0..rows.len() {
+        let mut next = a;
+        let data: &[u8; 8] = rows.data[8 * i..8 * i + 8].try_into().unwrap();
+        let r = next.process_frame(rows.times[i], rows.pgns[i], rows.sources[i], data);
+        let (kind, length) = match &r {
+            ProcessResult::Ignored => (0, 0),
+            ProcessResult::FragmentConsumed => (1, 0),
+            ProcessResult::MessageComplete(m) => (2, m.len),
+        };
+        if used + length > told.arena.len() {
+            break;
+        }
+        if let ProcessResult::MessageComplete(m) = &r {
+            told.arena[used..used + length].copy_from_slice(&m.payload[..length]);
+        }
+        (told.kinds[i], told.lengths[i]) = (kind, length as u8);
+        a = next;
+        taken += 1;
+        used += length;
+    }
+    let after = std::array::from_fn(|k| if k < N { PoolState::slot(&a, k) } else { slots[k] });
+    (taken, used, after, Original::counters(&a))
+}
+
+type Originally = fn(&[Slot; 8], Counters, &'static [u32], &Rows, &mut Told) -> (usize, usize, [Slot; 8], Counters);
+const ORIGINALLY: [Originally; 9] =
+    [originally::<0>, originally::<1>, originally::<2>, originally::<3>, originally::<4>, originally::<5>, originally::<6>, originally::<7>, originally::<8>];
+
+/// One batch on any possible pool, and all that it leaves: answers, messages, the rest of the lent rows, counters, slots.
+pub fn batch(size: usize, slots: &[Slot; 8], counters: Counters, list: &[u32], sorted: &'static [u32], rows: &Rows, room: usize, spare: usize) -> (usize, usize, [Slot; 8], Counters) {
+    let n = rows.len();
+    let (mut got, mut want) = (Told::room(n + spare, room), Told::room(n + spare, room));
+    let mut p = Pool { size, heads: [0; 64], bytes: [0; 1784] };
+    for (k, s) in slots.iter().enumerate() {
+        lay(&mut p, k, s);
+    }
+    let mut c = counters;
+    let (number, taken, used) = p.process_frames(&mut c, list, rows, 0, &mut got);
+    let left = ORIGINALLY[size](slots, counters, sorted, rows, &mut want);
+    assert_eq!((number, taken, used), (0, left.0, left.1), "frames and bytes taken of {n}, room {room}");
+    assert_eq!(got, want, "kinds, lengths, arena");
+    assert_eq!(c, left.3, "counters");
+    for (k, s) in left.2.iter().enumerate() {
+        assert!(stands(&p, k, s), "slot {k}: {s:?}, {:?}", &p.heads[8 * k..8 * k + 8]);
+    }
+    left
+}
+
+/// A batch that is refused changes nothing: 1 for an impossible pool, 27 for a row that is too short, 1 before 27.
+pub fn batch_refused(size: usize, slots: &[Slot; 8], counters: Counters, list: &[u32], rows: &Rows, cut: usize) -> u32 {
+    let n = rows.len();
+    let mut p = Pool { size, heads: [0; 64], bytes: [0; 1784] };
+    for (k, s) in slots.iter().enumerate() {
+        lay(&mut p, k, s);
+    }
+    let before = p.clone();
+    let mut c = counters;
+    let mut told = Told::room(n, 500);
+    let all = told.clone();
+    let short = |k: usize, len: usize| if cut == k { len.saturating_sub(1) } else { len };
+    let (kinds, lengths) = (short(3, n), short(4, n));
+    let (number, taken, used) = p.process_frames_in(
+        &mut c, list, &rows.times, &rows.pgns[..short(0, n)], &rows.sources[..short(1, n)], &rows.data[..short(2, 8 * n)],
+        &mut told.kinds[..kinds], &mut told.lengths[..lengths], &mut told.arena,
+    );
+    let want = if impossible(size, slots) { 1 } else { 27 };
+    assert_eq!((number, taken, used, c), (want, 0, 0, counters));
+    assert_eq!((p, told), (before, all), "a refusal changes nothing");
+    number
+}
+
+/// Batches of traffic from any possible pool, some of them with too little room, gone on with from where they stopped.
+pub fn batches(seed: u64, steps: u64) -> u64 {
+    let mut r = Rng::new(seed);
+    let sorted_lists = LISTS.map(sorted);
+    let mut done = 0;
+    while done < steps {
+        let size = r.below(9) as usize;
+        let which = r.below(6) as usize;
+        let mut now = r.pick(&[1000, 100_000]);
+        let mut slots: [Slot; 8] = if r.one_in(2) { [Slot::FRESH; 8] } else { std::array::from_fn(|_| possible(&mut r, now)) };
+        let mut counters = [r.below(1000) as u32; 5];
+        for _ in 0..8 {
+            let mut rows = Rows::default();
+            let mut senders: Vec<(u8, u32, Vec<[u8; 8]>)> = vec![];
+            for _ in 0..r.pick(&[0, 1, 2, 16, 64, 256]) {
+                now = if r.one_in(50) { now.saturating_sub(600) } else { now + r.pick(&[0, 1, 5, 5, 5, 5, 5, 5, 5, 499, 500, 501]) };
+                if senders.is_empty() || r.one_in(4) {
+                    let len = r.pick(&[1, 6, 7, 13, 14, 26, 223]);
+                    let payload = r.vec(len);
+                    let mut f = frames(r.below(4) as u8, &payload);
+                    f.reverse();
+                    senders.push((r.below(4) as u8, r.pick(&PGNS), f));
+                }
+                let k = r.below(senders.len() as u64) as usize;
+                let (source, pgn, f) = &mut senders[k];
+                let mut data = f.pop().unwrap();
+                if r.one_in(30) {
+                    data[r.below(2) as usize] = r.byte();
+                }
+                rows.push(now, *pgn, *source, data);
+                if f.is_empty() {
+                    senders.swap_remove(k);
+                }
+            }
+            if !rows.is_empty() && r.one_in(4) {
+                let cut = r.below(5) as usize;
+                batch_refused(size, &slots, counters, LISTS[which], &rows, cut);
+            }
+            let room = r.pick(&[0, 10, 100, 300, 10_000]);
+            let left = batch(size, &slots, counters, LISTS[which], sorted_lists[which], &rows, room, r.below(3) as usize);
+            (slots, counters) = (left.2, left.3);
+            done += rows.len().max(1) as u64;
+        }
+        // the pool that was left, made impossible
+        if size > 0 {
+            let mut bad = slots;
+            bad[r.below(size as u64) as usize] = Slot { in_progress: true, sequence: 8, ..Slot::FRESH };
+            let mut rows = Rows::default();
+            rows.push(0, 127_489, 0, [0, 1, 2, 3, 4, 5, 6, 7]);
+            batch_refused(size, &bad, counters, LISTS[which], &rows, r.below(6) as usize);
+            batch_refused(9, &slots, counters, LISTS[which], &rows, 5);
+            done += 2;
+        }
+    }
+    done
+}
+
+// ---- random runs
+
+/// Lists of a run: some strictly ascending; for the others the original takes the same PGNs in order, once each.
+const LISTS: [&[u32]; 6] = [&[], &[127_489], &[127_489, 129_029], &[129_029, 127_489, 129_029], &[0, 5, 60_928, 126_208, 127_489, 129_029, 0xFFFF_FFFF], &[130_824, 127_489, 0]];
+const PGNS: [u32; 6] = [127_489, 127_489, 129_029, 129_029, 5, 130_824];
+/// Announced sizes and lengths at the edges.
+const SIZES: [u8; 16] = [0, 1, 5, 6, 7, 8, 12, 13, 14, 20, 26, 221, 222, 223, 224, 255];
+const SILENCES: [u64; 8] = [0, 1, 499, 500, 501, 502, 1000, 1 << 40];
+
+/// A slot that document 01 calls possible, near the clock.
+fn possible(r: &mut Rng, now: u64) -> Slot {
+    let in_progress = !r.one_in(3);
+    let time = match r.below(4) {
+        0 => now.saturating_sub(r.pick(&SILENCES)),
+        1 => now.saturating_add(r.pick(&SILENCES)),
+        2 => r.next(),
+        _ => now.saturating_sub(r.below(700)),
+    };
+    let expected = if r.one_in(2) { 7 + r.below(217) as usize } else { r.pick(&[7, 8, 13, 14, 20, 21, 26, 222, 223]) };
+    let last_index = r.below((expected as u64 - 7) / 7 + 1) as u8;
+    if in_progress {
+        Slot { in_progress, source: r.below(4) as u8, pgn: r.pick(&PGNS), sequence: r.below(3) as u8, bytes: r.bytes(), expected, current: 6 + 7 * last_index as usize, last_index, last_time: time }
+    } else {
+        // an idle slot may hold anything
+        Slot { in_progress, source: r.below(4) as u8, pgn: r.next() as u32, sequence: r.byte(), bytes: r.bytes(), expected: r.next() as usize, current: r.next() as usize, last_index: r.byte(), last_time: time }
+    }
+}
+
+/// A frame, often one that fits a slot.
+fn heard(r: &mut Rng, slots: &[Slot], now: u64) -> Heard {
+    let mut h = Heard { now, pgn: r.pick(&PGNS), source: r.below(4) as u8, data: r.bytes() };
+    match r.below(4) {
+        0 => h.data = [(r.below(3) as u8) << 5, r.pick(&SIZES), h.data[2], h.data[3], h.data[4], h.data[5], h.data[6], h.data[7]],
+        1 => {}
+        _ if !slots.is_empty() => {
+            let s = slots[r.below(slots.len() as u64) as usize];
+            (h.pgn, h.source) = (s.pgn, s.source);
+            let index = if r.one_in(8) { r.below(32) as u8 } else { s.last_index.wrapping_add(1) };
+            h.data[0] = s.sequence << 5 | index % 32;
+            if r.one_in(3) {
+                h.now = s.last_time.saturating_add(r.pick(&SILENCES));
+            }
+            if r.one_in(6) {
+                h.data[0] &= 0xE0;
+                h.data[1] = r.pick(&SIZES);
+            }
+        }
+        _ => {}
+    }
+    h
+}
+
+/// Single calls on random possible pools: any time, any idle slot, any counters below the end.
+pub fn any_pool(seed: u64, steps: u64) -> u64 {
+    let mut r = Rng::new(seed);
+    let mut pairs: Vec<Pair> = (0..=8).flat_map(|size| LISTS.map(|l| Pair::fresh(size, l))).collect();
+    for _ in 0..steps {
+        let now = if r.one_in(4) { r.next() } else { r.pick(&[0, 500, 1000, 100_000, u64::MAX]) };
+        let slots: [Slot; 8] = std::array::from_fn(|_| possible(&mut r, now));
+        let k = r.below(pairs.len() as u64) as usize;
+        let p = &mut pairs[k];
+        let counters = std::array::from_fn(|_| if r.one_in(2) { r.next() as u32 >> 1 } else { r.pick(&[0, 1, u32::MAX - 1]) });
+        p.set(&slots, counters);
+        let h = heard(&mut r, &slots[..p.size], now);
+        let length = if r.one_in(3) { Some(if r.one_in(4) { r.next() as usize } else { r.below(10) as usize }) } else { None };
+        p.ask(h.pgn);
+        p.hear(&h, length);
+    }
+    steps
+}
+
+/// Single calls on pools that document 01 calls impossible, by one slot or by their size.
+pub fn impossible_pools(seed: u64, steps: u64) -> u64 {
+    let mut r = Rng::new(seed);
+    let mut done = 0;
+    while done < steps {
+        let now = 1000;
+        let mut slots: [Slot; 8] = std::array::from_fn(|_| possible(&mut r, now));
+        let size = if r.one_in(6) { 9 + (r.next() >> r.below(64)).min(u64::MAX - 9) as usize } else { 1 + r.below(8) as usize };
+        if size <= 8 {
+            let s = &mut slots[r.below(size as u64) as usize];
+            s.in_progress = true;
+            match r.below(6) {
+                0 => s.sequence = 8 + r.below(248) as u8,
+                1 => s.expected = r.pick(&[0, 1, 6, 224, 255, 1784, usize::MAX]),
+                2 => s.current = s.current.wrapping_add(r.pick(&[1, 7, usize::MAX])),
+                3 => s.last_index = s.last_index.wrapping_add(1),
+                4 => (s.last_index, s.current) = (31, 223),
+                _ => s.current = s.expected,
+            }
+            if !impossible(size, &slots) {
+                continue;
+            }
+        }
+        let h = heard(&mut r, &slots[..size.min(8)], now);
+        let counters = std::array::from_fn(|_| r.next() as u32);
+        let length = r.one_in(3).then_some(r.below(10) as usize);
+        refused(size, &slots, counters, LISTS[r.below(6) as usize], &h, length);
+        done += 1;
+    }
+    steps
+}
+
+/// Where a counter stands at its end the original would trap; the port stays there.
+pub fn counters_at_the_end() -> u64 {
+    let mut steps = 0;
+    for (h, which) in [
+        (Heard { now: 0, pgn: 5, source: 0, data: [0; 8] }, 4),
+        (Heard { now: 0, pgn: 127_489, source: 0, data: [0; 8] }, 2),
+        (Heard { now: 0, pgn: 127_489, source: 0, data: [1; 8] }, 3),
+        (Heard { now: 0, pgn: 127_489, source: 0, data: [0, 7, 0, 0, 0, 0, 0, 0] }, 1),
+        (Heard { now: 501, pgn: 127_489, source: 0, data: [0, 7, 0, 0, 0, 0, 0, 0] }, 0),
+    ] {
+        for at in [u32::MAX - 2, u32::MAX - 1, u32::MAX] {
+            let busy = Slot { in_progress: true, source: 1, pgn: 127_489, expected: 7, current: 6, ..Slot::FRESH };
+            let mut p = Pool::new(1).1;
+            lay(&mut p, 0, &busy);
+            let mut c = [7; 5];
+            c[which] = at;
+            p.process_frame(&mut c, &[127_489], h.now, h.pgn, h.source, &h.data);
+            let mut want = [7; 5];
+            want[which] = at.saturating_add(1);
+            assert_eq!(c, want, "{h:?}");
+            steps += 1;
+        }
+    }
+    steps
+}
+
+/// Runs of traffic from a fresh pool: several senders, losses, repeats, damage, silences around 500 ms, a clock that goes
+/// back, full pools, keys that collide, lists that are not in order.
+pub fn traffic(seed: u64, steps: u64) -> u64 {
+    let mut r = Rng::new(seed);
+    let mut done = 0;
+    while done < steps {
+        let size = r.below(9) as usize;
+        let mut p = Pair::fresh(size, LISTS[1 + r.below(5) as usize]);
+        let mut now = r.pick(&[0, 1000, u64::MAX - 5_000_000]);
+        // a sender: source, PGN, the frames that are left
+        let mut senders: Vec<(u8, u32, Vec<[u8; 8]>, usize)> = vec![];
+        for _ in 0..2000 {
+            match r.below(40) {
+                0 => now = now.saturating_add(501),
+                1 => now = now.saturating_sub(600),
+                2 => now = now.saturating_add(500),
+                3 => now = now.saturating_add(499),
+                _ => now = now.saturating_add(r.below(20)),
+            }
+            if senders.is_empty() || senders.len() < size + 3 && r.one_in(3) {
+                let len = if r.one_in(2) { r.pick(&[1, 5, 6, 7, 13, 14, 20, 222, 223]) } else { 1 + r.below(223) as usize };
+                let payload = r.vec(len);
+                senders.push((r.below(size as u64 + 2) as u8, r.pick(&PGNS), frames(r.below(8) as u8, &payload), 0));
+            }
+            let k = r.below(senders.len() as u64) as usize;
+            let (source, pgn, fs, at) = &mut senders[k];
+            let mut h = Heard { now, pgn: *pgn, source: *source, data: fs[*at] };
+            if r.one_in(60) {
+                h.data[r.below(2) as usize] = r.byte();
+            }
+            if !r.one_in(80) {
+                *at += 1;
+            }
+            if *at >= fs.len() || r.one_in(100) {
+                senders.swap_remove(k);
+            }
+            p.hear(&h, r.one_in(4).then_some(r.pick(&[8, 8, 8, 9, 7, 3, 1, 0])));
+            done += 1;
+        }
+    }
+    done
+}
