@@ -1,7 +1,7 @@
 //! Both sides over the same inputs in one process, repetitions interleaved: nanoseconds an item of the original (median),
 //! and of the port the ratio to it (median of the ratios of neighbours, with lower and upper quartile).
 //!
-//! cargo run --offline --profile speed --bin bench [repetitions] [frames]
+//! cargo run --offline --profile speed --bin bench [repetitions] [frames] [receiving, building, identifiers or oracle]
 mod workloads;
 use port::assembler::{Answer, Pool, ProcessResult as Ours, Rows, Told};
 use reference::oracle as bench_oracle;
@@ -131,9 +131,16 @@ fn receiving<const N: usize>(reps: usize, n: usize) {
 
 /// The original's accessors as calls, as the port's are: neither side is inlined into the loop.
 #[inline(never)]
-fn read_one(id: u32) -> (u8, u32, Option<u8>, u8) {
-    let id = CanId(id);
-    (id.priority(), id.pgn(), id.destination(), id.source_address())
+fn priority_one(id: u32) -> u8 {
+    CanId(id).priority()
+}
+#[inline(never)]
+fn destination_one(id: u32) -> Option<u8> {
+    CanId(id).destination()
+}
+#[inline(never)]
+fn source_one(id: u32) -> u8 {
+    CanId(id).source_address()
 }
 #[inline(never)]
 fn pgn_one(id: u32) -> u32 {
@@ -154,7 +161,7 @@ fn identifiers(reps: usize, n: usize) {
         ("port", &mut || { black_box(black_box(&ids).iter().fold(0, |s, &id| s ^ port::can_id::CanId(id).pgn())); }),
     ]);
     compare("reading all four parts", n, reps, &mut [
-        ("original", &mut || for &id in black_box(&ids) { black_box(read_one(id)); }),
+        ("original", &mut || for &id in black_box(&ids) { black_box((priority_one(id), pgn_one(id), destination_one(id), source_one(id))); }),
         ("port", &mut || for &id in black_box(&ids) {
             let id = port::can_id::CanId(id);
             black_box((id.priority(), id.pgn(), id.destination(), id.source_address()));
@@ -162,7 +169,13 @@ fn identifiers(reps: usize, n: usize) {
     ]);
     compare("building", n, reps, &mut [
         ("original", &mut || for &id in black_box(&ids) { black_box(build_one(id >> 8 & 0x3_FFFF, id as u8, None)); }),
-        ("port", &mut || for &id in black_box(&ids) { black_box(port::can_id::build(6, id >> 8 & 0x3_FFFF, id as u8, None).ok()); }),
+        ("port", &mut || {
+            let mut value = 0;
+            for &id in black_box(&ids) {
+                black_box(port::can_id::build_into(6, id >> 8 & 0x3_FFFF, id as u8, 256, &mut value));
+                black_box(value);
+            }
+        }),
     ]);
 }
 
@@ -179,25 +192,25 @@ fn building(reps: usize, n: usize) {
                 for f in FastPacketBuilder::new(pgn, 35, None, black_box(p)).build() { black_box(f.unwrap()); }
             }),
             ("step", &mut || {
-                let mut held = 0;
+                let (mut held, mut data, mut frame) = (0, [0; 8], [0; 3]);
                 for _ in 0..times {
                     let (b, next) = port::builder::FastPacketBuilder::new(pgn, 35, None, black_box(p), &[127_489], held);
                     held = next;
-                    let (mut index, mut sent) = (0, 0);
-                    loop {
-                        let (item, i, s) = b.next_frame(index, sent, p);
-                        (index, sent) = (i, s);
-                        match item { Some(f) => { black_box(f.unwrap()); } None => break }
+                    let mut after = [0, 0];
+                    while b.next_frame_into(after[0] as u8, after[1] as usize, p, &mut data, &mut frame, &mut after) == 0 {
+                        black_box((&data, &frame));
                     }
                 }
             }),
             ("iterator", &mut || {
-                let mut held = 0;
+                let (mut held, mut data, mut frame) = (0, [0; 8], [0; 3]);
                 for _ in 0..times {
                     let (b, next) = port::builder::FastPacketBuilder::new(pgn, 35, None, black_box(p), &[127_489], held);
                     held = next;
                     let mut it = b.build();
-                    while let Some(f) = it.next(p) { black_box(f.unwrap()); }
+                    while it.next_into(p, &mut data, &mut frame) == 0 {
+                        black_box((&data, &frame));
+                    }
                 }
             }),
         ]);
@@ -254,9 +267,19 @@ fn main() {
     let number = |k: usize, other: usize| std::env::args().nth(k).and_then(|x| x.parse().ok()).unwrap_or(other);
     let (reps, n) = (number(1, 31), number(2, 16_384));
     println!("{reps} repetitions, interleaved, {n} frames each; the port as the ratio to the original: median [lower quartile..upper quartile]");
-    receiving::<4>(reps, n);
-    receiving::<8>(reps, n);
-    building(reps, n);
-    identifiers(reps, n);
-    oracle(reps, n);
+    let only = std::env::args().nth(3);
+    let wanted = |name: &str| only.as_deref().is_none_or(|o| o == name);
+    if wanted("receiving") {
+        receiving::<4>(reps, n);
+        receiving::<8>(reps, n);
+    }
+    if wanted("building") {
+        building(reps, n);
+    }
+    if wanted("identifiers") {
+        identifiers(reps, n);
+    }
+    if wanted("oracle") {
+        oracle(reps, n);
+    }
 }

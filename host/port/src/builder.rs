@@ -63,6 +63,12 @@ impl FastPacketBuilder {
         unsafe { hf_builder_build(self.0.as_ptr(), place.as_mut_ptr()) };
         FrameIterator { builder: self, place }
     }
+    /// The entry as it is, as `FrameIterator::next_into`; `after` is the frame index and bytes sent that follow.
+    #[inline]
+    #[allow(clippy::too_many_arguments)]
+    pub fn next_frame_into(&self, frame_index: u8, bytes_sent: usize, payload: &[u8], data: &mut [u8; 8], frame: &mut [u64; 3], after: &mut [u64; 2]) -> u32 {
+        unsafe { hf_next_frame(self.0.as_ptr(), frame_index, bytes_sent, payload.as_ptr(), payload.len(), data.as_mut_ptr(), frame.as_mut_ptr(), after.as_mut_ptr()) }
+    }
     /// The answer, and the frame index and bytes sent that follow.
     #[inline]
     pub fn next_frame(&self, frame_index: u8, bytes_sent: usize, payload: &[u8]) -> (Item, u8, usize) {
@@ -75,6 +81,12 @@ impl FastPacketBuilder {
 }
 
 impl FrameIterator {
+    /// The entry as it is: 0 for a frame, 256 for the end, or a refusal; the frame's bytes, and its identifier, length and what a
+    /// refusal carries, go into memory that the caller keeps.
+    #[inline]
+    pub fn next_into(&mut self, payload: &[u8], data: &mut [u8; 8], frame: &mut [u64; 3]) -> u32 {
+        unsafe { hf_frame_iterator_next(self.builder.0.as_ptr(), self.place.as_mut_ptr(), payload.as_ptr(), payload.len(), data.as_mut_ptr(), frame.as_mut_ptr()) }
+    }
     #[inline]
     pub fn next(&mut self, payload: &[u8]) -> Item {
         let (mut data, mut frame) = ([0xEE; 8], [0xEE; 3]);

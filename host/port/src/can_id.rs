@@ -34,6 +34,12 @@ impl CanId {
     }
 }
 
+/// The entry as it is: 0 or a refusal's number, with 256 for no destination.
+#[inline]
+pub fn build_into(priority: u8, pgn: u32, source_address: u8, destination: u16, value: &mut u32) -> u32 {
+    unsafe { hf_can_id_build(priority, pgn, source_address, destination, value) }
+}
+
 /// From these parts as they are.
 pub fn build(priority: u8, pgn: u32, source_address: u8, destination: Option<u8>) -> Built {
     let mut value = 0xEEEE_EEEE;
