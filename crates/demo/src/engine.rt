@@ -2,6 +2,7 @@
 ghost use Prim.Native.Nat.{_<_};
 use builder::FastPacketBuilder;
 use can_id::Destination;
+use fast_packet::MAX_FAST_PACKET_PAYLOAD;
 
 pub(crate) const PGN: u32 = 127489;
 
@@ -22,7 +23,7 @@ fn wide(x: u8) -> u64
 }
 
 // The hours of a delivered record.
-pub(crate) fn hours(payload: [u8; 223]) -> u64 {
+pub(crate) fn hours(payload: [u8; MAX_FAST_PACKET_PAYLOAD]) -> u64 {
     wide(payload[11])
         + wide(payload[12]) * 0x100
         + wide(payload[13]) * 0x1_0000

@@ -12,6 +12,7 @@ use builder::Next;
 use builder::NextKind;
 use can_id::CanIdBuildError;
 use can_id::Destination;
+use fast_packet::MAX_FAST_PACKET_PAYLOAD;
 use libc::STDIN_FILENO;
 use libc::STDOUT_FILENO;
 use session::Counters;
@@ -96,10 +97,10 @@ fn write_number(n: u64) {
     io::print_decimal(STDOUT_FILENO, n);
 }
 
-fn write_payload(payload: [u8; 223], n: usize) {
+fn write_payload(payload: [u8; MAX_FAST_PACKET_PAYLOAD], n: usize) {
     io::write_all(STDOUT_FILENO, b" ");
     let mut i: usize = 0;
-    while i < 223 {
+    while i < MAX_FAST_PACKET_PAYLOAD {
         if i < n {
             write_byte(payload[i]);
         }
