@@ -70,7 +70,8 @@ bool hf_handles(const uint32_t *pgns, size_t pgns_len, uint32_t pgn);
 uint32_t hf_pool_new(size_t wanted, uint64_t heads[64], uint8_t bytes[1784], size_t *size);
 uint32_t hf_pool_default(uint64_t heads[64], uint8_t bytes[1784], size_t *size);
 
-/* 1 and nothing changed, or one of the three kinds. `payload` holds the message and zeros after it; without one, zeros and
+/* 1 and the pool and counters as they were, or one of the three kinds. Whatever is answered, each number of `heads` comes
+ * back in the width of its field (a flag as 0 or 1, a source modulo 256), so one that was wider is changed. `payload` holds the message and zeros after it; without one, zeros and
  * *length 0. */
 uint32_t hf_process_frame(size_t size, uint64_t heads[64], uint8_t bytes[1784], uint32_t counters[5], const uint32_t *pgns, size_t pgns_len,
                           uint64_t now_ms, uint32_t pgn, uint8_t source_address, const uint8_t data[8], uint8_t payload[223], size_t *length);
@@ -83,7 +84,8 @@ uint32_t hf_process_frame_with_length(size_t size, uint64_t heads[64], uint8_t b
                                       size_t frame_length, uint8_t payload[223], size_t *length);
 
 /* Many frames in one call: rows of times, PGNs, sources and eight bytes a frame. 0, 1 for an impossible pool, 27 for a row
- * shorter than `times`; a refusal changes nothing. Of each frame taken, `kinds` gets 0 Ignored, 1 FragmentConsumed or
+ * shorter than `times`; a refusal changes no row, and the pool no
+ * more than hf_process_frame says. Of each frame taken, `kinds` gets 0 Ignored, 1 FragmentConsumed or
  * 2 MessageComplete and `lengths` the message's length; messages stand end to end from the arena's start. It stops before
  * the first frame whose message has no room. `counts` is the frames taken and the arena's bytes taken. */
 uint32_t hf_process_frames(size_t size, uint64_t heads[64], uint8_t bytes[1784], uint32_t counters[5], const uint32_t *pgns, size_t pgns_len,
