@@ -3,13 +3,14 @@ use Prim.Native.Nat.{ℕ}
 use mathlib.Core.List.{List}
 use mathlib.Core.Path.{_≡_, refl, ap, _∙_}
 use Rattle.base.specs.Answer.{Answer}
-use Rattle.oracle.specs.Numbers.{numberOf, valuesOf, ofReassembled, ofChecked}
-use Rattle.oracle.specs.declared.Fault.{Fault}
-use Rattle.oracle.specs.declared.Fault.the-variants.{Length, Restarted, Announced, Stray, Order, Padding}
+use Rattle.oracle.specs.Numbers.{ofReassembled}
+use Rattle.verdicts.specs.Numbers.{numberOf, valuesOf, ofChecked}
+use Rattle.verdicts.specs.declared.Fault.{Fault}
+use Rattle.verdicts.specs.declared.Fault.the-variants.{Length, Restarted, Announced, Stray, Order, Padding}
 use Rattle.oracle.specs.declared.Reassembled.{Reassembled}
 use Rattle.oracle.specs.declared.Reassembled.the-variants.{Messages, Refused, Incomplete, NoRoom}
-use Rattle.oracle.specs.declared.Checked.{Checked}
-use Rattle.oracle.specs.declared.Checked.the-variants.{Good, NoCount, Over, NoClaim, Faulty, Open, Count, Size, Hours, Pattern, Sequence}
+use Rattle.verdicts.specs.declared.Checked.{Checked}
+use Rattle.verdicts.specs.declared.Checked.the-variants.{Good, NoCount, Over, NoClaim, Faulty, Open, Count, Size, Hours, Pattern, Sequence}
 use Rattle.ffi.specs.Bench.{five, fiveOf}
 use Rattle.ffi.specs.inner.Fives.{oneNumber, twoNumbers, fiveNumbers, faultFive, reassembledFive, checkedFive}
 

@@ -1,6 +1,7 @@
 // The bench: strict reassembly, the splitter and the transmit check, over rows of numbers.
 ghost use mathlib.Core.Path.{_≡_};
-ghost use Rattle.oracle.specs.Numbers.{numberOf, ofReassembled, ofChecked};
+ghost use Rattle.oracle.specs.Numbers.{ofReassembled};
+ghost use Rattle.verdicts.specs.Numbers.{numberOf, ofChecked};
 ghost use Rattle.splitter.specs.Split.{ofSplit};
 ghost use Rattle.splitter.specs.Frames.{countIn};
 ghost use Rattle.oracle.specs.Check.{checkTxOf};
@@ -10,14 +11,14 @@ ghost use Rattle.ffi.specs.inner.Fives.{oneNumber, twoNumbers, fiveNumbe
 ghost use Rattle.ffi.specs.Bench.{fiveOf, Reassembles, Splits, reassembledIn, splitIn};
 use crate::numbers::wide;
 use crate::numbers::wide_size;
-use oracle::Checked;
-use oracle::Fault;
 use oracle::Reassembled;
 use oracle::check_tx_rows;
 use oracle::reassemble_rows;
 use splitter::Split;
 use splitter::fast_packet_rows;
 use splitter::frame_count;
+use verdicts::Checked;
+use verdicts::Fault;
 
 // ---- answers as numbers
 

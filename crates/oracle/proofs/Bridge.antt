@@ -18,16 +18,18 @@ use Rattle.base.specs.Answer.{Answer, gives, refuses, counted}
 use Rattle.base.specs.Pick.{pick}
 use Rattle.base.proofs.Cases.{tested, less?, same?, when-eq, when-ne, when-lt, when-ge, when-true, when-false}
 use Rattle.splitter.specs.Frames.{eight, bytesOf}
-use Rattle.oracle.specs.Ids.{isOther, indexOf, sequenceOf}
-use Rattle.oracle.specs.Strict.{Message, Open, Outcome, refused, waits, whole, oddOf, collectedAt, firstFrame, laterFrame, outcomeOf, before, thenOf, endOf, messagesFrom, messagesOf, payloadsOf, listFrom, roomFor, deliveredTo, arenaWith, listWith}
-use Rattle.oracle.specs.Numbers.{numberOf, valuesOf, ofReassembled}
+use Rattle.oracle.specs.Ids.{isOther}
+use Rattle.verdicts.specs.Frames.{indexOf, sequenceOf, oddOf}
+use Rattle.oracle.specs.Strict.{Message, Open, Outcome, refused, waits, whole, collectedAt, firstFrame, laterFrame, outcomeOf, before, thenOf, endOf, messagesFrom, messagesOf, payloadsOf, listFrom, roomFor, deliveredTo, arenaWith, listWith}
+use Rattle.oracle.specs.Numbers.{ofReassembled}
+use Rattle.verdicts.specs.Numbers.{numberOf, valuesOf}
 use Rattle.oracle.specs.inner.Scan.{headOf, missingOf, paddingOf, firstOf, laterOf, faultOf, skipped, refusedAt, taken, isRefused, stepOn, stepOf, scanOf, startOf, Counted, addedOf, rowOf, bytesLaid, rowsLaid, refusalOf, verdictOf, isNone}
 use Rattle.splitter.specs.declared.Frame.{Frame}
 use Rattle.oracle.specs.declared.Scan.{Scan}
-use Rattle.oracle.specs.declared.Fault.{Fault}
-use Rattle.oracle.specs.declared.Fault.the-variants.{Length, Restarted, Announced, Stray, Order, Padding}
-use Rattle.oracle.specs.declared.Standing.{Standing}
-use Rattle.oracle.specs.declared.Standing.the-variants.{Clear, At}
+use Rattle.verdicts.specs.declared.Fault.{Fault}
+use Rattle.verdicts.specs.declared.Fault.the-variants.{Length, Restarted, Announced, Stray, Order, Padding}
+use Rattle.verdicts.specs.declared.Standing.{Standing}
+use Rattle.verdicts.specs.declared.Standing.the-variants.{Clear, At}
 use Rattle.oracle.specs.declared.Reassembled.{Reassembled}
 use Rattle.oracle.specs.declared.Reassembled.the-variants.{Messages, Refused, Incomplete, NoRoom}
 use Rattle.splitter.proofs.FrameLaws.{eight-long}

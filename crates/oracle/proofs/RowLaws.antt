@@ -16,11 +16,15 @@ use Rattle.oracle.specs.declared.Tx.{Tx}
 use Rattle.oracle.proofs.Grows.{counts, arena-more, list-more}
 use Rattle.oracle.proofs.CheckLaws.{kept-count}
 
--- a frame of the row, byte by byte
-pub frame-read : (ids bytes lens : List ℕ) (i : ℕ)
-    → record { id = getD ids i 0; «data» = getD bytes (8 * i) 0 ∷ getD bytes (8 * i + 1) 0 ∷ getD bytes (8 * i + 2) 0 ∷ getD bytes (8 * i + 3) 0 ∷ getD bytes (8 * i + 4) 0 ∷ getD bytes (8 * i + 5) 0 ∷ getD bytes (8 * i + 6) 0 ∷ getD bytes (8 * i + 7) 0 ∷ []; len = getD lens i 0 } ≡ frameIn ids bytes lens i
-unfolding frameIn eight
-frame-read ids bytes lens i = simp (getD-drop, add-zero)
+-- eight bytes, one by one, and the frame that has them
+pub eight-read : (bytes : List ℕ) (at : ℕ)
+    → getD bytes at 0 ∷ getD bytes (at + 1) 0 ∷ getD bytes (at + 2) 0 ∷ getD bytes (at + 3) 0 ∷ getD bytes (at + 4) 0 ∷ getD bytes (at + 5) 0 ∷ getD bytes (at + 6) 0 ∷ getD bytes (at + 7) 0 ∷ [] ≡ eight (drop at bytes)
+unfolding eight
+eight-read bytes at = simp (getD-drop, add-zero)
+
+pub frame-read : (ids bytes lens : List ℕ) (i : ℕ) {bs : List ℕ} → bs ≡ eight (drop (8 * i) bytes) → record { id = getD ids i 0; «data» = bs; len = getD lens i 0 } ≡ frameIn ids bytes lens i
+unfolding frameIn
+frame-read ids bytes lens i e = simp e
 
 -- what a fold leaves of the arena and of the list
 abbrev pub arenaLeft : Scan → List ℕ → List Frame → List ℕ

@@ -1,12 +1,10 @@
--- What an identifier and a frame's bytes say, as document 01 has it under "Identifiers" and "Reassembly".
+-- What an identifier says, as document 01 has it under "Identifiers".
 use Prim.Native.Nat.{ℕ, _*_, _/_, _%_}
 use mathlib.Core.Bool.{Bool, true, false}
-use mathlib.Core.List.{List}
-use lib.ListN.{getD}
 use lib.Dec.{eqb, ltb}
 use Rattle.base.specs.Pick.{pick}
 
--- ---- whose frame it is. "Bits from the top of 29: priority 3, reserved 1, data page 1, PF 8, PS 8, source 8."
+-- whose frame it is. "Bits from the top of 29: priority 3, reserved 1, data page 1, PF 8, PS 8, source 8."
 abbrev pub sourceOf : ℕ → ℕ
 sourceOf id = id % 0x100
 
@@ -17,10 +15,3 @@ pgnOf id = pick (ltb (id / 0x1_0000 % 0x100) 240) (id / 0x1_0000 % 0x400 * 0x100
 -- "Frames of another source or PGN"
 unfoldable pub isOther : ℕ → ℕ → ℕ → Bool
 isOther source pgn id = pick (eqb (sourceOf id) source) (pick (eqb (pgnOf id) pgn) false true) true
-
--- ---- "Index .. (low 5 bits of byte 0; sequence is the top 3)"
-abbrev pub indexOf : List ℕ → ℕ
-indexOf bs = getD bs 0 0 % 32
-
-abbrev pub sequenceOf : List ℕ → ℕ
-sequenceOf bs = getD bs 0 0 / 32

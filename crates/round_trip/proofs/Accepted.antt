@@ -19,8 +19,9 @@ use Rattle.base.specs.Lists.{fill}
 use Rattle.base.proofs.Fills.{length-fill, take-fill}
 use Rattle.base.proofs.Cases.{tested, less?, same?, when-eq, when-ne, when-lt, when-ge, when-true, when-false}
 use Rattle.splitter.specs.Frames.{eight, bytesOf}
-use Rattle.oracle.specs.Ids.{isOther, indexOf, sequenceOf}
-use Rattle.oracle.specs.Strict.{Message, Open, Outcome, refused, waits, whole, oddOf, collectedAt, firstFrame, laterFrame, outcomeOf, before, thenOf, endOf, messagesFrom, messagesOf}
+use Rattle.oracle.specs.Ids.{isOther}
+use Rattle.verdicts.specs.Frames.{indexOf, sequenceOf, oddOf}
+use Rattle.oracle.specs.Strict.{Message, Open, Outcome, refused, waits, whole, collectedAt, firstFrame, laterFrame, outcomeOf, before, thenOf, endOf, messagesFrom, messagesOf}
 use Rattle.splitter.specs.Split.{bytesAt, frameAt, framesFrom, framesOf, countOf}
 use Rattle.round_trip.specs.Sent.{own, under, splitAll, AreBytes, AreSplit}
 use Rattle.splitter.specs.declared.Frame.{Frame}

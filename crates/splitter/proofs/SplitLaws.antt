@@ -71,22 +71,24 @@ module _ (j : Job) where
   abbrev header : ℕ
   header = j .sequence % 8 * 32 + j .index % 32
 
-  pub frame-first : {b₀ b₁ b₂ b₃ b₄ b₅ : ℕ} → length (j .payload) ≡ 256 → j .size < 256 → j .index ≡ 0
+  pub frame-first : {h b₀ b₁ b₂ b₃ b₄ b₅ : ℕ} → length (j .payload) ≡ 256 → j .size < 256 → j .index ≡ 0 → h ≡ header
       → b₀ ≡ getD payload 0 255 → b₁ ≡ getD payload 1 255 → b₂ ≡ getD payload 2 255 → b₃ ≡ getD payload 3 255 → b₄ ≡ getD payload 4 255 → b₅ ≡ getD payload 5 255
-      → record { id = j .id; «data» = header ∷ j .size ∷ b₀ ∷ b₁ ∷ b₂ ∷ b₃ ∷ b₄ ∷ b₅ ∷ []; len = 8 } ≡ frameOf j
+      → record { id = j .id; «data» = h ∷ j .size ∷ b₀ ∷ b₁ ∷ b₂ ∷ b₃ ∷ b₄ ∷ b₅ ∷ []; len = 8 } ≡ frameOf j
   unfolding frameOf frameAt bytesAt
-  frame-first {b₀} {b₁} {b₂} {b₃} {b₄} {b₅} n k i e₀ e₁ e₂ e₃ e₄ e₅ =
+  frame-first {h} {b₀} {b₁} {b₂} {b₃} {b₄} {b₅} n k i eh e₀ e₁ e₂ e₃ e₄ e₅ =
       let z : j .size ≡ length payload = rw length-take (omega arith) in
       let d : (b₀ ∷ b₁ ∷ b₂ ∷ b₃ ∷ b₄ ∷ b₅ ∷ []) ≡ gets 6 0 payload = cc in
       let f : (j .size ∷ b₀ ∷ b₁ ∷ b₂ ∷ b₃ ∷ b₄ ∷ b₅ ∷ []) ≡ length payload ∷ fill 6 payload = cc (fill-gets 6 0 payload) in
-      ap (λ (l : List ℕ). record { id = j .id; «data» = header ∷ l; len = 8 }) (when-eq _ _ i f)
+      ap (λ (x : ℕ). record { id = j .id; «data» = x ∷ j .size ∷ b₀ ∷ b₁ ∷ b₂ ∷ b₃ ∷ b₄ ∷ b₅ ∷ []; len = 8 }) eh
+      ∙ ap (λ (l : List ℕ). record { id = j .id; «data» = header ∷ l; len = 8 }) (when-eq _ _ i f)
 
-  pub frame-later : {w b₀ b₁ b₂ b₃ b₄ b₅ b₆ : ℕ} → w ≡ j .index → (j .index ≡ 0 → ⊥)
+  pub frame-later : {w h b₀ b₁ b₂ b₃ b₄ b₅ b₆ : ℕ} → w ≡ j .index → 0 < j .index → h ≡ header
       → b₀ ≡ getD payload (7 * w - 1) 255 → b₁ ≡ getD payload (7 * w - 1 + 1) 255 → b₂ ≡ getD payload (7 * w - 1 + 2) 255 → b₃ ≡ getD payload (7 * w - 1 + 3) 255
       → b₄ ≡ getD payload (7 * w - 1 + 4) 255 → b₅ ≡ getD payload (7 * w - 1 + 5) 255 → b₆ ≡ getD payload (7 * w - 1 + 6) 255
-      → record { id = j .id; «data» = header ∷ b₀ ∷ b₁ ∷ b₂ ∷ b₃ ∷ b₄ ∷ b₅ ∷ b₆ ∷ []; len = 8 } ≡ frameOf j
+      → record { id = j .id; «data» = h ∷ b₀ ∷ b₁ ∷ b₂ ∷ b₃ ∷ b₄ ∷ b₅ ∷ b₆ ∷ []; len = 8 } ≡ frameOf j
   unfolding frameOf frameAt bytesAt
-  frame-later {w} {b₀} {b₁} {b₂} {b₃} {b₄} {b₅} {b₆} ew i e₀ e₁ e₂ e₃ e₄ e₅ e₆ =
+  frame-later {w} {h} {b₀} {b₁} {b₂} {b₃} {b₄} {b₅} {b₆} ew i eh e₀ e₁ e₂ e₃ e₄ e₅ e₆ =
+      let later : j .index ≡ 0 → ⊥ = λ z. omega arith in
       let s : ℕ = 7 * w - 1 in
       let s₁ : s + 1 ≡ suc s = omega arith in
       let s₂ : s + 2 ≡ suc (suc s) = omega arith in
@@ -96,7 +98,8 @@ module _ (j : Job) where
       let s₆ : s + 6 ≡ suc (suc (suc (suc (suc (suc s))))) = omega arith in
       let f : (b₀ ∷ b₁ ∷ b₂ ∷ b₃ ∷ b₄ ∷ b₅ ∷ b₆ ∷ []) ≡ gets 7 s payload = cc in
       let g : (b₀ ∷ b₁ ∷ b₂ ∷ b₃ ∷ b₄ ∷ b₅ ∷ b₆ ∷ []) ≡ fill 7 (drop (7 * j .index - 1) payload) = f ∙ sym (fill-gets 7 s payload) ∙ ap (λ (k : ℕ). fill 7 (drop (7 * k - 1) payload)) ew in
-      ap (λ (l : List ℕ). record { id = j .id; «data» = header ∷ l; len = 8 }) (when-ne _ _ i g)
+      ap (λ (x : ℕ). record { id = j .id; «data» = x ∷ b₀ ∷ b₁ ∷ b₂ ∷ b₃ ∷ b₄ ∷ b₅ ∷ b₆ ∷ []; len = 8 }) eh
+      ∙ ap (λ (l : List ℕ). record { id = j .id; «data» = header ∷ l; len = 8 }) (when-ne _ _ later g)
 
 -- ---- the frames of a job are those of its payload
 pub frames-same : (n : ℕ) (j : Job) → j .index + n ≤ 255 → jobFrames n j ≡ framesFrom (j .id) (j .sequence) (take (j .size) (j .payload)) (j .index) n

@@ -1,6 +1,6 @@
 // The bench's frames, and the splitter that makes them of a payload, byte by byte: the injection side. It shares no code with the builder.
 ghost use mathlib.Core.Path.{_≡_};
-ghost use Prim.Native.Nat.{_<_, _≤_, _+_, _*_, _/_, min};
+ghost use Prim.Native.Nat.{_<_, _≤_, _+_, _*_, _/_, _%_, min};
 ghost use lib.ListN.{length, take, getD};
 ghost use lib.Seq.{sets};
 ghost use Rattle.base.specs.Answer.{counted};
@@ -119,41 +119,66 @@ fn byte(bytes: [u8; 256], size: u8, at: usize) -> u8
     if at < count { bytes[at] } else { FILL }
 }
 
-fn frame_of(j: Job) -> Frame
+fn header(j: Job) -> u8
+    ensures { λ r. ⌜ r ≡ j .sequence % 8 * 32 + j .index % 32 ⌝ }
+{
+    j.sequence % SEQUENCES * INDICES + j.index % INDICES
+}
+
+// A first frame has its message's length and six bytes.
+fn first_frame(j: Job) -> Frame
+    requires { ⌜ j .index ≡ 0 ⌝ }
     ensures { λ r. ⌜ r ≡ frameOf j ⌝ }
 {
     let b = j.payload;
-    let h = j.sequence % SEQUENCES * INDICES + j.index % INDICES;
-    if j.index == 0 {
-        return Frame {
-            id: j.id,
-            data: [
-                h,
-                j.size,
-                byte(b, j.size, 0),
-                byte(b, j.size, 1),
-                byte(b, j.size, 2),
-                byte(b, j.size, 3),
-                byte(b, j.size, 4),
-                byte(b, j.size, 5),
-            ],
-            len: FRAME_BYTES,
-        };
+    let size = j.size;
+    Frame {
+        id: j.id,
+        data: [
+            header(j),
+            size,
+            byte(b, size, 0),
+            byte(b, size, 1),
+            byte(b, size, 2),
+            byte(b, size, 3),
+            byte(b, size, 4),
+            byte(b, size, 5),
+        ],
+        len: FRAME_BYTES,
     }
+}
+
+// Any other has seven.
+fn later_frame(j: Job) -> Frame
+    requires { ⌜ 0 < j .index ⌝ }
+    ensures { λ r. ⌜ r ≡ frameOf j ⌝ }
+{
+    let b = j.payload;
+    let size = j.size;
     let s = LATER_BYTES * wide(j.index) - 1;
     Frame {
         id: j.id,
         data: [
-            h,
-            byte(b, j.size, s),
-            byte(b, j.size, s + 1),
-            byte(b, j.size, s + 2),
-            byte(b, j.size, s + 3),
-            byte(b, j.size, s + 4),
-            byte(b, j.size, s + 5),
-            byte(b, j.size, s + 6),
+            header(j),
+            byte(b, size, s),
+            byte(b, size, s + 1),
+            byte(b, size, s + 2),
+            byte(b, size, s + 3),
+            byte(b, size, s + 4),
+            byte(b, size, s + 5),
+            byte(b, size, s + 6),
         ],
         len: FRAME_BYTES,
+    }
+}
+
+fn frame_of(j: Job) -> Frame
+    ensures { λ r. ⌜ r ≡ frameOf j ⌝ }
+{
+    if j.index == 0 {
+        first_frame(j)
+    } else {
+        later_frame(j)
     }
 }
 

@@ -1,12 +1,12 @@
 -- Nobody needs to believe these: the five numbers of each answer of the bench, case by case, as the code makes them. proofs/Fives says that they are `fiveOf`.
 use Prim.Native.Nat.{ℕ}
 use mathlib.Core.List.{List, [], _∷_}
-use Rattle.oracle.specs.declared.Fault.{Fault}
-use Rattle.oracle.specs.declared.Fault.the-variants.{Length, Restarted, Announced, Stray, Order, Padding}
+use Rattle.verdicts.specs.declared.Fault.{Fault}
+use Rattle.verdicts.specs.declared.Fault.the-variants.{Length, Restarted, Announced, Stray, Order, Padding}
 use Rattle.oracle.specs.declared.Reassembled.{Reassembled}
 use Rattle.oracle.specs.declared.Reassembled.the-variants.{Messages, Refused, Incomplete, NoRoom}
-use Rattle.oracle.specs.declared.Checked.{Checked}
-use Rattle.oracle.specs.declared.Checked.the-variants.{Good, NoCount, Over, NoClaim, Faulty, Open, Count, Size, Hours, Pattern, Sequence}
+use Rattle.verdicts.specs.declared.Checked.{Checked}
+use Rattle.verdicts.specs.declared.Checked.the-variants.{Good, NoCount, Over, NoClaim, Faulty, Open, Count, Size, Hours, Pattern, Sequence}
 
 unfoldable pub oneNumber : ℕ → List ℕ
 oneNumber a = a ∷ 0 ∷ 0 ∷ 0 ∷ 0 ∷ []

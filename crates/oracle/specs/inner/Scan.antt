@@ -6,15 +6,15 @@ use lib.ListN.{length, getD, take, drop}
 use lib.Dec.{eqb, ltb}
 use Rattle.base.specs.Pick.{pick}
 use Rattle.splitter.specs.Frames.{bytesOf}
-use Rattle.oracle.specs.Ids.{isOther, indexOf, sequenceOf}
-use Rattle.oracle.specs.Strict.{oddOf}
+use Rattle.oracle.specs.Ids.{isOther}
+use Rattle.verdicts.specs.Frames.{indexOf, sequenceOf, oddOf}
 use Rattle.splitter.specs.declared.Frame.{Frame}
 use Rattle.oracle.specs.declared.Scan.{Scan}
 use Rattle.oracle.specs.declared.Reassembled.{Reassembled}
 use Rattle.oracle.specs.declared.Reassembled.the-variants.{Messages, Refused, Incomplete, NoRoom}
-use Rattle.oracle.specs.declared.Fault.the-variants.{Length, Restarted, Announced, Stray, Order, Padding}
-use Rattle.oracle.specs.declared.Standing.{Standing}
-use Rattle.oracle.specs.declared.Standing.the-variants.{Clear, At}
+use Rattle.verdicts.specs.declared.Fault.the-variants.{Length, Restarted, Announced, Stray, Order, Padding}
+use Rattle.verdicts.specs.declared.Standing.{Standing}
+use Rattle.verdicts.specs.declared.Standing.the-variants.{Clear, At}
 
 -- how many of its bytes stand before the message's
 unfoldable pub headOf : List ℕ → ℕ

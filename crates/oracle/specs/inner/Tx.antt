@@ -7,27 +7,15 @@ use lib.Seq.{sets}
 use lib.Dec.{eqb, ltb}
 use Rattle.base.specs.Pick.{pick}
 use Rattle.oracle.specs.Ids.{isOther}
-use Rattle.oracle.specs.Check.{hoursOf, offFrom}
+use Rattle.verdicts.specs.Messages.{messageOf}
 use Rattle.oracle.specs.inner.Scan.{stepOf, addedOf, startOf, isRefused}
 use Rattle.splitter.specs.declared.Frame.{Frame}
 use Rattle.oracle.specs.declared.Scan.{Scan}
 use Rattle.oracle.specs.declared.Tx.{Tx}
-use Rattle.oracle.specs.declared.Checked.{Checked}
-use Rattle.oracle.specs.declared.Checked.the-variants.{Good, NoCount, Over, NoClaim, Faulty, Open, Count, Size, Hours, Pattern, Sequence}
-use Rattle.oracle.specs.declared.Standing.{Standing}
-use Rattle.oracle.specs.declared.Standing.the-variants.{Clear, At}
-
--- one message, whose first bytes are `bs`
-unfoldable pub messageOf : ℕ → ℕ → ℕ → ℕ → ℕ → List ℕ → Checked
-messageOf base i last sequence size bs =
-    pick (eqb size 26)
-    (pick (eqb (hoursOf bs) (base + i))
-    (pick (offFrom 0 (take 26 bs)) (Pattern i)
-    (pick (eqb i 0) Good
-    (pick (eqb sequence ((last % 8 + 1) % 8)) Good
-    (Sequence i))))
-    (Hours i))
-    (Size i)
+use Rattle.verdicts.specs.declared.Checked.{Checked}
+use Rattle.verdicts.specs.declared.Checked.the-variants.{Good, NoCount, Over, NoClaim, Faulty, Open, Count, Size, Hours, Pattern, Sequence}
+use Rattle.verdicts.specs.declared.Standing.{Standing}
+use Rattle.verdicts.specs.declared.Standing.the-variants.{Clear, At}
 
 abbrev pub isBad : Checked → Bool
 isBad Good = false

@@ -1,6 +1,6 @@
 -- `checked_number` meets its contract: case by case. Assumes nothing.
 use borrow.Author.Needs.{needs}
-use Rattle.oracle.specs.Numbers.{ofChecked}
+use Rattle.verdicts.specs.Numbers.{ofChecked}
 use Rattle.ffi.proofs.bench.checked_number.Statement.{statement}
 use Rattle.ffi.proofs.bench.checked_number.Tie as tie
 

@@ -1,6 +1,6 @@
 -- `fault_number` meets its contract: case by case. Assumes nothing.
 use borrow.Author.Needs.{needs}
-use Rattle.oracle.specs.Numbers.{numberOf}
+use Rattle.verdicts.specs.Numbers.{numberOf}
 use Rattle.ffi.proofs.bench.fault_number.Statement.{statement}
 use Rattle.ffi.proofs.bench.fault_number.Tie as tie
 

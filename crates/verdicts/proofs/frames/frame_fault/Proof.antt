@@ -1,0 +1,20 @@
+-- `frames::frame_fault` meets its contract: the facts on each way out pick the law of that case. Assumes nothing.
+use borrow.Author.Needs.{needs}
+use Rattle.base.proofs.Cases.{cases}
+use Rattle.verdicts.proofs.Laws.{fault-then}
+use Rattle.verdicts.specs.Frames.{faultAt}
+use Rattle.verdicts.proofs.frames.frame_fault.Statement.{statement}
+use Rattle.verdicts.proofs.frames.frame_fault.Tie as tie
+
+pub frame-fault-spec : {M : Type 1} → statement M
+unfolding faultAt
+frame-fault-spec =
+    tie.close
+    (tie.spec
+    (λ c. search (needs, cases))
+    (λ c κs. search needs)
+    (λ c κs. search needs)
+    (λ c. search needs)
+    (λ c. search needs)
+    (λ c κs. search needs)
+    (λ c. search (needs, fault-then)))
