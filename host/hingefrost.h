@@ -4,7 +4,9 @@
  * A slice is a pointer and a length. A pointer with a number in brackets points to exactly that many elements, which the
  * caller owns; pointers that are written through must not overlap.
  *
- * An entry that may refuse returns the refusal's number (1 to 37), or 0, or one of its own kinds from 256 on. */
+ * An entry that may refuse returns the refusal's number (1 to 37), or 0, or one of its own kinds from 256 on. A refusal changes
+ * no lent memory but what the answer itself is put into (*value, *size, *length, `counts`, `values`, *frames, and of the next
+ * frame `data`, `frame` and the progress that it makes). */
 #ifndef HINGEFROST_H
 #define HINGEFROST_H
 
@@ -52,7 +54,8 @@ void hf_builder_to_destination(uint64_t builder[6], uint8_t destination);
  * index and the bytes sent that follow. Without a frame, `data`, identifier and length are zeros. */
 uint32_t hf_next_frame(const uint64_t builder[6], uint8_t frame_index, size_t bytes_sent, const uint8_t *payload, size_t payload_len,
                        uint8_t data[8], uint64_t frame[3], uint64_t after[2]);
-/* The same with the place (frame index, bytes sent) kept by the caller, from the one that hf_builder_build gives. */
+/* The same with the place (frame index, bytes sent) kept by the caller, from the one that hf_builder_build gives. The index is
+ * read modulo 256, and written only where it changes. */
 void hf_builder_build(const uint64_t builder[6], uint64_t place[2]);
 uint32_t hf_frame_iterator_next(const uint64_t builder[6], uint64_t place[2], const uint8_t *payload, size_t payload_len,
                                 uint8_t data[8], uint64_t frame[3]);
@@ -66,13 +69,13 @@ uint32_t hf_frame_iterator_next(const uint64_t builder[6], uint64_t place[2], co
 #define HF_MESSAGE_COMPLETE 258
 
 bool hf_handles(const uint32_t *pgns, size_t pgns_len, uint32_t pgn);
-/* 0 and a fresh pool; above 8, 1 and a fresh pool of size 0. */
+/* 0 and a fresh pool; above 8, 1 and *size 0, with `heads` and `bytes` as they were. */
 uint32_t hf_pool_new(size_t wanted, uint64_t heads[64], uint8_t bytes[1784], size_t *size);
 uint32_t hf_pool_default(uint64_t heads[64], uint8_t bytes[1784], size_t *size);
 
-/* 1 and the pool and counters as they were, or one of the three kinds. Whatever is answered, each number of `heads` comes
- * back in the width of its field (a flag as 0 or 1, a source modulo 256), so one that was wider is changed. `payload` holds the message and zeros after it; without one, zeros and
- * *length 0. */
+/* 1 and all lent memory but *length as it was, or one of the three kinds. Each number of `heads` is read in the width of its
+ * field (a flag is any number but 0, a source is taken modulo 256), and written only where that field has changed. *length is
+ * the message's length, or 0 without one; `payload` holds the message and zeros after it, and is not written without one. */
 uint32_t hf_process_frame(size_t size, uint64_t heads[64], uint8_t bytes[1784], uint32_t counters[5], const uint32_t *pgns, size_t pgns_len,
                           uint64_t now_ms, uint32_t pgn, uint8_t source_address, const uint8_t data[8], uint8_t payload[223], size_t *length);
 /* The same by the call that has the counters by value: fewer copies of the pool. */
@@ -84,10 +87,10 @@ uint32_t hf_process_frame_with_length(size_t size, uint64_t heads[64], uint8_t b
                                       size_t frame_length, uint8_t payload[223], size_t *length);
 
 /* Many frames in one call: rows of times, PGNs, sources and eight bytes a frame. 0, 1 for an impossible pool, 27 for a row
- * shorter than `times`; a refusal changes no row, and the pool no
- * more than hf_process_frame says. Of each frame taken, `kinds` gets 0 Ignored, 1 FragmentConsumed or
- * 2 MessageComplete and `lengths` the message's length; messages stand end to end from the arena's start. It stops before
- * the first frame whose message has no room. `counts` is the frames taken and the arena's bytes taken. */
+ * shorter than `times`, each with all lent memory but `counts` as it was. Of each frame taken, `kinds` gets 0 Ignored,
+ * 1 FragmentConsumed or 2 MessageComplete and `lengths` the message's length; messages stand end to end from the arena's
+ * start. It stops before the first frame whose message has no room. `counts` is the frames taken and the arena's bytes taken,
+ * 0 and 0 with a refusal. The heads are written as by hf_process_frame. */
 uint32_t hf_process_frames(size_t size, uint64_t heads[64], uint8_t bytes[1784], uint32_t counters[5], const uint32_t *pgns, size_t pgns_len,
                            const uint64_t *times, size_t times_len, const uint32_t *frame_pgns, size_t frame_pgns_len, const uint8_t *sources,
                            size_t sources_len, const uint8_t *data, size_t data_len, uint8_t *kinds, size_t kinds_len, uint8_t *lengths,

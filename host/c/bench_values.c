@@ -67,7 +67,13 @@ static void messages(void) {
     expect(hf_process_frame_with_length(size, heads, bytes, counters, LIST, 1, 600, 127489, 35, (const uint8_t *)"\x00\x06" "ab....", 4, payload, &length) == HF_MESSAGE_COMPLETE
                && length == 6 && !memcmp(payload, "ab\xFF\xFF\xFF\xFF", 6), "a frame of four bytes");
     heads[2] = 8;
-    expect(HEAR(0, "\x00\x06......") == 1 && length == 0, "an impossible pool: 1");
+    payload[0] = 0xEE;
+    expect(HEAR(0, "\x00\x06......") == 1 && length == 0 && payload[0] == 0xEE, "an impossible pool: 1, and the payload as it was");
+    expect(hf_pool_new(9, heads, bytes, &size) == 1 && size == 0 && heads[2] == 8, "a pool of nine leaves the heads as they were");
+    heads[0] = 2;
+    heads[1] = 300;
+    size = 9;
+    expect(HEAR(0, "\x00\x06......") == 1 && heads[0] == 2 && heads[1] == 300, "a refusal leaves numbers wider than their fields");
     expect(hf_handles(LIST, 1, 127489) && !hf_handles(LIST, 1, 5) && !hf_handles(LIST, 0, 5), "the list");
 }
 

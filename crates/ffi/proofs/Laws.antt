@@ -1,15 +1,26 @@
 -- What an entry passes on: from what its calls say to what it says. Assumes nothing.
-use Prim.Native.Nat.{ℕ, _+_, _*_}
+use Prim.Native.Nat.{ℕ, _+_, _*_, _%_}
+use mathlib.Core.Bool.{Bool}
 use mathlib.Core.List.{List}
 use mathlib.Core.Path.{_≡_, refl, sym, ap, subst, _∙_}
-use lib.ListN.{getD}
+use lib.ListN.{getD, set}
 use native.Mathlib.Numerals.{add-one}
-use Rattle.can_id.specs.Build.{fresh, withPriority as idPriority, withDestination as idDestination}
+use Rattle.base.specs.Pick.{pick}
+use Rattle.base.proofs.Cases.{when-eq, when-ne}
+use Rattle.base.specs.Answer.{Answer}
+use Rattle.can_id.specs.Build.{fresh, buildOf, withPriority as idPriority, withDestination as idDestination}
 use Rattle.can_id.specs.declared.CanIdBuilder.{CanIdBuilder}
-use Rattle.builder.specs.Builder.{withSequence, withPriority, withDestination}
+use Rattle.can_id.specs.declared.Destination.{Destination}
+use Rattle.builder.specs.Builder.{madeOf, withSequence, withPriority, withDestination}
+use Rattle.builder.specs.declared.Made.{Made as Begun}
+use Rattle.builder.specs.Next.{Step, nextOf}
+use Rattle.builder.specs.Frames.{Turn, nextTurn}
+use Rattle.builder.specs.declared.FrameIterator.{FrameIterator}
 use Rattle.builder.specs.declared.FastPacketBuilder.{FastPacketBuilder}
 use Rattle.session.specs.Heads.{freshHead}
 use Rattle.session.specs.declared.Head.{Head}
+use Rattle.session.specs.declared.Heard.{Heard}
+use Rattle.assembler.specs.View.{receiveOf, receiveWithLengthOf}
 use Rattle.assembler.specs.declared.Received.{Received}
 use Rattle.assembler.specs.declared.Made.{Made}
 use Rattle.session.specs.Rules.{base}
@@ -18,9 +29,10 @@ use Rattle.assembler.specs.declared.Pool.{Pool}
 use Rattle.batch.specs.Rows.{Rows, batchOf, Left as Rowed}
 use Rattle.batch.specs.declared.Batch.{Batch}
 use Rattle.ffi.specs.Batches.{LeftPool, LeftBy, batchWith}
-use Rattle.ffi.specs.Ids.{bothOf}
-use Rattle.ffi.specs.Pool.{headLaid, laid, poolFrom, countersFrom, Left, MadeAs}
-use Rattle.ffi.specs.Frames.{builderFrom, builderNumbers}
+use Rattle.ffi.specs.Ids.{partsOf, setPriority, setDestination, setOf, bothOf}
+use Rattle.ffi.specs.Numbers.{isSet, laidOn, flagOn, byteOn, wordOn, toAddress, codeOf, valueOf}
+use Rattle.ffi.specs.Pool.{headAt, headsFrom, putFlag, putByte, putWord, headLaid, laid, poolFrom, countersFrom, calledWith, calledWithLength, Left, MadeAs}
+use Rattle.ffi.specs.Frames.{builderFrom, builderNumbers, iteratorFrom, placeLaid, turnStep, nextWith, turnWith, madeWith, heldAfter, madeNumbers, Told}
 
 -- ---- the setters of an identifier's builder, one after the other
 pub both-set : (pgn source p d : ℕ) {a b c : CanIdBuilder} → a ≡ fresh pgn source → b ≡ idPriority a p → c ≡ idDestination b d → c ≡ bothOf pgn source p d
@@ -38,20 +50,135 @@ module _ (x : ℕ) (n : List ℕ) {r : List ℕ} {b c : FastPacketBuilder} (read
   pub destination-set : c ≡ withDestination b x → r ≡ builderNumbers c → r ≡ builderNumbers (withDestination (builderFrom n) x)
   destination-set g h = h ∙ ap builderNumbers (g ∙ ap (λ (y : FastPacketBuilder). withDestination y x) read)
 
+-- ---- a builder and an iterator read field by field
+pub builder-by : (n : List ℕ) {g s p q : ℕ} {d : Destination} {f : Bool}
+    → g ≡ getD n 0 0 % 0x1_0000_0000 → s ≡ getD n 1 0 % 0x100 → d ≡ toAddress (getD n 2 0) → p ≡ getD n 3 0 % 0x100 → q ≡ getD n 4 0 % 0x100 → f ≡ isSet (getD n 5 0)
+    → record { pgn = g; «source_address» = s; destination = d; priority = p; «sequence_id» = q; fast = f } ≡ builderFrom n
+unfolding builderFrom
+builder-by n g s d p q f = rw (g, s, d, p, q, f) refl
+
+pub iterator-by : (n place : List ℕ) {b : FastPacketBuilder} {i k : ℕ} → b ≡ builderFrom n → i ≡ getD place 0 0 % 0x100 → k ≡ getD place 1 0
+    → record { builder = b; «frame_index» = i; «bytes_sent» = k } ≡ iteratorFrom n place
+unfolding iteratorFrom
+iterator-by n place b i k = rw (b, i, k) refl
+
+-- ---- what asking for a frame leaves, by what the step is
+module _ {code : ℕ} {bytes frame : List ℕ} where
+  pub told-by : {s t : Step} → Told s code bytes frame → s ≡ t → Told t code bytes frame
+  told-by h e = subst (λ (x : Step). Told x code bytes frame) e h
+
+pub next-by : (n : List ℕ) (index sent : ℕ) (payload : List ℕ) {b : FastPacketBuilder} {s : Step} → b ≡ builderFrom n → s ≡ nextOf b index sent payload → s ≡ nextWith n index sent payload
+unfolding nextWith
+next-by n index sent payload e f = f ∙ ap (λ (b : FastPacketBuilder). nextOf b index sent payload) e
+
+pub turn-by : (n place payload : List ℕ) {t : FrameIterator} {u : Turn} {s : Step} → t ≡ iteratorFrom n place → u ≡ nextTurn t payload → s ≡ turnStep u → s ≡ turnWith n place payload
+unfolding turnWith
+turn-by n place payload e f g = g ∙ ap turnStep (f ∙ ap (λ (t : FrameIterator). nextTurn t payload) e)
+
+pub place-by : (place : List ℕ) {s t : Step} {r : List ℕ} → r ≡ placeLaid place s → s ≡ t → r ≡ placeLaid place t
+place-by place h e = h ∙ ap (placeLaid place) e
+
+pub begun-by : (pgn source d : ℕ) (payload pgns : List ℕ) (held : ℕ) {k : ℕ} {to : Destination} {m : Begun} {r : ℕ} {v : List ℕ}
+    → k ≡ d → to ≡ toAddress k → m ≡ madeOf pgn source to payload pgns held → (r ≡ heldAfter m) × (v ≡ madeNumbers m)
+    → (r ≡ heldAfter (madeWith pgn source d payload pgns held)) × (v ≡ madeNumbers (madeWith pgn source d payload pgns held))
+unfolding madeWith
+begun-by pgn source d payload pgns held e f g (h, i) =
+    let whole = g ∙ ap (λ (x : Destination). madeOf pgn source x payload pgns held) (f ∙ ap toAddress e) in
+    (h ∙ ap heldAfter whole, i ∙ ap madeNumbers whole)
+
+-- ---- an identifier built, by what its builder is
+pub answered-by : {a b : Answer ℕ} {r v : ℕ} → (r ≡ codeOf a) × (v ≡ valueOf a) → a ≡ b → (r ≡ codeOf b) × (v ≡ valueOf b)
+answered-by {r = r} {v} h e = subst (λ (x : Answer ℕ). (r ≡ codeOf x) × (v ≡ valueOf x)) e h
+
+pub parts-by : (priority pgn source d : ℕ) {k : ℕ} {to : Destination} {a : Answer ℕ}
+    → k ≡ d → to ≡ toAddress k → a ≡ buildOf (record { priority = priority; pgn = pgn; «source_address» = source; destination = to }) → a ≡ buildOf (partsOf priority pgn source d)
+unfolding partsOf
+parts-by priority pgn source d e f g =
+    g ∙ ap (λ (x : Destination). buildOf (record { priority = priority; pgn = pgn; «source_address» = source; destination = x })) (f ∙ ap toAddress e)
+
+pub set-by : (pgn source priority d : ℕ) {b c e : CanIdBuilder} → b ≡ fresh pgn source → c ≡ setPriority priority b → e ≡ setDestination d c → e ≡ setOf pgn source priority d
+unfolding setOf
+set-by pgn source priority d f g h = h ∙ ap (setDestination d) (g ∙ ap (setPriority priority) f)
+
+-- ---- a flag over a number: by the two flags as numbers
+module _ (old : ℕ) (x : Bool) {s : Bool} {a b : ℕ} (e : s ≡ isSet old) (f : a ≡ pick s 1 0) (g : b ≡ pick x 1 0) where
+  read-flag : a ≡ pick (isSet old) 1 0
+  read-flag = f ∙ ap (λ (t : Bool). pick t 1 0) e
+
+  pub flag-kept : a ≡ b → old ≡ flagOn old x
+  unfolding flagOn laidOn
+  flag-kept h = when-eq old (pick x 1 0) (sym read-flag ∙ h ∙ g) refl
+
+  pub flag-laid : {r : ℕ} → (a ≡ b → ⊥) → r ≡ pick x 1 0 → r ≡ flagOn old x
+  unfolding flagOn laidOn
+  flag-laid h k = when-ne old (pick x 1 0) (λ p. h (read-flag ∙ p ∙ sym g)) k
+
+pub ruleset flags = (flag-kept, flag-laid)
+
+-- ---- a head and a pool read field by field
+pub head-by : (n : List ℕ) (at : ℕ) {a : Bool} {b c d e f g h : ℕ}
+    → a ≡ isSet (getD n at 0) → b ≡ getD n (at + 1) 0 % 0x100 → c ≡ getD n (at + 2) 0 % 0x100 → d ≡ getD n (at + 3) 0 % 0x100 → e ≡ getD n (at + 4) 0 % 0x1_0000_0000
+    → f ≡ getD n (at + 5) 0 → g ≡ getD n (at + 6) 0 → h ≡ getD n (at + 7) 0
+    → record { «in_progress» = a; «source_address» = b; «sequence_id» = c; «last_frame_index» = d; pgn = e; «expected_size» = f; «current_size» = g; «last_seen_ms» = h } ≡ headAt n at
+unfolding headAt
+head-by n at a b c d e f g h = rw (a, b, c, d, e, f, g, h) refl
+
+pub pool-by : (size : ℕ) (heads bytes : List ℕ) {h : List Head} → h ≡ headsFrom heads → record { size = size; heads = h; bytes = bytes } ≡ poolFrom size heads bytes
+unfolding poolFrom
+pool-by size heads bytes h = rw h refl
+
+-- ---- a number laid
+pub flag-put : (n : List ℕ) (i : ℕ) (x : Bool) {y : ℕ} → y ≡ flagOn (getD n i 0) x → set n i y ≡ putFlag n i x
+unfolding putFlag
+flag-put n i x e = ap (set n i) e
+
+pub byte-put : (n : List ℕ) (i : ℕ) (x : ℕ) {y : ℕ} → y ≡ byteOn (getD n i 0) x → set n i y ≡ putByte n i x
+unfolding putByte
+byte-put n i x e = ap (set n i) e
+
+pub word-put : (n : List ℕ) (i : ℕ) (x : ℕ) {y : ℕ} → y ≡ wordOn (getD n i 0) x → set n i y ≡ putWord n i x
+unfolding putWord
+word-put n i x e = ap (set n i) e
+
+-- ---- a head laid number by number
+pub head-laid : (n : List ℕ) (at : ℕ) (h : Head) {a b c d e f g r : List ℕ} {x y : ℕ}
+    → a ≡ putFlag n at (h .«in_progress») → b ≡ putByte a (at + 1) (h .«source_address») → c ≡ putByte b (at + 2) (h .«sequence_id») → d ≡ putByte c (at + 3) (h .«last_frame_index»)
+    → e ≡ putWord d (at + 4) (h .pgn) → x ≡ h .«expected_size» → f ≡ set e (at + 5) x → y ≡ h .«current_size» → g ≡ set f (at + 6) y → r ≡ set g (at + 7) (h .«last_seen_ms»)
+    → r ≡ headLaid n at h
+unfolding headLaid
+head-laid n at h A B C D E X F Y G R = rw (R, G, Y, F, X, E, D, C, B, A) refl
+
 -- ---- heads laid one after the other
+pub laid-none : (heads : List Head) (n : List ℕ) → n ≡ laid 0 heads n
+unfolding laid
+laid-none heads n = refl
+
 pub laid-turn : (heads : List Head) (k : ℕ) (n₀ : List ℕ) {n m : List ℕ} → n ≡ laid k heads n₀ → m ≡ headLaid n (8 * k) (getD heads k freshHead) → m ≡ laid (k + 1) heads n₀
+unfolding laid
 laid-turn heads k n₀ e f = f ∙ ap (λ (x : List ℕ). headLaid x (8 * k) (getD heads k freshHead)) e ∙ ap (λ (j : ℕ). laid j heads n₀) (sym (add-one k))
 
 pub laid-done : (heads : List Head) (k : ℕ) (n₀ : List ℕ) {n : List ℕ} → k ≡ 8 → n ≡ laid k heads n₀ → n ≡ laid 8 heads n₀
 laid-done heads k n₀ h e = e ∙ ap (λ (j : ℕ). laid j heads n₀) h
 
 -- ---- what an answer leaves, by what the answer is
-module _ {old heads bytes : List ℕ} {code : ℕ} where
-  pub left-by : {r s : Received} {counters payload : List ℕ} {len : ℕ} → Left r old code heads bytes counters payload len → r ≡ s → Left s old code heads bytes counters payload len
-  left-by {counters = counters} {payload} {len} h e = subst (λ (x : Received). Left x old code heads bytes counters payload len) e h
+module _ {old was heads bytes : List ℕ} {code : ℕ} where
+  pub left-by : {r s : Received} {counters payload : List ℕ} {len : ℕ} → Left r old was code heads bytes counters payload len → r ≡ s → Left s old was code heads bytes counters payload len
+  left-by {counters = counters} {payload} {len} h e = subst (λ (x : Received). Left x old was code heads bytes counters payload len) e h
 
-  pub made-by : {m n : Made} {size : ℕ} → MadeAs m old code heads bytes size → m ≡ n → MadeAs n old code heads bytes size
-  made-by {size = size} h e = subst (λ (x : Made). MadeAs x old code heads bytes size) e h
+  pub made-by : {m n : Made} {size : ℕ} → MadeAs m old was code heads bytes size → m ≡ n → MadeAs n old was code heads bytes size
+  made-by {size = size} h e = subst (λ (x : Made). MadeAs x old was code heads bytes size) e h
+
+-- ---- the receive call on a pool and counters from numbers
+module _ (size : ℕ) (heads bytes counters pgns : List ℕ) (heard : Heard) {p : Pool} {k : Counters} {r : Received} (e : p ≡ poolFrom size heads bytes) (f : k ≡ countersFrom counters) where
+  pub called-by : r ≡ receiveOf base pgns heard p k → r ≡ calledWith size heads bytes counters pgns heard
+  unfolding calledWith
+  called-by h = h ∙ ap (λ (x : Pool). receiveOf base pgns heard x k) e ∙ ap (λ (x : Counters). receiveOf base pgns heard (poolFrom size heads bytes) x) f
+
+  pub called-with-length-by : (len : ℕ) → r ≡ receiveWithLengthOf base pgns (record { heard = heard; length = len }) p k → r ≡ calledWithLength size heads bytes counters pgns heard len
+  unfolding calledWithLength
+  called-with-length-by len h =
+      h ∙ ap (λ (x : Pool). receiveWithLengthOf base pgns (record { heard = heard; length = len }) x k) e
+      ∙ ap (λ (x : Counters). receiveWithLengthOf base pgns (record { heard = heard; length = len }) (poolFrom size heads bytes) x) f
 
 -- ---- a batch on a pool and counters from numbers
 pub batch-same : (pgns : List ℕ) (w : Rows) (kinds lengths arena : List ℕ) (size : ℕ) (heads bytes counters : List ℕ) {p : Pool} {k : Counters}

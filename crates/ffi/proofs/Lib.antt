@@ -1,3 +1,5 @@
+pub mod Rows
 pub mod Laws
+pub mod Leaves
 pub mod Fives
 pub mod Unique

@@ -8,7 +8,6 @@ use Rattle.can_id.specs.Layout.{priorityOf, pgnOf, destinationOf, sourceOf}
 use Rattle.can_id.specs.Build.{buildOf}
 use Rattle.can_id.specs.declared.CanIdBuilder.{CanIdBuilder}
 use Rattle.builder.specs.Next.{Step}
-use Rattle.builder.specs.Frames.{Turn}
 use Rattle.builder.specs.declared.FastPacketBuilder.{FastPacketBuilder}
 use Rattle.builder.specs.declared.FrameIterator.{FrameIterator}
 use Rattle.builder.specs.declared.Made.{Made as Begun}
@@ -24,7 +23,7 @@ use Rattle.ffi.specs.Batches.{LeftBy}
 use Rattle.ffi.specs.Bench.{fiveOf, Reassembles, Splits}
 use Rattle.ffi.specs.Pool.{Left, MadeAs}
 use Rattle.ffi.specs.Numbers.{addressOf, codeOf, valueOf}
-use Rattle.ffi.specs.Frames.{builderNumbers, heldAfter, madeNumbers, placeNumbers, stepNumber, stepBytes, stepFrame, stepAfter, turnStep}
+use Rattle.ffi.specs.Frames.{builderNumbers, heldAfter, madeNumbers, placeNumbers, Told}
 
 -- a number returned, and memory lent out
 both : {A B : Type 0} {x r s : A} {y v w : B} → (r ≡ x) × (v ≡ y) → (s ≡ x) × (w ≡ y) → (r ≡ s) × (v ≡ w)
@@ -49,9 +48,6 @@ pub hf-can-id-build-unique : (b : CanIdBuilder) (r s v w : ℕ) → (r ≡ codeO
 hf-can-id-build-unique b r s v w = both
 
 -- ---- frames
-four : {A B C D : Type 0} {x r s : A} {y v w : B} {z p q : C} {a b c : D} → (r ≡ x) × (v ≡ y) × (p ≡ z) × (b ≡ a) → (s ≡ x) × (w ≡ y) × (q ≡ z) × (c ≡ a) → (r ≡ s) × (v ≡ w) × (p ≡ q) × (b ≡ c)
-four h k = (determined (h .0) (k .0), determined (h .1) (k .1), determined (h .2) (k .2), determined (h .3) (k .3))
-
 pub hf-builder-new-unique : (m : Begun) (r s : ℕ) (v w : List ℕ) → (r ≡ heldAfter m) × (v ≡ madeNumbers m) → (s ≡ heldAfter m) × (w ≡ madeNumbers m) → (r ≡ s) × (v ≡ w)
 hf-builder-new-unique m r s v w = both
 
@@ -62,19 +58,9 @@ hf-builder-set-unique b v w = determined
 pub hf-builder-build-unique : (t : FrameIterator) (v w : List ℕ) → v ≡ placeNumbers t → w ≡ placeNumbers t → v ≡ w
 hf-builder-build-unique t v w = determined
 
--- `t` is `nextOf` of the entry's numbers
-pub hf-next-frame-unique : (t : Step) (r s : ℕ) (v w p q b c : List ℕ)
-    → (r ≡ stepNumber t) × (v ≡ stepBytes t) × (p ≡ stepFrame t) × (b ≡ stepAfter t)
-    → (s ≡ stepNumber t) × (w ≡ stepBytes t) × (q ≡ stepFrame t) × (c ≡ stepAfter t)
-    → (r ≡ s) × (v ≡ w) × (p ≡ q) × (b ≡ c)
-hf-next-frame-unique t r s v w p q b c = four
-
--- `t` is `nextTurn` of the entry's numbers
-pub hf-frame-iterator-next-unique : (t : Turn) (r s : ℕ) (v w p q b c : List ℕ)
-    → (r ≡ stepNumber (turnStep t)) × (v ≡ stepBytes (turnStep t)) × (p ≡ stepFrame (turnStep t)) × (b ≡ stepAfter (turnStep t))
-    → (s ≡ stepNumber (turnStep t)) × (w ≡ stepBytes (turnStep t)) × (q ≡ stepFrame (turnStep t)) × (c ≡ stepAfter (turnStep t))
-    → (r ≡ s) × (v ≡ w) × (p ≡ q) × (b ≡ c)
-hf-frame-iterator-next-unique t = hf-next-frame-unique (turnStep t)
+-- `t` is `nextWith` or `turnWith` of the entry's numbers, and `x` is `stepAfter` of it, or `placeLaid` over the place: what is returned, the bytes, the numbers and the place
+pub hf-next-frame-unique : (t : Step) (x : List ℕ) (r s : ℕ) (v w p q b c : List ℕ) → Told t r v p × (b ≡ x) → Told t s w q × (c ≡ x) → (r ≡ s) × (v ≡ w) × (p ≡ q) × (b ≡ c)
+hf-next-frame-unique t x r s v w p q b c (h, f) (k, g) = (determined (h .told) (k .told), determined (h .filled) (k .filled), determined (h .named) (k .named), determined f g)
 
 -- ---- the list and the filling
 pub hf-is-listed-unique : (pgn : ℕ) (pgns : List ℕ) (r s : Bool) → r ≡ listedIn pgn pgns → s ≡ listedIn pgn pgns → r ≡ s
@@ -88,16 +74,16 @@ hf-handles-unique pgn pgns r s = determined
 
 -- ---- the receive call: what is returned, the heads, the bytes, the counters, the payload and the length
 -- `r` is `calledWith` or `calledWithLength` of the entry's numbers
-pub hf-process-frame-unique : (r : Received) (old : List ℕ) (a b : ℕ) (h i j k c d p q : List ℕ) (l m : ℕ)
-    → Left r old a h j c p l → Left r old b i k d q m
+pub hf-process-frame-unique : (r : Received) (old was : List ℕ) (a b : ℕ) (h i j k c d p q : List ℕ) (l m : ℕ)
+    → Left r old was a h j c p l → Left r old was b i k d q m
     → (a ≡ b) × (h ≡ i) × (j ≡ k) × (c ≡ d) × (p ≡ q) × (l ≡ m)
-hf-process-frame-unique r old a b h i j k c d p q l m x y =
+hf-process-frame-unique r old was a b h i j k c d p q l m x y =
     (determined (x .told) (y .told), determined (x .kept) (y .kept), determined (x .stored) (y .stored), determined (x .counted) (y .counted), determined (x .delivered) (y .delivered), determined (x .measured) (y .measured))
 
 -- `n` is `madeOf` of the size wanted, or the default pool: what is returned, the heads, the bytes and the size
-pub hf-pool-new-unique : (n : Made) (old : List ℕ) (a b : ℕ) (h i j k : List ℕ) (l m : ℕ)
-    → MadeAs n old a h j l → MadeAs n old b i k m → (a ≡ b) × (h ≡ i) × (j ≡ k) × (l ≡ m)
-hf-pool-new-unique n old a b h i j k l m x y =
+pub hf-pool-new-unique : (n : Made) (old was : List ℕ) (a b : ℕ) (h i j k : List ℕ) (l m : ℕ)
+    → MadeAs n old was a h j l → MadeAs n old was b i k m → (a ≡ b) × (h ≡ i) × (j ≡ k) × (l ≡ m)
+hf-pool-new-unique n old was a b h i j k l m x y =
     (determined (x .told) (y .told), determined (x .kept) (y .kept), determined (x .stored) (y .stored), determined (x .sized) (y .sized))
 
 -- `l` is `batchWith` of the entry's numbers: what is returned, heads, bytes, counters, kinds, lengths, arena and counts

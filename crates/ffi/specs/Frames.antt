@@ -1,14 +1,16 @@
 -- The frame builder, its iterator and its answers, as numbers.
 use Prim.Native.Nat.{ℕ, _%_}
 use mathlib.Core.List.{List, [], _∷_}
+use mathlib.Core.Path.{_≡_}
 use lib.ListN.{getD}
 use Rattle.base.specs.Pick.{pick}
-use Rattle.builder.specs.Next.{Kind, Step, frame, end, refusal}
-use Rattle.builder.specs.Frames.{Turn}
+use Rattle.builder.specs.Builder.{madeOf}
+use Rattle.builder.specs.Next.{Kind, Step, frame, end, refusal, nextOf}
+use Rattle.builder.specs.Frames.{Turn, nextTurn}
 use Rattle.builder.specs.declared.FastPacketBuilder.{FastPacketBuilder}
 use Rattle.builder.specs.declared.Made.{Made}
 use Rattle.builder.specs.declared.FrameIterator.{FrameIterator}
-use Rattle.ffi.specs.Numbers.{isSet, toAddress, addressOf, carriesOf}
+use Rattle.ffi.specs.Numbers.{isSet, byteOn, toAddress, addressOf, carriesOf}
 
 -- a builder is six numbers: PGN, source, destination, priority, sequence, and whether it is fast; each is read in the width of its field
 unfoldable pub builderFrom : List ℕ → FastPacketBuilder
@@ -25,6 +27,10 @@ builderFrom n =
 unfoldable pub builderNumbers : FastPacketBuilder → List ℕ
 builderNumbers b =
     b .pgn ∷ b .«source_address» ∷ addressOf (b .destination) ∷ b .priority ∷ b .«sequence_id» ∷ pick (b .fast) 1 0 ∷ []
+
+-- a new builder, to a destination that is a number
+unfoldable pub madeWith : ℕ → ℕ → ℕ → List ℕ → List ℕ → ℕ → Made
+madeWith pgn source destination payload pgns held = madeOf pgn source (toAddress destination) payload pgns held
 
 -- of a new builder: its numbers, and the number that the caller holds from now on
 unfoldable pub madeNumbers : Made → List ℕ
@@ -62,10 +68,28 @@ stepBytes s = s .sent .«data»
 unfoldable pub stepFrame : Step → List ℕ
 stepFrame s = s .sent .id .0 ∷ s .sent .len ∷ kindCarries (s .kind) ∷ []
 
+-- what asking for the next frame leaves: what is returned, the frame's bytes, and its numbers
+pub record Told (s : Step) (code : ℕ) (bytes frame : List ℕ) : Type 0 where
+  pub told : code ≡ stepNumber s
+  pub filled : bytes ≡ stepBytes s
+  pub named : frame ≡ stepFrame s
+
 -- the frame index and the bytes sent that follow
 unfoldable pub stepAfter : Step → List ℕ
 stepAfter s = s .index ∷ s .bytes ∷ []
 
+-- and over a place, by the rule of `laidOn`
+unfoldable pub placeLaid : List ℕ → Step → List ℕ
+placeLaid place s = byteOn (getD place 0 0) (s .index) ∷ s .bytes ∷ []
+
 -- of a turn of the iterator, whose builder stays as it is
 unfoldable pub turnStep : Turn → Step
 turnStep t = t .answer
+
+-- the next frame of a builder of numbers, at any frame index and bytes sent
+unfoldable pub nextWith : List ℕ → ℕ → ℕ → List ℕ → Step
+nextWith n index sent payload = nextOf (builderFrom n) index sent payload
+
+-- and of an iterator of numbers
+unfoldable pub turnWith : List ℕ → List ℕ → List ℕ → Step
+turnWith n place payload = turnStep (nextTurn (iteratorFrom n place) payload)

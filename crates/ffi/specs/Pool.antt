@@ -1,8 +1,10 @@
 -- A pool, the counters and an answer of the receive call, as numbers and bytes.
 use Prim.Native.Nat.{ℕ, zero, suc, _+_, _*_, _%_}
+use mathlib.Core.Bool.{Bool}
 use mathlib.Core.List.{List, [], _∷_}
 use mathlib.Core.Path.{_≡_}
-use lib.ListN.{getD, set}
+use lib.Dec.{eqb}
+use lib.ListN.{getD, set, replicate}
 use Rattle.base.specs.Pick.{pick}
 use Rattle.session.specs.Heads.{freshHead}
 use Rattle.session.specs.Rules.{base}
@@ -16,7 +18,7 @@ use Rattle.assembler.specs.declared.Pool.{Pool}
 use Rattle.assembler.specs.declared.Made.{Made}
 use Rattle.assembler.specs.declared.Received.{Received}
 use Rattle.assembler.specs.declared.HeardWithLength.{HeardWithLength}
-use Rattle.ffi.specs.Numbers.{isSet}
+use Rattle.ffi.specs.Numbers.{isSet, flagOn, byteOn, wordOn}
 
 -- a head is eight numbers, each read in the width of its field
 unfoldable pub headAt : List ℕ → ℕ → Head
@@ -32,9 +34,19 @@ headAt n at =
       «last_seen_ms» = getD n (at + 7) 0;
     }
 
+-- laid back, each number by the rule of `laidOn`; of a number that is as wide as its field nothing is lost by writing it
+unfoldable pub putFlag : List ℕ → ℕ → Bool → List ℕ
+putFlag n i x = set n i (flagOn (getD n i 0) x)
+
+unfoldable pub putByte : List ℕ → ℕ → ℕ → List ℕ
+putByte n i x = set n i (byteOn (getD n i 0) x)
+
+unfoldable pub putWord : List ℕ → ℕ → ℕ → List ℕ
+putWord n i x = set n i (wordOn (getD n i 0) x)
+
 unfoldable pub headLaid : List ℕ → ℕ → Head → List ℕ
 headLaid n at h =
-    set (set (set (set (set (set (set (set n at (pick (h .«in_progress») 1 0))
+    set (set (set (putWord (putByte (putByte (putByte (putFlag n at (h .«in_progress»))
     (at + 1) (h .«source_address»))
     (at + 2) (h .«sequence_id»))
     (at + 3) (h .«last_frame_index»))
@@ -47,7 +59,7 @@ headLaid n at h =
 unfoldable pub headsFrom : List ℕ → List Head
 headsFrom n = headAt n 0 ∷ headAt n 8 ∷ headAt n 16 ∷ headAt n 24 ∷ headAt n 32 ∷ headAt n 40 ∷ headAt n 48 ∷ headAt n 56 ∷ []
 
-abbrev pub laid : ℕ → List Head → List ℕ → List ℕ
+unfoldable pub laid : ℕ → List Head → List ℕ → List ℕ
 laid zero heads n = n
 laid (suc k) heads n = headLaid (laid k heads n) (8 * k) (getD heads k freshHead)
 
@@ -79,13 +91,20 @@ kindCode Ignored = 256
 kindCode FragmentConsumed = 257
 kindCode MessageComplete = 258
 
--- what an answer leaves: what is returned, and the lent heads, bytes, counters, payload and length; the heads were `old`
-pub record Left (r : Received) (old : List ℕ) (code : ℕ) (heads bytes counters payload : List ℕ) (len : ℕ) : Type 0 where
+-- a message is written over the lent payload, and any other answer leaves it as it was
+abbrev pub deliveredOn : Kind → List ℕ → List ℕ → List ℕ
+deliveredOn (Refused n) message old = old
+deliveredOn Ignored message old = old
+deliveredOn FragmentConsumed message old = old
+deliveredOn MessageComplete message old = message
+
+-- what an answer leaves: what is returned, and the lent heads, bytes, counters, payload and length; heads and payload were `old` and `was`
+pub record Left (r : Received) (old was : List ℕ) (code : ℕ) (heads bytes counters payload : List ℕ) (len : ℕ) : Type 0 where
   pub told : code ≡ kindCode (r .kind)
   pub kept : heads ≡ laid 8 (r .pool .heads) old
   pub stored : bytes ≡ r .pool .bytes
   pub counted : counters ≡ counterNumbers (r .counters)
-  pub delivered : payload ≡ r .payload
+  pub delivered : payload ≡ deliveredOn (r .kind) (r .payload) was
   pub measured : len ≡ r .length
 
 -- the receive call on a pool and counters of numbers
@@ -97,11 +116,15 @@ unfoldable pub calledWithLength : ℕ → List ℕ → List ℕ → List ℕ →
 calledWithLength size heads bytes counters pgns heard len =
     receiveWithLengthOf base pgns (record { heard = heard; length = len }) (poolFrom size heads bytes) (countersFrom counters)
 
--- what making a pool leaves
-pub record MadeAs (m : Made) (old : List ℕ) (code : ℕ) (heads bytes : List ℕ) (size : ℕ) : Type 0 where
+-- a fresh pool is laid on 64 zeros
+unfoldable pub blank : List ℕ
+blank = replicate 64 0
+
+-- what making a pool leaves: without a refusal its heads and bytes, and with one what was there
+pub record MadeAs (m : Made) (old was : List ℕ) (code : ℕ) (heads bytes : List ℕ) (size : ℕ) : Type 0 where
   pub told : code ≡ m .refused
-  pub kept : heads ≡ laid 8 (m .pool .heads) old
-  pub stored : bytes ≡ m .pool .bytes
+  pub kept : heads ≡ pick (eqb (m .refused) 0) (laid 8 (m .pool .heads) blank) old
+  pub stored : bytes ≡ pick (eqb (m .refused) 0) (m .pool .bytes) was
   pub sized : size ≡ m .pool .size
 
 -- a pool made without a refusal

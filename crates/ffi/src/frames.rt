@@ -1,11 +1,11 @@
 // The frame builder: made, set, and asked for the next frame.
 ghost use mathlib.Core.Path.{_≡_};
 ghost use mathlib.Core.List.{[], _∷_};
-ghost use Rattle.builder.specs.Builder.{madeOf, withSequence, withPriority, withDestination};
-ghost use Rattle.builder.specs.Next.{kindOf, stepOf, nextOf};
-ghost use Rattle.builder.specs.Frames.{turnOf, started, nextTurn};
-ghost use Rattle.ffi.specs.Numbers.{toAddress};
-ghost use Rattle.ffi.specs.Frames.{builderFrom, builderNumbers, heldAfter, madeNumbers, iteratorFrom, placeNumbers, kindNumber, kindCarries, stepNumber, stepBytes, stepFrame, stepAfter, turnStep};
+ghost use Rattle.builder.specs.Builder.{withSequence, withPriority, withDestination};
+ghost use Rattle.builder.specs.Next.{kindOf, stepOf};
+ghost use Rattle.builder.specs.Frames.{turnOf, started};
+ghost use Rattle.ffi.specs.Frames.{builderFrom, builderNumbers, madeWith, heldAfter, madeNumbers, iteratorFrom, placeNumbers, kindNumber, kindCarries, Told, stepAfter, placeLaid, turnStep, nextWith, turnWith};
+use crate::numbers::byte_on;
 use crate::numbers::carried;
 use crate::numbers::destination_from;
 use crate::numbers::flag;
@@ -77,8 +77,8 @@ pub extern "C" fn hf_builder_new(
     sequence_id: u8,
     builder: &mut [u64; 6],
 ) -> u8
-    ensures { λ r. ⌜ (r ≡ heldAfter (madeOf pgn «source_address» (toAddress destination) (now (payload .entry)) (now (pgns .entry)) «sequence_id»))
-        × (now (builder .exit) ≡ madeNumbers (madeOf pgn «source_address» (toAddress destination) (now (payload .entry)) (now (pgns .entry)) «sequence_id»)) ⌝ }
+    ensures { λ r. ⌜ (r ≡ heldAfter (madeWith pgn «source_address» destination (now (payload .entry)) (now (pgns .entry)) «sequence_id»))
+        × (now (builder .exit) ≡ madeNumbers (madeWith pgn «source_address» destination (now (payload .entry)) (now (pgns .entry)) «sequence_id»)) ⌝ }
 {
     let to = destination_from(wide_half(destination));
     let made = FastPacketBuilder::new(pgn, source_address, to, payload, pgns, sequence_id);
@@ -141,19 +141,21 @@ fn frame_numbers(frame: CanFrame, kind: NextKind) -> [u64; 3]
     ]
 }
 
-fn told(next: Next, data: &mut [u8; 8], frame: &mut [u64; 3], after: &mut [u64; 2]) -> u32
-    ensures { λ r. ⌜ (r ≡ stepNumber (stepOf next))
-        × (now («data» .exit) ≡ stepBytes (stepOf next))
-        × (now (frame .exit) ≡ stepFrame (stepOf next))
-        × (now (after .exit) ≡ stepAfter (stepOf next)) ⌝ }
+fn told(next: Next, data: &mut [u8; 8], frame: &mut [u64; 3]) -> u32
+    ensures { λ r. ⌜ Told (stepOf next) r (now («data» .exit)) (now (frame .exit)) ⌝ }
 {
     let f = next.frame;
     let kind = next.kind;
     let bytes = f.data;
     *data = bytes;
     *frame = frame_numbers(f, kind);
-    *after = [wide(next.frame_index), wide_size(next.bytes_sent)];
     kind_number(kind)
+}
+
+fn after_numbers(next: Next) -> [u64; 2]
+    ensures { λ r. ⌜ r ≡ stepAfter (stepOf next) ⌝ }
+{
+    [wide(next.frame_index), wide_size(next.bytes_sent)]
 }
 
 // ---- the next frame, at any frame index and bytes sent
@@ -169,14 +171,13 @@ pub extern "C" fn hf_next_frame(
     frame: &mut [u64; 3],
     after: &mut [u64; 2],
 ) -> u32
-    ensures { λ r. ⌜ (r ≡ stepNumber (nextOf (builderFrom (now (builder .entry))) «frame_index» «bytes_sent» (now (payload .entry))))
-        × (now («data» .exit) ≡ stepBytes (nextOf (builderFrom (now (builder .entry))) «frame_index» «bytes_sent» (now (payload .entry))))
-        × (now (frame .exit) ≡ stepFrame (nextOf (builderFrom (now (builder .entry))) «frame_index» «bytes_sent» (now (payload .entry))))
-        × (now (after .exit) ≡ stepAfter (nextOf (builderFrom (now (builder .entry))) «frame_index» «bytes_sent» (now (payload .entry)))) ⌝ }
+    ensures { λ r. ⌜ Told (nextWith (now (builder .entry)) «frame_index» «bytes_sent» (now (payload .entry))) r (now («data» .exit)) (now (frame .exit))
+        × (now (after .exit) ≡ stepAfter (nextWith (now (builder .entry)) «frame_index» «bytes_sent» (now (payload .entry)))) ⌝ }
 {
     let b = builder_from(builder);
     let next = b.next_frame(frame_index, bytes_sent, payload);
-    told(next, data, frame, after)
+    *after = after_numbers(next);
+    told(next, data, frame)
 }
 
 // ---- frame by frame
@@ -222,6 +223,16 @@ fn step_in(item: Item) -> Next
     }
 }
 
+// A place goes on; its frame index is written only where it changes.
+fn go_on(place: &mut [u64; 2], next: Next)
+    ensures { λ _. ⌜ now (place .exit) ≡ placeLaid (now (place .entry)) (stepOf next) ⌝ }
+{
+    *place = [
+        byte_on(place[0], next.frame_index),
+        wide_size(next.bytes_sent),
+    ];
+}
+
 // As `hf_next_frame`; the place goes on in the lent memory.
 #[no_mangle]
 pub extern "C" fn hf_frame_iterator_next(
@@ -231,12 +242,11 @@ pub extern "C" fn hf_frame_iterator_next(
     data: &mut [u8; 8],
     frame: &mut [u64; 3],
 ) -> u32
-    ensures { λ r. ⌜ (r ≡ stepNumber (turnStep (nextTurn (iteratorFrom (now (builder .entry)) (now (place .entry))) (now (payload .entry)))))
-        × (now («data» .exit) ≡ stepBytes (turnStep (nextTurn (iteratorFrom (now (builder .entry)) (now (place .entry))) (now (payload .entry)))))
-        × (now (frame .exit) ≡ stepFrame (turnStep (nextTurn (iteratorFrom (now (builder .entry)) (now (place .entry))) (now (payload .entry)))))
-        × (now (place .exit) ≡ stepAfter (turnStep (nextTurn (iteratorFrom (now (builder .entry)) (now (place .entry))) (now (payload .entry))))) ⌝ }
+    ensures { λ r. ⌜ Told (turnWith (now (builder .entry)) (now (place .entry)) (now (payload .entry))) r (now («data» .exit)) (now (frame .exit))
+        × (now (place .exit) ≡ placeLaid (now (place .entry)) (turnWith (now (builder .entry)) (now (place .entry)) (now (payload .entry)))) ⌝ }
 {
     let t = iterator_from(builder, place);
-    let item = t.next(payload);
-    told(step_in(item), data, frame, place)
+    let next = step_in(t.next(payload));
+    go_on(place, next);
+    told(next, data, frame)
 }

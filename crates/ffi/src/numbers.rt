@@ -3,7 +3,7 @@ ghost use mathlib.Core.Path.{_≡_};
 ghost use Prim.Native.Nat.{_%_};
 ghost use Rattle.base.specs.Pick.{pick};
 ghost use Rattle.can_id.specs.Build.{answerOf, numberOf, carriedOf};
-ghost use Rattle.ffi.specs.Numbers.{isSet, toAddress, addressOf, codeOf, valueOf, carriesOf};
+ghost use Rattle.ffi.specs.Numbers.{isSet, flagOn, byteOn, wordOn, toAddress, addressOf, codeOf, valueOf, carriesOf};
 use can_id::Built;
 use can_id::CanIdBuildError;
 use can_id::Destination;
@@ -63,6 +63,35 @@ pub(crate) fn is_set(x: u64) -> bool
     ensures { λ r. ⌜ r ≡ isSet x ⌝ }
 {
     x != 0
+}
+
+// ---- a number to be written over the one that was read: that one itself, where the field that was read from it is still right
+
+pub(crate) fn flag_on(old: u64, x: bool) -> u64
+    ensures { λ r. ⌜ r ≡ flagOn old x ⌝ }
+{
+    if flag(is_set(old)) == flag(x) {
+        return old;
+    }
+    flag(x)
+}
+
+pub(crate) fn byte_on(old: u64, x: u8) -> u64
+    ensures { λ r. ⌜ r ≡ byteOn old x ⌝ }
+{
+    if low_byte(old) == x {
+        return old;
+    }
+    wide(x)
+}
+
+pub(crate) fn word_on(old: u64, x: u32) -> u64
+    ensures { λ r. ⌜ r ≡ wordOn old x ⌝ }
+{
+    if low_word(old) == x {
+        return old;
+    }
+    wide_word(x)
 }
 
 // An address, or none from 256 on.

@@ -1,19 +1,19 @@
 // The receive call: a pool as its size, 64 numbers for the heads of its slots and their bytes, the counters as five numbers.
 ghost use mathlib.Core.Path.{_≡_};
 ghost use Prim.Native.Nat.{_<_, _+_, _%_};
-ghost use lib.ListN.{getD};
+ghost use lib.ListN.{getD, set};
 ghost use Rattle.assembler.specs.View.{freshPool, madeOf};
 ghost use Rattle.fast_packet.specs.FastPacket.{listedIn};
 ghost use Rattle.ffi.specs.Numbers.{isSet};
-ghost use Rattle.ffi.specs.Pool.{headAt, headLaid, headsFrom, laid, poolFrom, countersFrom, counterNumbers, heardOf, kindCode, Left, calledWith, calledWithLength, MadeAs, plainly};
-use crate::numbers::flag;
+ghost use Rattle.ffi.specs.Pool.{headAt, putFlag, putByte, putWord, headLaid, headsFrom, laid, poolFrom, countersFrom, counterNumbers, heardOf, kindCode, deliveredOn, Left, calledWith, calledWithLength, blank, MadeAs, plainly};
+use crate::numbers::byte_on;
+use crate::numbers::flag_on;
 use crate::numbers::is_set;
 use crate::numbers::low_byte;
 use crate::numbers::low_word;
 use crate::numbers::size_from;
-use crate::numbers::wide;
 use crate::numbers::wide_size;
-use crate::numbers::wide_word;
+use crate::numbers::word_on;
 use assembler::HeardWithLength;
 use assembler::Made;
 use assembler::POOL_BYTES;
@@ -98,18 +98,46 @@ fn heads_from(n: &[u64; 64]) -> [Head; POOL_LIMIT]
     ]
 }
 
+fn put_flag(n: &mut [u64; 64], i: usize, x: bool)
+    requires { ⌜ i < 64 ⌝ }
+    ensures { λ _. ⌜ now (n .exit) ≡ putFlag (now (n .entry)) i x ⌝ }
+{
+    n[i] = flag_on(n[i], x);
+}
+
+fn put_byte(n: &mut [u64; 64], i: usize, x: u8)
+    requires { ⌜ i < 64 ⌝ }
+    ensures { λ _. ⌜ now (n .exit) ≡ putByte (now (n .entry)) i x ⌝ }
+{
+    n[i] = byte_on(n[i], x);
+}
+
+fn put_word(n: &mut [u64; 64], i: usize, x: u32)
+    requires { ⌜ i < 64 ⌝ }
+    ensures { λ _. ⌜ now (n .exit) ≡ putWord (now (n .entry)) i x ⌝ }
+{
+    n[i] = word_on(n[i], x);
+}
+
+fn put_number(n: &mut [u64; 64], i: usize, x: u64)
+    requires { ⌜ i < 64 ⌝ }
+    ensures { λ _. ⌜ now (n .exit) ≡ set (now (n .entry)) i x ⌝ }
+{
+    n[i] = x;
+}
+
 fn put_head(n: &mut [u64; 64], at: usize, h: Head)
     requires { ⌜ at < 57 ⌝ }
-    ensures { λ r. ⌜ now (n .exit) ≡ headLaid (now (n .entry)) at h ⌝ }
+    ensures { λ _. ⌜ now (n .exit) ≡ headLaid (now (n .entry)) at h ⌝ }
 {
-    n[at] = flag(h.in_progress);
-    n[at + 1] = wide(h.source_address);
-    n[at + 2] = wide(h.sequence_id);
-    n[at + 3] = wide(h.last_frame_index);
-    n[at + 4] = wide_word(h.pgn);
-    n[at + 5] = wide_size(h.expected_size);
-    n[at + 6] = wide_size(h.current_size);
-    n[at + 7] = h.last_seen_ms;
+    put_flag(n, at, h.in_progress);
+    put_byte(n, at + 1, h.source_address);
+    put_byte(n, at + 2, h.sequence_id);
+    put_byte(n, at + 3, h.last_frame_index);
+    put_word(n, at + 4, h.pgn);
+    put_number(n, at + 5, wide_size(h.expected_size));
+    put_number(n, at + 6, wide_size(h.current_size));
+    put_number(n, at + 7, h.last_seen_ms);
 }
 
 pub(crate) fn put_heads(n: &mut [u64; 64], heads: [Head; POOL_LIMIT])
@@ -172,6 +200,24 @@ fn kind_code(kind: Kind) -> u32
     }
 }
 
+// A message is delivered, and without one the lent payload stays as it was.
+fn deliver(
+    kind: Kind,
+    message: [u8; MAX_FAST_PACKET_PAYLOAD],
+    payload: &mut [u8; MAX_FAST_PACKET_PAYLOAD],
+)
+    ensures { λ _. ⌜ now (payload .exit) ≡ deliveredOn kind message (now (payload .entry)) ⌝ }
+{
+    match kind {
+        Kind::MessageComplete => {
+            *payload = message;
+        }
+        Kind::Refused(_) => {}
+        Kind::Ignored => {}
+        Kind::FragmentConsumed => {}
+    }
+}
+
 // What an answer leaves in the lent memory.
 fn leave(
     r: Received,
@@ -181,7 +227,7 @@ fn leave(
     payload: &mut [u8; MAX_FAST_PACKET_PAYLOAD],
     length: &mut usize,
 ) -> u32
-    ensures { λ code. ⌜ Left r (now (heads .entry)) code (now (heads .exit)) (now (bytes .exit)) (now (counters .exit)) (now (payload .exit)) (now (length .exit)) ⌝ }
+    ensures { λ code. ⌜ Left r (now (heads .entry)) (now (payload .entry)) code (now (heads .exit)) (now (bytes .exit)) (now (counters .exit)) (now (payload .exit)) (now (length .exit)) ⌝ }
 {
     let pool = r.pool;
     let h = pool.heads;
@@ -190,10 +236,10 @@ fn leave(
     *bytes = b;
     let c = r.counters;
     *counters = counter_numbers(c);
-    let p = r.payload;
-    *payload = p;
     *length = r.length;
     let kind = r.kind;
+    let message = r.payload;
+    deliver(kind, message, payload);
     kind_code(kind)
 }
 
@@ -206,24 +252,34 @@ pub extern "C" fn hf_handles(pgns: &[u32], pgn: u32) -> bool
     handles(pgns, pgn)
 }
 
+fn fresh_heads(heads: &mut [u64; 64], h: [Head; POOL_LIMIT])
+    ensures { λ _. ⌜ now (heads .exit) ≡ laid 8 h blank ⌝ }
+{
+    *heads = [0; 64];
+    put_heads(heads, h);
+}
+
 fn leave_made(
     made: Made,
     heads: &mut [u64; 64],
     bytes: &mut [u8; POOL_BYTES],
     size: &mut usize,
 ) -> u32
-    ensures { λ code. ⌜ MadeAs made (now (heads .entry)) code (now (heads .exit)) (now (bytes .exit)) (now (size .exit)) ⌝ }
+    ensures { λ code. ⌜ MadeAs made (now (heads .entry)) (now (bytes .entry)) code (now (heads .exit)) (now (bytes .exit)) (now (size .exit)) ⌝ }
 {
     let pool = made.pool;
+    *size = pool.size;
+    if made.refused != 0 {
+        return made.refused as u32;
+    }
     let h = pool.heads;
-    put_heads(heads, h);
+    fresh_heads(heads, h);
     let b = pool.bytes;
     *bytes = b;
-    *size = pool.size;
-    made.refused as u32
+    0
 }
 
-// 0, or 1 and a pool of size 0; `size` is the pool's.
+// 0, or 1 and heads and bytes as they were; `size` is the pool's.
 #[no_mangle]
 pub extern "C" fn hf_pool_new(
     wanted: usize,
@@ -231,7 +287,7 @@ pub extern "C" fn hf_pool_new(
     bytes: &mut [u8; POOL_BYTES],
     size: &mut usize,
 ) -> u32
-    ensures { λ code. ⌜ MadeAs (madeOf wanted) (now (heads .entry)) code (now (heads .exit)) (now (bytes .exit)) (now (size .exit)) ⌝ }
+    ensures { λ code. ⌜ MadeAs (madeOf wanted) (now (heads .entry)) (now (bytes .entry)) code (now (heads .exit)) (now (bytes .exit)) (now (size .exit)) ⌝ }
 {
     leave_made(Pool::new(wanted), heads, bytes, size)
 }
@@ -243,7 +299,7 @@ pub extern "C" fn hf_pool_default(
     bytes: &mut [u8; POOL_BYTES],
     size: &mut usize,
 ) -> u32
-    ensures { λ code. ⌜ MadeAs (plainly (freshPool 4)) (now (heads .entry)) code (now (heads .exit)) (now (bytes .exit)) (now (size .exit)) ⌝ }
+    ensures { λ code. ⌜ MadeAs (plainly (freshPool 4)) (now (heads .entry)) (now (bytes .entry)) code (now (heads .exit)) (now (bytes .exit)) (now (size .exit)) ⌝ }
 {
     let pool = Pool::default();
     let made = Made {
@@ -270,7 +326,7 @@ pub extern "C" fn hf_process_frame(
 ) -> u32
     ensures { λ code. ⌜ Left
         (calledWith size (now (heads .entry)) (now (bytes .entry)) (now (counters .entry)) (now (pgns .entry)) (heardOf «now_ms» pgn «source_address» (now («data» .entry))))
-        (now (heads .entry)) code (now (heads .exit)) (now (bytes .exit)) (now (counters .exit)) (now (payload .exit)) (now (length .exit)) ⌝ }
+        (now (heads .entry)) (now (payload .entry)) code (now (heads .exit)) (now (bytes .exit)) (now (counters .exit)) (now (payload .exit)) (now (length .exit)) ⌝ }
 {
     let p = pool_from(size, heads, bytes);
     let c = counters_from(counters);
@@ -302,7 +358,7 @@ pub extern "C" fn hf_receive(
 ) -> u32
     ensures { λ code. ⌜ Left
         (calledWith size (now (heads .entry)) (now (bytes .entry)) (now (counters .entry)) (now (pgns .entry)) (heardOf «now_ms» pgn «source_address» (now («data» .entry))))
-        (now (heads .entry)) code (now (heads .exit)) (now (bytes .exit)) (now (counters .exit)) (now (payload .exit)) (now (length .exit)) ⌝ }
+        (now (heads .entry)) (now (payload .entry)) code (now (heads .exit)) (now (bytes .exit)) (now (counters .exit)) (now (payload .exit)) (now (length .exit)) ⌝ }
 {
     let p = pool_from(size, heads, bytes);
     let c = counters_from(counters);
@@ -335,7 +391,7 @@ pub extern "C" fn hf_process_frame_with_length(
 ) -> u32
     ensures { λ code. ⌜ Left
         (calledWithLength size (now (heads .entry)) (now (bytes .entry)) (now (counters .entry)) (now (pgns .entry)) (heardOf «now_ms» pgn «source_address» (now («data» .entry))) «frame_length»)
-        (now (heads .entry)) code (now (heads .exit)) (now (bytes .exit)) (now (counters .exit)) (now (payload .exit)) (now (length .exit)) ⌝ }
+        (now (heads .entry)) (now (payload .entry)) code (now (heads .exit)) (now (bytes .exit)) (now (counters .exit)) (now (payload .exit)) (now (length .exit)) ⌝ }
 {
     let p = pool_from(size, heads, bytes);
     let c = counters_from(counters);

@@ -38,7 +38,12 @@ pub fn step(parts: Parts, index: u8, sent: usize, payload: &[u8]) {
     assert_eq!(at.place, [0, 0]);
     at.place = [index as u64, sent as u64];
     let item = at.next(payload);
-    assert_eq!((item, at.place), (got.0, [got.1 as u64, got.2 as u64]), "the iterator and the step");
+    assert_eq!((&item, at.place), (&got.0, [got.1 as u64, got.2 as u64]), "the iterator and the step");
+    // an index in a number wider than its field, which is written only where the index changes
+    let wide = index as u64 + 300 * 256;
+    at.place = [wide, sent as u64];
+    assert_eq!(at.next(payload), item);
+    assert_eq!(at.place, [if got.1 == index { wide } else { got.1 as u64 }, got.2 as u64], "a wide place");
     let want = if traps(parts, sent, payload) {
         (Some(Err(port::Refusal { number: 2, carried: [0] })), index, payload.len())
     } else {

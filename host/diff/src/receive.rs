@@ -52,11 +52,14 @@ fn original(size: usize, list: &'static [u32]) -> Box<dyn Original> {
     [with::<0>, with::<1>, with::<2>, with::<3>, with::<4>, with::<5>, with::<6>, with::<7>, with::<8>][size](list)
 }
 
-/// The original's answer in the port's words: without a message, zeros and length 0.
+/// An answer as it is lent to the port.
+const LENT: Answer = Answer { result: Ours::Ignored, payload: [0xEE; 223], length: 0xEE };
+
+/// The original's answer in the port's words: without a message, the payload as it was lent and length 0.
 fn told(r: &ProcessResult) -> Answer {
     let (result, payload, length) = match r {
-        ProcessResult::Ignored => (Ours::Ignored, [0; 223], 0),
-        ProcessResult::FragmentConsumed => (Ours::FragmentConsumed, [0; 223], 0),
+        ProcessResult::Ignored => (Ours::Ignored, LENT.payload, 0),
+        ProcessResult::FragmentConsumed => (Ours::FragmentConsumed, LENT.payload, 0),
         ProcessResult::MessageComplete(m) => (Ours::MessageComplete, m.payload, m.len),
     };
     Answer { result, payload, length }
@@ -80,6 +83,17 @@ pub fn impossible(size: usize, slots: &[Slot]) -> bool {
         || slots[..size].iter().any(|s| {
             s.in_progress && (s.sequence > 7 || !(7..=223).contains(&s.expected) || s.current != 6 + 7 * s.last_index as usize || s.current >= s.expected)
         })
+}
+
+/// One call of the port: with a length, by the lent counters, or by the counters by value.
+fn called(p: &mut Pool, counters: &mut Counters, list: &[u32], h: &Heard, length: Option<usize>, by_value: bool) -> Answer {
+    let mut a = LENT.clone();
+    match length {
+        Some(n) => p.process_frame_with_length_into(counters, list, h.now, h.pgn, h.source, &h.data, n, &mut a),
+        None if by_value => p.receive_into(counters, list, h.now, h.pgn, h.source, &h.data, &mut a),
+        None => p.process_frame_into(counters, list, h.now, h.pgn, h.source, &h.data, &mut a),
+    }
+    a
 }
 
 /// Both sides, with the list that the port is lent and the strictly ascending one that the original takes.
@@ -134,13 +148,9 @@ impl Pair {
     /// One call, and all that it leaves. `length` is that of the entry with a length.
     pub fn hear(&mut self, h: &Heard, length: Option<usize>) -> Answer {
         let before = length.is_none().then(|| (self.p.clone(), self.counters));
-        let got = match length {
-            None => self.p.process_frame(&mut self.counters, &self.list, h.now, h.pgn, h.source, &h.data),
-            Some(n) => self.p.process_frame_with_length(&mut self.counters, &self.list, h.now, h.pgn, h.source, &h.data, n),
-        };
+        let got = called(&mut self.p, &mut self.counters, &self.list, h, length, false);
         if let Some((mut p, mut counters)) = before {
-            let mut a = Answer { result: Ours::Ignored, payload: [0xEE; 223], length: 0xEE };
-            p.receive_into(&mut counters, &self.list, h.now, h.pgn, h.source, &h.data, &mut a);
+            let a = called(&mut p, &mut counters, &self.list, h, None, true);
             assert!(a == got && p == self.p && counters == self.counters, "the two calls of the port, {h:?}");
         }
         let mut heard = *h;
@@ -174,11 +184,8 @@ pub fn refused(size: usize, slots: &[Slot; 8], counters: Counters, list: &[u32],
     }
     let before = p.clone();
     let mut c = counters;
-    let got = match length {
-        None => p.process_frame(&mut c, list, h.now, h.pgn, h.source, &h.data),
-        Some(n) => p.process_frame_with_length(&mut c, list, h.now, h.pgn, h.source, &h.data, n),
-    };
-    assert_eq!(got, Answer { result: Ours::Refused(1), payload: [0; 223], length: 0 }, "size {size}, {slots:?}");
+    let got = called(&mut p, &mut c, list, h, length, h.now % 2 == 0);
+    assert_eq!(got, Answer { result: Ours::Refused(1), length: 0, ..LENT }, "size {size}, {slots:?}");
     assert_eq!(p, before, "the pool comes back unchanged with 1");
     assert_eq!(c, counters);
 }
@@ -266,7 +273,12 @@ pub fn making() -> u64 {
         let (number, p) = Pool::new(size);
         assert_eq!((number, p.size), if size > 8 { (1, 0) } else { (0, size) });
         assert_eq!((p.heads, p.bytes), ([0; 64], [0; 1784]));
-        steps += 1;
+        // over a pool that was in use: every number and byte, or with a refusal none
+        let lent = Pool { size: 3, heads: [300 << 32; 64], bytes: [0xEE; 1784] };
+        let mut q = lent.clone();
+        assert_eq!(q.made_anew(size), number);
+        assert_eq!(q, if size > 8 { Pool { size: 0, ..lent } } else { p });
+        steps += 2;
     }
     steps
 }
@@ -408,6 +420,113 @@ pub fn batches(seed: u64, steps: u64) -> u64 {
         }
     }
     done
+}
+
+// ---- numbers wider than their fields
+
+/// What is read from number i of the heads.
+fn field(i: usize, n: u64) -> u64 {
+    match i % 8 {
+        0 => (n != 0) as u64,
+        1..=3 => n & 0xFF,
+        4 => n & 0xFFFF_FFFF,
+        _ => n,
+    }
+}
+
+/// Numbers from which the same heads are read, most of them wider than their fields.
+fn widened(r: &mut Rng, heads: &[u64; 64]) -> [u64; 64] {
+    std::array::from_fn(|i| {
+        let any = r.next();
+        match i % 8 {
+            _ if r.one_in(4) => heads[i],
+            0 => heads[i] * r.pick(&[2, 256, 1 << 32, u64::MAX]),
+            1..=3 => heads[i] | r.pick(&[1, 1 << 24, any]) << 8,
+            4 => heads[i] | r.pick(&[1, u64::MAX, any]) << 32,
+            _ => heads[i],
+        }
+    })
+}
+
+/// The rule: a number is written only where the field that is read from it has changed.
+fn laid_on(old: &[u64; 64], new: &[u64; 64]) -> [u64; 64] {
+    std::array::from_fn(|i| if field(i, old[i]) == new[i] { old[i] } else { new[i] })
+}
+
+fn heads_of(slots: &[Slot; 8]) -> [u64; 64] {
+    let mut p = Pool { size: 0, heads: [0; 64], bytes: [0; 1784] };
+    slots.iter().enumerate().for_each(|(k, s)| lay(&mut p, k, s));
+    p.heads
+}
+
+/// Calls on pools with numbers wider than their fields: the same answers as on the narrow ones, which are held to the original,
+/// and each of the 64 numbers by the rule; after a refusal, all of them as they were.
+pub fn wide_numbers(seed: u64, steps: u64) -> u64 {
+    let mut r = Rng::new(seed);
+    let mut seen = [0u64; 6];
+    for _ in 0..steps {
+        let now = r.pick(&[500, 1000, 100_000]);
+        let mut slots: [Slot; 8] = std::array::from_fn(|_| possible(&mut r, now));
+        let (size, list) = (r.below(9) as usize, LISTS[1 + r.below(5) as usize]);
+        let h = heard(&mut r, &slots[..size], now);
+        let length = r.one_in(3).then_some(8);
+        let counters = [r.below(1000) as u32; 5];
+        let by_value = r.one_in(2);
+        let bytes = |slots: &[Slot; 8]| -> [u8; 1784] { std::array::from_fn(|i| slots[i / 223].bytes[i % 223]) };
+        if r.one_in(4) {
+            // refusal 1: too large, or one slot that cannot be
+            let size = if r.one_in(2) { 9 + r.below(3) as usize } else { 1 + size.min(7) };
+            slots[0] = if size > 8 { slots[0] } else { Slot { in_progress: true, sequence: 8, ..slots[0] } };
+            let before = Pool { size, heads: widened(&mut r, &heads_of(&slots)), bytes: bytes(&slots) };
+            let (mut p, mut c) = (before.clone(), counters);
+            let got = called(&mut p, &mut c, list, &h, length, by_value);
+            assert_eq!((got, &p, c), (Answer { result: Ours::Refused(1), length: 0, ..LENT }, &before, counters), "a refusal changes no lent memory");
+            let mut rows = Rows::default();
+            rows.push(h.now, h.pgn, h.source, h.data);
+            let mut told = Told::room(1, 300);
+            assert_eq!(p.process_frames(&mut c, list, &rows, 0, &mut told), (1, 0, 0));
+            assert_eq!((p, c, told), (before, counters, Told::room(1, 300)), "nor does a batch's");
+            seen[0] += 1;
+            continue;
+        }
+        let before = Pool { size, heads: widened(&mut r, &heads_of(&slots)), bytes: bytes(&slots) };
+        if r.one_in(2) {
+            let mut pair = Pair::fresh(size, list);
+            pair.set(&slots, counters);
+            let want = pair.hear(&h, length);
+            let (mut p, mut c) = (before.clone(), counters);
+            let got = called(&mut p, &mut c, list, &h, length, by_value);
+            assert_eq!((&got, c, p.bytes), (&want, pair.counters(), pair.p.bytes), "{h:?}");
+            assert_eq!(p.heads, laid_on(&before.heads, &pair.p.heads), "the numbers of {:?} after {h:?}", before.heads);
+            seen[match got.result {
+                Ours::Refused(_) => unreachable!("the pool is possible"),
+                Ours::Ignored => 1,
+                Ours::FragmentConsumed => 2,
+                Ours::MessageComplete => 3,
+            }] += 1;
+        } else {
+            let mut rows = Rows::default();
+            for _ in 0..r.below(6) {
+                let h = heard(&mut r, &slots[..size], now);
+                rows.push(h.now, h.pgn, h.source, h.data);
+            }
+            let n = rows.len();
+            let (mut p, mut c, mut told) = (before.clone(), counters, Told::room(n, 1000));
+            if n > 0 && r.one_in(3) {
+                // refusal 27
+                let number = p.process_frames_in(&mut c, list, &rows.times, &rows.pgns, &rows.sources[..n - 1], &rows.data, &mut told.kinds, &mut told.lengths, &mut told.arena);
+                assert_eq!((number, p, c, told), ((27, 0, 0), before, counters, Told::room(n, 1000)), "a refusal changes no lent memory");
+                seen[4] += 1;
+                continue;
+            }
+            let left = batch(size, &slots, counters, list, sorted(list), &rows, 1000, 0);
+            assert_eq!(p.process_frames(&mut c, list, &rows, 0, &mut told), (0, left.0, left.1));
+            assert_eq!((p.heads, p.bytes, c), (laid_on(&before.heads, &heads_of(&left.2)), bytes(&left.2), left.3), "the numbers of {:?} after a batch", before.heads);
+            seen[5] += 1;
+        }
+    }
+    assert!(steps < 1000 || seen.iter().all(|&n| n > steps / 100), "each kind of answer: {seen:?}");
+    steps
 }
 
 // ---- random runs

@@ -44,3 +44,8 @@ fn traffic_is_answered_as_the_original_does() {
 fn batches_leave_what_single_calls_of_the_original_leave() {
     println!("batches: {} steps alike", receive::batches(7, 1_500_000));
 }
+
+#[test]
+fn a_number_is_written_only_where_its_field_has_changed() {
+    println!("numbers wider than their fields: {} steps alike", receive::wide_numbers(8, 300_000));
+}

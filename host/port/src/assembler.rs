@@ -21,7 +21,8 @@ pub enum ProcessResult {
     MessageComplete,
 }
 
-/// The answer, with the payload's 223 bytes and its length.
+/// The answer, with the payload's 223 bytes and its length. Without a message the length is 0, and the payload is as it was
+/// lent: zeros, where the call makes the answer.
 #[derive(Clone, Debug, PartialEq, Eq)]
 pub struct Answer {
     pub result: ProcessResult,
@@ -43,26 +44,26 @@ pub fn handles(pgns: &[u32], pgn: u32) -> bool {
 }
 
 impl Pool {
-    fn blank() -> Pool {
-        Pool { size: 0xEE, heads: [0xEE; 64], bytes: [0xEE; 1784] }
-    }
-    /// The refusal's number, or 0, and the pool.
+    /// The refusal's number, or 0, and the pool: a fresh one, of size 0 with a refusal.
     pub fn new(size: usize) -> (u32, Pool) {
-        let mut p = Pool::blank();
-        let number = unsafe { hf_pool_new(size, p.heads.as_mut_ptr(), p.bytes.as_mut_ptr(), &mut p.size) };
-        (number, p)
+        let mut p = Pool { size: 0, heads: [0; 64], bytes: [0; 1784] };
+        (p.made_anew(size), p)
+    }
+    /// The same into a pool that the caller keeps: a refusal leaves its heads and bytes.
+    pub fn made_anew(&mut self, size: usize) -> u32 {
+        unsafe { hf_pool_new(size, self.heads.as_mut_ptr(), self.bytes.as_mut_ptr(), &mut self.size) }
     }
     pub fn default_pool() -> Pool {
-        let mut p = Pool::blank();
+        let mut p = Pool { size: 0xEE, heads: [0xEE << 32; 64], bytes: [0xEE; 1784] };
         assert_eq!(unsafe { hf_pool_default(p.heads.as_mut_ptr(), p.bytes.as_mut_ptr(), &mut p.size) }, 0);
         p
     }
     pub fn process_frame(&mut self, counters: &mut Counters, pgns: &[u32], now_ms: u64, pgn: u32, source_address: u8, data: &[u8; 8]) -> Answer {
-        let mut a = Answer { result: ProcessResult::Ignored, payload: [0xEE; 223], length: 0xEE };
+        let mut a = Answer { result: ProcessResult::Ignored, payload: [0; 223], length: 0 };
         self.process_frame_into(counters, pgns, now_ms, pgn, source_address, data, &mut a);
         a
     }
-    /// The same into an answer that the caller keeps.
+    /// The same into an answer that the caller keeps: its payload is written where a message is complete.
     #[allow(clippy::too_many_arguments)]
     #[inline]
     pub fn process_frame_into(&mut self, counters: &mut Counters, pgns: &[u32], now_ms: u64, pgn: u32, source_address: u8, data: &[u8; 8], a: &mut Answer) {
@@ -87,14 +88,20 @@ impl Pool {
     pub fn process_frame_with_length(
         &mut self, counters: &mut Counters, pgns: &[u32], now_ms: u64, pgn: u32, source_address: u8, data: &[u8; 8], frame_length: usize,
     ) -> Answer {
-        let mut a = Answer { result: ProcessResult::Ignored, payload: [0xEE; 223], length: 0xEE };
+        let mut a = Answer { result: ProcessResult::Ignored, payload: [0; 223], length: 0 };
+        self.process_frame_with_length_into(counters, pgns, now_ms, pgn, source_address, data, frame_length, &mut a);
+        a
+    }
+    #[allow(clippy::too_many_arguments)]
+    pub fn process_frame_with_length_into(
+        &mut self, counters: &mut Counters, pgns: &[u32], now_ms: u64, pgn: u32, source_address: u8, data: &[u8; 8], frame_length: usize, a: &mut Answer,
+    ) {
         a.result = result(unsafe {
             hf_process_frame_with_length(
                 self.size, self.heads.as_mut_ptr(), self.bytes.as_mut_ptr(), counters.as_mut_ptr(), pgns.as_ptr(), pgns.len(), now_ms, pgn, source_address, data.as_ptr(),
                 frame_length, a.payload.as_mut_ptr(), &mut a.length,
             )
         });
-        a
     }
     /// Many frames in one call. Returns the refusal's number, or 0, the frames taken and the arena's bytes taken.
     pub fn process_frames(&mut self, counters: &mut Counters, pgns: &[u32], rows: &Rows, from: usize, told: &mut Told) -> (u32, usize, usize) {

@@ -11,6 +11,7 @@ fn main() {
     steps += receive::impossible_pools(24, 2_000);
     steps += receive::traffic(25, 20_000);
     steps += receive::batches(26, 100_000);
+    steps += receive::wide_numbers(28, 5_000);
     steps += bench::random(27, 5_000, &mut [0; 64]);
     println!("rt's x86-64 archive in a process of its own: {steps} steps alike");
 }

@@ -1,5 +1,8 @@
 -- `checked_number` meets its contract: case by case. Assumes nothing.
 use borrow.Author.Needs.{needs}
+use mathlib.Core.Path.{sym, ap, _∙_}
+use Rattle.verdicts.specs.declared.Checked.{Checked}
+use Rattle.ffi.specs.Numbers.{codeOf}
 use Rattle.verdicts.specs.Numbers.{ofChecked}
 use Rattle.ffi.proofs.bench.checked_number.Statement.{statement}
 use Rattle.ffi.proofs.bench.checked_number.Tie as tie
@@ -25,7 +28,7 @@ checked-number-spec =
     (λ c. search needs)
     (λ c. search needs)
     (λ c. search needs)
-    (λ c. cc)
+    (λ c. c .fault-number .ensures ∙ sym (ap (λ (x : Checked). codeOf (ofChecked x)) (c .before .before .c .given .1)))
     (λ c. search needs)
     (λ c. search needs)
     (λ c. search needs)

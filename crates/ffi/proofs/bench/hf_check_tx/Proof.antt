@@ -1,5 +1,7 @@
 -- `hf_check_tx` meets its contract: it passes on what its calls say. Assumes nothing.
 use borrow.Author.Needs.{needs}
+use mathlib.Core.Path.{ap, _∙_}
+use Rattle.ffi.specs.Numbers.{codeOf}
 use Rattle.ffi.proofs.Fives.{checked-five}
 use Rattle.ffi.proofs.bench.hf_check_tx.Statement.{statement}
 use Rattle.ffi.proofs.bench.hf_check_tx.Tie as tie
@@ -11,4 +13,4 @@ hf-check-tx-spec =
     (λ c κs. search needs)
     (λ c κs. search needs)
     (λ c κs. search needs)
-    (λ c. (cc, search (needs, checked-five))))
+    (λ c. ((c .checked-number .ensures) ∙ ap codeOf (c .before .before .check-tx-rows .ensures), checked-five _ (c .before .before .check-tx-rows .ensures) (c .before .checked-values .ensures))))

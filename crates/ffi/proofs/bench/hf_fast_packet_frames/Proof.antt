@@ -1,5 +1,7 @@
 -- `hf_fast_packet_frames` meets its contract: it passes on what its calls say. Assumes nothing.
 use borrow.Author.Needs.{needs}
+use mathlib.Core.Path.{ap, _∙_}
+use Rattle.ffi.specs.Numbers.{codeOf, valueOf}
 use Rattle.ffi.specs.Bench.{splitIn}
 use Rattle.ffi.proofs.bench.hf_fast_packet_frames.Statement.{statement}
 use Rattle.ffi.proofs.bench.hf_fast_packet_frames.Tie as tie
@@ -15,4 +17,4 @@ hf-fast-packet-frames-spec =
     (λ c. search needs)
     (λ c. search needs)
     (λ c. search needs)
-    (λ c. record { told = cc; given = cc; named = cc; filled = cc; measured = cc }))
+    (λ c. record { told = (c .split-number .ensures) ∙ ap codeOf (c .before .before .before .before .before .before .before .before .fast-packet-rows .ensures .0); given = (c .before .split-count .ensures) ∙ ap valueOf (c .before .before .before .before .before .before .before .before .fast-packet-rows .ensures .0); named = (c .before .before .before .before .before .before .before .before .fast-packet-rows .ensures .1); filled = (c .before .before .before .before .before .before .before .before .fast-packet-rows .ensures .2); measured = (c .before .before .before .before .before .before .before .before .fast-packet-rows .ensures .3) }))

@@ -1,5 +1,7 @@
 -- `hf_reassemble` meets its contract: it passes on what its calls say. Assumes nothing.
 use borrow.Author.Needs.{needs}
+use mathlib.Core.Path.{ap, _∙_}
+use Rattle.ffi.specs.Numbers.{codeOf}
 use Rattle.ffi.proofs.Fives.{reassembled-five}
 use Rattle.ffi.specs.Bench.{reassembledIn}
 use Rattle.ffi.proofs.bench.hf_reassemble.Statement.{statement}
@@ -15,4 +17,4 @@ hf-reassemble-spec =
     (λ c κs. search needs)
     (λ c. search needs)
     (λ c. search needs)
-    (λ c. record { told = cc; carried = search (needs, reassembled-five); listed = cc; laid = cc }))
+    (λ c. record { told = (c .reassembled-number .ensures) ∙ ap codeOf (c .before .before .before .before .before .before .reassemble-rows .ensures .0); carried = reassembled-five _ (c .before .before .before .before .before .before .reassemble-rows .ensures .0) (c .before .reassembled-values .ensures); listed = (c .before .before .before .before .before .before .reassemble-rows .ensures .1); laid = (c .before .before .before .before .before .before .reassemble-rows .ensures .2) }))

@@ -1,5 +1,8 @@
 -- `reassembled_number` meets its contract: case by case. Assumes nothing.
 use borrow.Author.Needs.{needs}
+use mathlib.Core.Path.{sym, ap, _∙_}
+use Rattle.oracle.specs.declared.Reassembled.{Reassembled}
+use Rattle.ffi.specs.Numbers.{codeOf}
 use Rattle.oracle.specs.Numbers.{ofReassembled}
 use Rattle.ffi.proofs.bench.reassembled_number.Statement.{statement}
 use Rattle.ffi.proofs.bench.reassembled_number.Tie as tie
@@ -15,6 +18,6 @@ reassembled-number-spec =
     (λ c. search needs)
     (λ c. search needs)
     (λ c. search needs)
-    (λ c. cc)
+    (λ c. c .fault-number .ensures ∙ sym (ap (λ (x : Reassembled). codeOf (ofReassembled x)) (c .before .before .r .given .1)))
     (λ c. search needs)
     (λ c. search needs))

@@ -1,11 +1,10 @@
 -- `builder_from` meets its contract: each field as its call says. Assumes nothing.
 use borrow.Author.Needs.{needs}
-use Rattle.ffi.specs.Frames.{builderFrom}
+use Rattle.ffi.proofs.Laws.{builder-by}
 use Rattle.ffi.proofs.frames.builder_from.Statement.{statement}
 use Rattle.ffi.proofs.frames.builder_from.Tie as tie
 
 pub builder-from-spec : {M : Type 1} → statement M
-unfolding builderFrom
 builder-from-spec =
     tie.close
     (tie.spec
@@ -21,4 +20,4 @@ builder-from-spec =
     (λ c κs. search needs)
     (λ c. search needs)
     (λ c κs. search needs)
-    (λ c. cc))
+    (λ c. builder-by _ (c .before .before .before .before .before .before .before .before .before .before .low-word .ensures) (c .before .before .before .before .before .before .before .before .low-byte .ensures) (c .before .before .before .before .before .before .destination-from .ensures) (c .before .before .before .before .low-byte2 .ensures) (c .before .before .low-byte3 .ensures) (c .is-set .ensures)))

@@ -1,5 +1,8 @@
 -- `hf_builder_build` meets its contract: it passes on what its calls say. Assumes nothing.
 use borrow.Author.Needs.{needs}
+use mathlib.Core.Path.{ap, _∙_}
+use Rattle.builder.specs.Frames.{started}
+use Rattle.ffi.specs.Frames.{placeNumbers}
 use Rattle.ffi.proofs.frames.hf_builder_build.Statement.{statement}
 use Rattle.ffi.proofs.frames.hf_builder_build.Tie as tie
 
@@ -10,4 +13,4 @@ hf-builder-build-spec =
     (λ c κs. search needs)
     (λ c κs. search needs)
     (λ c κs. search needs)
-    (λ c. cc))
+    (λ c. (c .place-numbers .ensures) ∙ ap placeNumbers ((c .before .build .ensures) ∙ ap started (c .before .before .builder-from .ensures))))

@@ -1,5 +1,6 @@
--- `lay_made` meets its contract. Assumes nothing.
+-- `lay_made` meets its contract: it passes on what its calls say. Assumes nothing.
 use borrow.Author.Needs.{needs}
+use mathlib.Core.Path.{refl}
 use Rattle.ffi.specs.Frames.{heldAfter, madeNumbers}
 use Rattle.ffi.proofs.frames.lay_made.Statement.{statement}
 use Rattle.ffi.proofs.frames.lay_made.Tie as tie
@@ -10,4 +11,4 @@ lay-made-spec =
     tie.close
     (tie.spec
     (λ c κs. search needs)
-    (λ c. (cc, cc)))
+    (λ c. (refl, (c .builder-numbers .ensures))))

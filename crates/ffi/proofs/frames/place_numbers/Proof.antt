@@ -1,6 +1,7 @@
 -- `place_numbers` meets its contract: each number as its call says. Assumes nothing.
 use borrow.Author.Needs.{needs}
 use Rattle.ffi.specs.Frames.{placeNumbers}
+use Rattle.ffi.proofs.Rows.{row-2}
 use Rattle.ffi.proofs.frames.place_numbers.Statement.{statement}
 use Rattle.ffi.proofs.frames.place_numbers.Tie as tie
 
@@ -11,4 +12,4 @@ place-numbers-spec =
     (tie.spec
     (λ c κs. search needs)
     (λ c κs. search needs)
-    (λ c. cc))
+    (λ c. row-2 (c .before .wide .ensures) (c .wide-size .ensures)))

@@ -1,16 +1,15 @@
 -- `told` meets its contract: each number as its call says. Assumes nothing.
 use borrow.Author.Needs.{needs}
-use Rattle.ffi.specs.Frames.{stepNumber, stepBytes, stepFrame, stepAfter}
+use mathlib.Core.Path.{refl}
+use Rattle.ffi.specs.Frames.{stepNumber, stepBytes, stepFrame}
 use Rattle.ffi.proofs.frames.told.Statement.{statement}
 use Rattle.ffi.proofs.frames.told.Tie as tie
 
 pub told-spec : {M : Type 1} → statement M
-unfolding stepNumber stepBytes stepFrame stepAfter
+unfolding stepNumber stepBytes stepFrame
 told-spec =
     tie.close
     (tie.spec
     (λ c κs. search needs)
     (λ c κs. search needs)
-    (λ c κs. search needs)
-    (λ c κs. search needs)
-    (λ c. (cc, cc, cc, cc)))
+    (λ c. record { told = (c .kind-number .ensures); filled = refl; named = (c .before .frame-numbers .ensures) }))

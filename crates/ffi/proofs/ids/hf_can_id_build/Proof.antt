@@ -1,11 +1,10 @@
 -- `hf_can_id_build` meets its contract: it passes on what its calls say. Assumes nothing.
 use borrow.Author.Needs.{needs}
-use Rattle.ffi.specs.Ids.{partsOf}
+use Rattle.ffi.proofs.Laws.{answered-by, parts-by}
 use Rattle.ffi.proofs.ids.hf_can_id_build.Statement.{statement}
 use Rattle.ffi.proofs.ids.hf_can_id_build.Tie as tie
 
 pub hf-can-id-build-spec : {M : Type 1} → statement M
-unfolding partsOf
 hf-can-id-build-spec =
     tie.close
     (tie.spec
@@ -13,4 +12,4 @@ hf-can-id-build-spec =
     (λ c κs. search needs)
     (λ c κs. search needs)
     (λ c κs. search needs)
-    (λ c. (cc, cc)))
+    (λ c. answered-by (c .answered .ensures) (parts-by _ _ _ _ (c .before .before .before .before .wide-half .ensures) (c .before .before .before .destination-from .ensures) (c .before .before .build .ensures))))

@@ -1,5 +1,7 @@
--- `hf_can_id_destination` meets its contract: it passes on what the two calls say. Assumes nothing.
+-- `hf_can_id_destination` meets its contract: it passes on what its calls say. Assumes nothing.
 use borrow.Author.Needs.{needs}
+use mathlib.Core.Path.{ap, _∙_}
+use Rattle.ffi.specs.Numbers.{addressOf}
 use Rattle.ffi.proofs.ids.hf_can_id_destination.Statement.{statement}
 use Rattle.ffi.proofs.ids.hf_can_id_destination.Tie as tie
 
@@ -9,4 +11,4 @@ hf-can-id-destination-spec =
     (tie.spec
     (λ c κs. search needs)
     (λ c κs. search needs)
-    (λ c. cc))
+    (λ c. (c .number-of .ensures) ∙ ap addressOf (c .before .destination .ensures)))

@@ -1,11 +1,10 @@
 -- `head_at` meets its contract: each field as its call says. Assumes nothing.
 use borrow.Author.Needs.{needs}
-use Rattle.ffi.specs.Pool.{headAt}
+use Rattle.ffi.proofs.Laws.{head-by}
 use Rattle.ffi.proofs.pool.head_at.Statement.{statement}
 use Rattle.ffi.proofs.pool.head_at.Tie as tie
 
 pub head-at-spec : {M : Type 1} → statement M
-unfolding headAt
 head-at-spec =
     tie.close
     (tie.spec
@@ -24,4 +23,4 @@ head-at-spec =
     (λ c κs. search needs)
     (λ c. search needs)
     (λ c κs. search needs)
-    (λ c. cc))
+    (λ c. head-by _ _ (c .before .before .before .before .before .before .before .set-at .ensures) (c .before .before .before .before .before .before .byte-at .ensures) (c .before .before .before .before .before .byte-at2 .ensures) (c .before .before .before .before .byte-at3 .ensures) (c .before .before .before .word-at .ensures) (c .before .before .size-at .ensures) (c .before .size-at2 .ensures) (c .time-at .ensures)))

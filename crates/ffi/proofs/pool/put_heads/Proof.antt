@@ -1,11 +1,11 @@
 -- `put_heads` meets its contract: k heads are laid. Assumes nothing.
 use borrow.Author.Needs.{needs}
 use Prim.Native.Nat.{_≤_, _-_}
-use mathlib.Core.Path.{_≡_, refl}
+use mathlib.Core.Path.{_≡_}
 use native.Mathlib.Omega.{arith}
 use Rattle.session.specs.Heads.{freshHead}
 use Rattle.ffi.specs.Pool.{laid}
-use Rattle.ffi.proofs.Laws.{laid-turn, laid-done}
+use Rattle.ffi.proofs.Laws.{laid-none, laid-turn, laid-done}
 use Rattle.ffi.proofs.pool.put_heads.Statement.{statement}
 use Rattle.ffi.proofs.pool.put_heads.Tie as tie
 
@@ -28,7 +28,7 @@ put-heads-spec =
     (tie.spec
     Inv-loop
     μ-loop
-    (λ c. (search needs, refl))
+    (λ c. (search needs, laid-none _ _))
     (λ c. search needs)
     (λ c. search needs)
     (λ c. search needs)

@@ -1,0 +1,18 @@
+-- Rows that are equal element by element. Assumes nothing.
+use mathlib.Core.List.{List, [], _∷_}
+use mathlib.Core.Path.{_≡_, refl}
+
+pub row-2 : {A : Type 0} {a b a′ b′ : A} → a ≡ a′ → b ≡ b′ → a ∷ b ∷ [] ≡ a′ ∷ b′ ∷ []
+row-2 p0 p1 = rw (p0, p1) refl
+
+pub row-3 : {A : Type 0} {a b c a′ b′ c′ : A} → a ≡ a′ → b ≡ b′ → c ≡ c′ → a ∷ b ∷ c ∷ [] ≡ a′ ∷ b′ ∷ c′ ∷ []
+row-3 p0 p1 p2 = rw (p0, p1, p2) refl
+
+pub row-5 : {A : Type 0} {a b c d e a′ b′ c′ d′ e′ : A} → a ≡ a′ → b ≡ b′ → c ≡ c′ → d ≡ d′ → e ≡ e′ → a ∷ b ∷ c ∷ d ∷ e ∷ [] ≡ a′ ∷ b′ ∷ c′ ∷ d′ ∷ e′ ∷ []
+row-5 p0 p1 p2 p3 p4 = rw (p0, p1, p2, p3, p4) refl
+
+pub row-6 : {A : Type 0} {a b c d e f a′ b′ c′ d′ e′ f′ : A} → a ≡ a′ → b ≡ b′ → c ≡ c′ → d ≡ d′ → e ≡ e′ → f ≡ f′ → a ∷ b ∷ c ∷ d ∷ e ∷ f ∷ [] ≡ a′ ∷ b′ ∷ c′ ∷ d′ ∷ e′ ∷ f′ ∷ []
+row-6 p0 p1 p2 p3 p4 p5 = rw (p0, p1, p2, p3, p4, p5) refl
+
+pub row-8 : {A : Type 0} {a b c d e f g h a′ b′ c′ d′ e′ f′ g′ h′ : A} → a ≡ a′ → b ≡ b′ → c ≡ c′ → d ≡ d′ → e ≡ e′ → f ≡ f′ → g ≡ g′ → h ≡ h′ → a ∷ b ∷ c ∷ d ∷ e ∷ f ∷ g ∷ h ∷ [] ≡ a′ ∷ b′ ∷ c′ ∷ d′ ∷ e′ ∷ f′ ∷ g′ ∷ h′ ∷ []
+row-8 p0 p1 p2 p3 p4 p5 p6 p7 = rw (p0, p1, p2, p3, p4, p5, p6, p7) refl

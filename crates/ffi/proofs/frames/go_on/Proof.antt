@@ -1,0 +1,16 @@
+-- `go_on` meets its contract: each number as its call says. Assumes nothing.
+use borrow.Author.Needs.{needs}
+use Rattle.ffi.specs.Frames.{placeLaid}
+use Rattle.ffi.proofs.Rows.{row-2}
+use Rattle.ffi.proofs.frames.go_on.Statement.{statement}
+use Rattle.ffi.proofs.frames.go_on.Tie as tie
+
+pub go-on-spec : {M : Type 1} → statement M
+unfolding placeLaid
+go-on-spec =
+    tie.close
+    (tie.spec
+    (λ c. search needs)
+    (λ c κs. search needs)
+    (λ c κs. search needs)
+    (λ c. row-2 (c .before .before .byte-on .ensures) (c .before .wide-size .ensures)))

@@ -1,0 +1,16 @@
+-- `numbers::flag_on` meets its contract: the facts on each way out pick the law of that case. Assumes nothing.
+use borrow.Author.Needs.{needs}
+use Rattle.ffi.proofs.Laws.{flags}
+use Rattle.ffi.proofs.numbers.flag_on.Statement.{statement}
+use Rattle.ffi.proofs.numbers.flag_on.Tie as tie
+
+pub flag-on-spec : {M : Type 1} → statement M
+flag-on-spec =
+    tie.close
+    (tie.spec
+    (λ c κs. search needs)
+    (λ c κs. search needs)
+    (λ c κs. search needs)
+    (λ c. search (needs, flags))
+    (λ c κs. search needs)
+    (λ c. search (needs, flags)))

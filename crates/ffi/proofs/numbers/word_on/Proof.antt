@@ -1,0 +1,16 @@
+-- `numbers::word_on` meets its contract: the facts on each way out pick the law of that case. Assumes nothing.
+use borrow.Author.Needs.{needs}
+use Rattle.base.proofs.Cases.{said}
+use Rattle.ffi.specs.Numbers.{laidOn, wordOn}
+use Rattle.ffi.proofs.numbers.word_on.Statement.{statement}
+use Rattle.ffi.proofs.numbers.word_on.Tie as tie
+
+pub word-on-spec : {M : Type 1} → statement M
+unfolding laidOn wordOn
+word-on-spec =
+    tie.close
+    (tie.spec
+    (λ c κs. search needs)
+    (λ c. search (needs, said))
+    (λ c κs. search needs)
+    (λ c. search (needs, said)))
