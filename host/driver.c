@@ -71,6 +71,7 @@ static uint64_t call(uint64_t entry, const uint64_t *x, struct slice *s) {
     case 24: return hf_check_tx(S(0), N(0, uint32_t), S(1), N(1, uint8_t), S(2), N(2, size_t), (uint8_t)x[0], x[1], (uint32_t)x[2], S(3));
     case 25: return hf_receive(x[0], S(0), S(1), S(2), S(3), N(3, uint32_t), x[1], (uint32_t)x[2], (uint8_t)x[3], S(4), S(5), S(6));
     case 26: return hf_frame_count(x[0], x[1], x[2]);
+    case 27: hf_can_id_parts((uint32_t)x[0], S(0)); return 0;
     }
     return ~0ul;
 }

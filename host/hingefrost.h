@@ -26,6 +26,8 @@ uint8_t hf_can_id_priority(uint32_t id);
 uint32_t hf_can_id_pgn(uint32_t id);
 uint16_t hf_can_id_destination(uint32_t id); /* or HF_NOBODY */
 uint8_t hf_can_id_source_address(uint32_t id);
+/* All four in one call: priority, PGN, source, and destination or HF_NOBODY. */
+void hf_can_id_parts(uint32_t id, uint32_t parts[4]);
 
 /* 0 and the identifier in *value; or 2, 4, 5, 6, and in *value the PF that 5 carries (0 for the others). */
 uint32_t hf_can_id_build(uint8_t priority, uint32_t pgn, uint8_t source_address, uint16_t destination, uint32_t *value);

@@ -21,6 +21,11 @@ static void identifiers(void) {
     expect(hf_can_id_build(3, 126208, 35, 16, &v) == 0 && v == 0x0DED1023, "P3");
     expect(hf_can_id_priority(v) == 3 && hf_can_id_pgn(v) == 126208 && hf_can_id_destination(v) == 16 && hf_can_id_source_address(v) == 35, "P3 read back");
     expect(hf_can_id_destination(0x19F20123) == HF_NOBODY, "P1 has no destination");
+    uint32_t parts[4];
+    hf_can_id_parts(v, parts);
+    expect(parts[0] == 3 && parts[1] == 126208 && parts[2] == 35 && parts[3] == 16, "P3 read back in one call");
+    hf_can_id_parts(0x19F20123, parts);
+    expect(parts[0] == 6 && parts[1] == 127489 && parts[2] == 35 && parts[3] == HF_NOBODY, "P1 read back in one call");
     expect(hf_can_id_build(6, 127489, 35, 16, &v) == 5 && v == 242, "P4");
     expect(hf_can_id_build(6, 60928, 35, HF_NOBODY, &v) == 4, "P5");
     expect(hf_can_id_build(6, 60929, 35, 255, &v) == 6, "P6");

@@ -1,7 +1,7 @@
 -- The five numbers that the code makes of an answer of the bench are those of the paper's number and values. Assumes nothing.
 use Prim.Native.Nat.{ℕ}
 use mathlib.Core.List.{List}
-use mathlib.Core.Path.{_≡_, refl, ap, _∙_}
+use mathlib.Core.Path.{_≡_, refl, sym, ap, _∙_}
 use Rattle.base.specs.Answer.{Answer}
 use Rattle.oracle.specs.Numbers.{ofReassembled}
 use Rattle.verdicts.specs.Numbers.{numberOf, valuesOf, ofChecked}
@@ -49,3 +49,7 @@ reassembled-five r e h = h ∙ reassembled r ∙ ap fiveOf e
 
 pub checked-five : (c : Checked) {a : Answer ℕ} {v : List ℕ} → ofChecked c ≡ a → v ≡ checkedFive c → v ≡ fiveOf a
 checked-five c e h = h ∙ checked c ∙ ap fiveOf e
+
+-- one case of an answer: its number and its five numbers, by what the answer is there
+pub case-by : {A : Type 0} (number : A → ℕ) (numbers : A → List ℕ) {x y : A} {n : ℕ} {v : List ℕ} → x ≡ y → n ≡ number y → v ≡ numbers y → (n ≡ number x) × (v ≡ numbers x)
+case-by number numbers e f g = (f ∙ sym (ap number e), g ∙ sym (ap numbers e))

@@ -22,6 +22,7 @@ use Rattle.splitter.specs.declared.Frame.{Frame}
 use Rattle.ffi.specs.Batches.{LeftBy}
 use Rattle.ffi.specs.Bench.{fiveOf, Reassembles, Splits}
 use Rattle.ffi.specs.Pool.{Left, MadeAs}
+use Rattle.ffi.specs.Ids.{readParts}
 use Rattle.ffi.specs.Numbers.{addressOf, codeOf, valueOf}
 use Rattle.ffi.specs.Frames.{builderNumbers, heldAfter, madeNumbers, placeNumbers, Told}
 
@@ -42,6 +43,9 @@ module _ (id r s : ℕ) where
 
   pub hf-can-id-source-address-unique : r ≡ sourceOf id → s ≡ sourceOf id → r ≡ s
   hf-can-id-source-address-unique = determined
+
+pub hf-can-id-parts-unique : (id : ℕ) (r s : List ℕ) → r ≡ readParts id → s ≡ readParts id → r ≡ s
+hf-can-id-parts-unique id r s = determined
 
 -- of whatever builder: `partsOf`, `setOf` or `bothOf` of the entry's numbers
 pub hf-can-id-build-unique : (b : CanIdBuilder) (r s v w : ℕ) → (r ≡ codeOf (buildOf b)) × (v ≡ valueOf (buildOf b)) → (s ≡ codeOf (buildOf b)) × (w ≡ valueOf (buildOf b)) → (r ≡ s) × (v ≡ w)

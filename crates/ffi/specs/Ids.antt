@@ -1,11 +1,18 @@
--- The builder of an identifier, from numbers.
+-- The parts of an identifier and its builder, as numbers.
 use Prim.Native.Nat.{ℕ}
+use mathlib.Core.List.{List, [], _∷_}
 use lib.Dec.{ltb}
 use Rattle.base.specs.Pick.{pick}
+use Rattle.can_id.specs.Layout.{priorityOf, pgnOf, sourceOf, destinationOf}
 use Rattle.can_id.specs.Build.{fresh, withPriority, withDestination}
 use Rattle.can_id.specs.declared.CanIdBuilder.{CanIdBuilder}
-use Rattle.ffi.specs.Numbers.{toAddress}
+use Rattle.ffi.specs.Numbers.{toAddress, addressOf}
 
+-- what an identifier reads as: priority, PGN, source, and destination or 256
+unfoldable pub readParts : ℕ → List ℕ
+readParts id = priorityOf id ∷ pgnOf id ∷ sourceOf id ∷ addressOf (destinationOf id) ∷ []
+
+-- a builder of these parts as they are
 unfoldable pub partsOf : ℕ → ℕ → ℕ → ℕ → CanIdBuilder
 partsOf priority pgn source destination = record { priority = priority; pgn = pgn; «source_address» = source; destination = toAddress destination }
 

@@ -22,19 +22,6 @@ use verdicts::Fault;
 
 // ---- answers as numbers
 
-fn fault_number(fault: Fault) -> u32
-    ensures { λ r. ⌜ r ≡ numberOf fault ⌝ }
-{
-    match fault {
-        Fault::Length(_, _) => 20,
-        Fault::Restarted(_) => 21,
-        Fault::Announced(_, _) => 22,
-        Fault::Stray(_) => 23,
-        Fault::Order(_, _, _, _, _) => 24,
-        Fault::Padding(_, _) => 25,
-    }
-}
-
 fn one(n: usize) -> [u64; 5]
     ensures { λ r. ⌜ r ≡ oneNumber n ⌝ }
 {
@@ -71,40 +58,54 @@ fn just_byte(x: u8) -> [u64; 5]
     [wide(x), 0, 0, 0, 0]
 }
 
-fn fault_values(fault: Fault) -> [u64; 5]
-    ensures { λ r. ⌜ r ≡ faultFive fault ⌝ }
+fn told_fault(fault: Fault, values: &mut [u64; 5]) -> u32
+    ensures { λ r. ⌜ (r ≡ numberOf fault) × (now (values .exit) ≡ faultFive fault) ⌝ }
 {
     match fault {
-        Fault::Length(n, len) => with_size(n, len),
-        Fault::Restarted(n) => one(n),
-        Fault::Announced(n, size) => with_byte(n, size),
-        Fault::Stray(n) => one(n),
-        Fault::Order(n, sequence, index, wanted, next) => {
-            with_order(n, sequence, index, wanted, next)
+        Fault::Length(n, len) => {
+            *values = with_size(n, len);
+            20
         }
-        Fault::Padding(n, byte) => with_byte(n, byte),
+        Fault::Restarted(n) => {
+            *values = one(n);
+            21
+        }
+        Fault::Announced(n, size) => {
+            *values = with_byte(n, size);
+            22
+        }
+        Fault::Stray(n) => {
+            *values = one(n);
+            23
+        }
+        Fault::Order(n, sequence, index, wanted, next) => {
+            *values = with_order(n, sequence, index, wanted, next);
+            24
+        }
+        Fault::Padding(n, byte) => {
+            *values = with_byte(n, byte);
+            25
+        }
     }
 }
 
-fn reassembled_number(r: Reassembled) -> u32
-    ensures { λ code. ⌜ code ≡ codeOf (ofReassembled r) ⌝ }
+fn told_reassembled(r: Reassembled, values: &mut [u64; 5]) -> u32
+    ensures { λ code. ⌜ (code ≡ codeOf (ofReassembled r)) × (now (values .exit) ≡ reassembledFive r) ⌝ }
 {
     match r {
-        Reassembled::Messages(_) => 0,
-        Reassembled::Refused(fault) => fault_number(fault),
-        Reassembled::Incomplete(_) => 26,
-        Reassembled::NoRoom => 27,
-    }
-}
-
-fn reassembled_values(r: Reassembled) -> [u64; 5]
-    ensures { λ values. ⌜ values ≡ reassembledFive r ⌝ }
-{
-    match r {
-        Reassembled::Messages(n) => one(n),
-        Reassembled::Refused(fault) => fault_values(fault),
-        Reassembled::Incomplete(size) => just_byte(size),
-        Reassembled::NoRoom => one(0),
+        Reassembled::Messages(n) => {
+            *values = one(n);
+            0
+        }
+        Reassembled::Refused(fault) => told_fault(fault, values),
+        Reassembled::Incomplete(size) => {
+            *values = just_byte(size);
+            26
+        }
+        Reassembled::NoRoom => {
+            *values = one(0);
+            27
+        }
     }
 }
 
@@ -128,39 +129,32 @@ fn split_count(s: Split) -> usize
     }
 }
 
-fn checked_number(c: Checked) -> u32
-    ensures { λ code. ⌜ code ≡ codeOf (ofChecked c) ⌝ }
+// A number and what stands beside it.
+fn told_number(number: u32, n: usize, values: &mut [u64; 5]) -> u32
+    ensures { λ code. ⌜ (code ≡ number) × (now (values .exit) ≡ oneNumber n) ⌝ }
 {
-    match c {
-        Checked::Good => 0,
-        Checked::NoCount => 30,
-        Checked::Over => 31,
-        Checked::NoClaim => 32,
-        Checked::Faulty(fault) => fault_number(fault),
-        Checked::Open(_) => 26,
-        Checked::Count(_) => 33,
-        Checked::Size(_) => 34,
-        Checked::Hours(_) => 35,
-        Checked::Pattern(_) => 36,
-        Checked::Sequence(_) => 37,
-    }
+    *values = one(n);
+    number
 }
 
-fn checked_values(c: Checked) -> [u64; 5]
-    ensures { λ values. ⌜ values ≡ checkedFive c ⌝ }
+fn told_checked(c: Checked, values: &mut [u64; 5]) -> u32
+    ensures { λ code. ⌜ (code ≡ codeOf (ofChecked c)) × (now (values .exit) ≡ checkedFive c) ⌝ }
 {
     match c {
-        Checked::Good => one(0),
-        Checked::NoCount => one(0),
-        Checked::Over => one(0),
-        Checked::NoClaim => one(0),
-        Checked::Faulty(fault) => fault_values(fault),
-        Checked::Open(size) => just_byte(size),
-        Checked::Count(n) => one(n),
-        Checked::Size(i) => one(i),
-        Checked::Hours(i) => one(i),
-        Checked::Pattern(i) => one(i),
-        Checked::Sequence(i) => one(i),
+        Checked::Good => told_number(0, 0, values),
+        Checked::NoCount => told_number(30, 0, values),
+        Checked::Over => told_number(31, 0, values),
+        Checked::NoClaim => told_number(32, 0, values),
+        Checked::Faulty(fault) => told_fault(fault, values),
+        Checked::Open(size) => {
+            *values = just_byte(size);
+            26
+        }
+        Checked::Count(n) => told_number(33, n, values),
+        Checked::Size(i) => told_number(34, i, values),
+        Checked::Hours(i) => told_number(35, i, values),
+        Checked::Pattern(i) => told_number(36, i, values),
+        Checked::Sequence(i) => told_number(37, i, values),
     }
 }
 
@@ -184,8 +178,7 @@ pub extern "C" fn hf_reassemble(
         code (now (values .exit)) (now (list .exit)) (now (list .entry)) (now (arena .exit)) (now (arena .entry)) ⌝ }
 {
     let r = reassemble_rows(ids, bytes, lens, source, pgn, list, arena);
-    *values = reassembled_values(r);
-    reassembled_number(r)
+    told_reassembled(r, values)
 }
 
 // How many frames rows of these lengths hold.
@@ -231,6 +224,5 @@ pub extern "C" fn hf_check_tx(
         × (now (values .exit) ≡ fiveOf (checkTxOf (rowIn (now (ids .entry)) (now (bytes .entry)) (now (lens .entry))) source expected «hours_base»)) ⌝ }
 {
     let c = check_tx_rows(ids, bytes, lens, source, expected, hours_base);
-    *values = checked_values(c);
-    checked_number(c)
+    told_checked(c, values)
 }

@@ -3,11 +3,13 @@ ghost use mathlib.Core.Path.{_≡_};
 ghost use Rattle.can_id.specs.Layout.{priorityOf, pgnOf, destinationOf, sourceOf};
 ghost use Rattle.can_id.specs.Build.{buildOf};
 ghost use Rattle.ffi.specs.Numbers.{addressOf, codeOf, valueOf};
-ghost use Rattle.ffi.specs.Ids.{partsOf, setPriority, setDestination, setOf, bothOf};
+ghost use Rattle.ffi.specs.Ids.{readParts, partsOf, setPriority, setDestination, setOf, bothOf};
 use crate::numbers::answered;
 use crate::numbers::destination_from;
 use crate::numbers::number_of;
 use crate::numbers::wide_half;
+use crate::numbers::word_of;
+use crate::numbers::word_of_half;
 use can_id::CanId;
 use can_id::CanIdBuilder;
 
@@ -38,6 +40,20 @@ pub extern "C" fn hf_can_id_source_address(id: u32) -> u8
     ensures { λ r. ⌜ r ≡ sourceOf id ⌝ }
 {
     CanId(id).source_address()
+}
+
+// All four in one call: priority, PGN, source and destination, 256 where there is none.
+#[no_mangle]
+pub extern "C" fn hf_can_id_parts(id: u32, parts: &mut [u32; 4])
+    ensures { λ _. ⌜ now (parts .exit) ≡ readParts id ⌝ }
+{
+    let c = CanId(id);
+    *parts = [
+        word_of(c.priority()),
+        c.pgn(),
+        word_of(c.source_address()),
+        word_of_half(number_of(c.destination())),
+    ];
 }
 
 // From these parts as they are.

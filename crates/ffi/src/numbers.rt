@@ -14,6 +14,18 @@ pub(crate) fn wide(x: u8) -> u64
     x as u64
 }
 
+pub(crate) fn word_of(x: u8) -> u32
+    ensures { λ r. ⌜ r ≡ x ⌝ }
+{
+    x as u32
+}
+
+pub(crate) fn word_of_half(x: u16) -> u32
+    ensures { λ r. ⌜ r ≡ x ⌝ }
+{
+    x as u32
+}
+
 pub(crate) fn wide_half(x: u16) -> u64
     ensures { λ r. ⌜ r ≡ x ⌝ }
 {
@@ -76,13 +88,14 @@ pub(crate) fn flag_on(old: u64, x: bool) -> u64
     flag(x)
 }
 
-pub(crate) fn byte_on(old: u64, x: u8) -> u64
-    ensures { λ r. ⌜ r ≡ byteOn old x ⌝ }
+pub(crate) fn byte_on(number: u64, x: u8) -> u64
+    ensures { λ r. ⌜ r ≡ byteOn number x ⌝ }
 {
-    if low_byte(old) == x {
-        return old;
+    let new = wide(x);
+    if low_byte(number) == x {
+        return number;
     }
-    wide(x)
+    new
 }
 
 pub(crate) fn word_on(old: u64, x: u32) -> u64

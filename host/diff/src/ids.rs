@@ -29,6 +29,8 @@ pub fn read(id: u32) {
         (o.priority(), o.pgn(), o.destination(), o.source_address()),
         "reading {id:#010X}"
     );
+    let parts = ours::Parts { priority: o.priority(), pgn: o.pgn(), source_address: o.source_address(), destination: o.destination() };
+    assert_eq!(p.parts(), parts, "reading {id:#010X} in one call");
 }
 
 /// From public fields, which the original lets a caller set to anything.

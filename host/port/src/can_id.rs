@@ -5,6 +5,15 @@ use crate::Refusal;
 #[derive(Clone, Copy, Debug, PartialEq, Eq)]
 pub struct CanId(pub u32);
 
+/// What an identifier reads as.
+#[derive(Clone, Copy, Debug, PartialEq, Eq)]
+pub struct Parts {
+    pub priority: u8,
+    pub pgn: u32,
+    pub source_address: u8,
+    pub destination: Option<u8>,
+}
+
 /// The identifier, or a refusal with the PF that refusal 5 carries.
 pub type Built = Result<CanId, Refusal<1>>;
 
@@ -31,6 +40,13 @@ impl CanId {
     }
     pub fn source_address(self) -> u8 {
         unsafe { hf_can_id_source_address(self.0) }
+    }
+    /// All four by one call of the archive.
+    #[inline]
+    pub fn parts(self) -> Parts {
+        let mut p = [0; 4];
+        unsafe { hf_can_id_parts(self.0, p.as_mut_ptr()) };
+        Parts { priority: p[0] as u8, pgn: p[1], source_address: p[2] as u8, destination: u8::try_from(p[3]).ok() }
     }
 }
 

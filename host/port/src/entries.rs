@@ -12,6 +12,8 @@ extern "C" {
     pub fn hf_can_id_destination(id: u32) -> u16;
     // (id: u32) -> u8
     pub fn hf_can_id_source_address(id: u32) -> u8;
+    // (id: u32, parts: &mut [u32; 4])
+    pub fn hf_can_id_parts(id: u32, parts: *mut u32);
     // (priority: u8, pgn: u32, source_address: u8, destination: u16, value: &mut u32) -> u32
     pub fn hf_can_id_build(priority: u8, pgn: u32, source_address: u8, destination: u16, value: *mut u32) -> u32;
     // (pgn: u32, source_address: u8, priority: u16, destination: u16, value: &mut u32) -> u32

@@ -79,6 +79,9 @@ pub unsafe fn hf_can_id_destination(id: u32) -> u16 {
 pub unsafe fn hf_can_id_source_address(id: u32) -> u8 {
     call(3, &[id as u64], &[]) as u8
 }
+pub unsafe fn hf_can_id_parts(id: u32, parts: *mut u32) {
+    call(27, &[id as u64], &[o(parts, 4)]);
+}
 pub unsafe fn hf_can_id_build(priority: u8, pgn: u32, source: u8, destination: u16, value: *mut u32) -> u32 {
     call(4, &[priority as u64, pgn as u64, source as u64, destination as u64], &[o(value, 1)]) as u32
 }

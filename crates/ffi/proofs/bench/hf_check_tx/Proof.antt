@@ -12,5 +12,4 @@ hf-check-tx-spec =
     (tie.spec
     (λ c κs. search needs)
     (λ c κs. search needs)
-    (λ c κs. search needs)
-    (λ c. ((c .checked-number .ensures) ∙ ap codeOf (c .before .before .check-tx-rows .ensures), checked-five _ (c .before .before .check-tx-rows .ensures) (c .before .checked-values .ensures))))
+    (λ c. (c .told-checked .ensures .0 ∙ ap codeOf (c .before .before .check-tx-rows .ensures), checked-five _ (c .before .before .check-tx-rows .ensures) (c .told-checked .ensures .1))))

@@ -11,6 +11,6 @@ byte-on-spec =
     tie.close
     (tie.spec
     (λ c κs. search needs)
-    (λ c. search (needs, said))
     (λ c κs. search needs)
+    (λ c. search (needs, said))
     (λ c. search (needs, said)))

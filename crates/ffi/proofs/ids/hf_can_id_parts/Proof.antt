@@ -1,0 +1,23 @@
+-- `hf_can_id_parts` meets its contract: each part as its calls say. Assumes nothing.
+use borrow.Author.Needs.{needs}
+use mathlib.Core.Path.{ap, _∙_}
+use Rattle.ffi.specs.Ids.{readParts}
+use Rattle.ffi.specs.Numbers.{addressOf}
+use Rattle.ffi.proofs.Rows.{row-4}
+use Rattle.ffi.proofs.ids.hf_can_id_parts.Statement.{statement}
+use Rattle.ffi.proofs.ids.hf_can_id_parts.Tie as tie
+
+pub hf-can-id-parts-spec : {M : Type 1} → statement M
+unfolding readParts
+hf-can-id-parts-spec =
+    tie.close
+    (tie.spec
+    (λ c κs. search needs)
+    (λ c κs. search needs)
+    (λ c κs. search needs)
+    (λ c κs. search needs)
+    (λ c κs. search needs)
+    (λ c κs. search needs)
+    (λ c κs. search needs)
+    (λ c κs. search needs)
+    (λ c. row-4 ((c .before .before .before .before .before .before .before .word-of .ensures) ∙ (c .before .before .before .before .before .before .before .before .priority .ensures)) (c .before .before .before .before .before .before .pgn .ensures) ((c .before .before .before .before .word-of2 .ensures) ∙ (c .before .before .before .before .before .source-address .ensures)) ((c .before .word-of-half .ensures) ∙ (c .before .before .number-of .ensures) ∙ ap addressOf (c .before .before .before .destination .ensures))))
