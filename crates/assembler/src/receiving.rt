@@ -13,15 +13,15 @@ use crate::bytes::store;
 use fast_packet::MAX_FAST_PACKET_PAYLOAD;
 use fast_packet::fill_short;
 use fast_packet::is_listed;
+use plan::decide;
 use session::Counters;
 use session::Heard;
 use session::POOL_LIMIT;
 use session::count;
-use session::decide;
-use session::look;
-use session::nothing_found;
-use session::place_for;
-use session::within_limit;
+use slot_search::look;
+use slot_search::nothing_found;
+use slot_search::place_for;
+use slot_search::within_limit;
 
 // True when the list has the PGN. Branch on this, not on Ignored, which cannot tell a single frame from a lost fragment.
 pub fn handles(pgns: &[u32], pgn: u32) -> bool

@@ -18,12 +18,12 @@ use crate::search::seek;
 use crate::search::walk;
 use assembler::Pool;
 use fast_packet::is_listed;
+use plan::decide;
 use session::Counters;
 use session::Heard;
 use session::POOL_LIMIT;
 use session::count;
-use session::decide;
-use session::within_limit;
+use slot_search::within_limit;
 
 const IMPOSSIBLE_POOL: u8 = 1;
 

@@ -1,5 +1,3 @@
-pub mod HeadLaws
-pub mod PlanLaws
 pub mod Walks
 pub mod Seen
 pub mod Sound

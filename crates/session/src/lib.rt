@@ -1,18 +1,11 @@
-// One session of the Fast Packet assembler, but for its bytes: what a frame finds there, and what it makes of it. Everything here is decided on one
-// head by value. specs/ says what the tests and heads are (document 01); specs/inner/ how the code goes about a call.
+// One session of the Fast Packet assembler, but for its bytes: its types, its silence and its counters. What a frame finds there is crate `slot_search`,
+// what it makes of it crate `plan`. specs/ says what the tests and heads are (document 01); specs/inner/ how the code goes about a call.
 mod counting;
 mod heads;
-mod numbers;
-mod plans;
-mod search;
 
 pub use counting::count;
 pub use heads::fresh_head;
-pub use plans::decide;
-pub use search::look;
-pub use search::nothing_found;
-pub use search::place_for;
-pub use search::within_limit;
+pub use heads::is_silent;
 
 // The most sessions that a pool may have.
 pub const POOL_LIMIT: usize = 8;

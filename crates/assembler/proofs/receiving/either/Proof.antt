@@ -1,6 +1,6 @@
 -- `receiving::either` meets its contract: the facts on each way out pick the law of that case. Assumes nothing.
 use borrow.Author.Needs.{needs}
-use Rattle.session.proofs.PlanLaws.{choices}
+use Rattle.slot_search.proofs.Laws.{choices}
 use Rattle.assembler.proofs.receiving.either.Statement.{statement}
 use Rattle.assembler.proofs.receiving.either.Tie as tie
 

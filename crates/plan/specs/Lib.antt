@@ -1,0 +1,1 @@
+-- No definitions of its own: what it promises stands in specs/ of `session`.

@@ -1,0 +1,46 @@
+-- The cases of the search, as the code meets them: `search (needs, choices)` finds the case. Assumes nothing.
+use Prim.Native.Nat.{ℕ, _%_, _≤_, _<_}
+use mathlib.Core.Path.{_≡_, refl, _∙_}
+use mathlib.Core.Bool.{Bool, true, false}
+use lib.ListN.{getD}
+use borrow.Author.Tests.{lt-ltb, le-ltb, eq-eqb, ne-eqb}
+use Rattle.base.specs.Pick.{pick}
+use Rattle.session.specs.declared.Heard.{Heard}
+use Rattle.session.specs.declared.Found.{Found}
+use Rattle.session.specs.Rules.{poolLimit}
+use Rattle.session.specs.Frames.{indexOf}
+use Rattle.session.specs.inner.Search.{firstOf, placeOf, withinLimit}
+
+pub either-yes : (b : Bool) (x y : ℕ) → b ≡ true → x ≡ pick b x y
+unfolding pick
+either-yes b x y e = rw e
+
+pub either-no : (b : Bool) (x y : ℕ) → b ≡ false → y ≡ pick b x y
+unfolding pick
+either-no b x y e = rw e
+
+pub first-here : (a b : ℕ) → a < poolLimit → a ≡ firstOf a b
+unfolding firstOf pick
+first-here a b l = rw (lt-ltb a poolLimit l)
+
+pub first-there : (a b : ℕ) → poolLimit ≤ a → b ≡ firstOf a b
+unfolding firstOf pick
+first-there a b l = rw (le-ltb a poolLimit l)
+
+pub limit-low : (i : ℕ) → i < poolLimit → i ≡ withinLimit i
+unfolding withinLimit pick
+limit-low i l = rw (lt-ltb i poolLimit l)
+
+pub limit-high : (i : ℕ) → poolLimit ≤ i → 0 ≡ withinLimit i
+unfolding withinLimit pick
+limit-high i l = rw (le-ltb i poolLimit l)
+
+pub place-first : (f : Heard) (s : Found) (x y : ℕ) → getD (f .«data») 0 0 % 32 ≡ 0 → x ≡ firstOf (s .own) (s .free) → y ≡ firstOf (s .key) x → y ≡ placeOf f s
+unfolding placeOf indexOf pick
+place-first f s x y z ex ey = ey ∙ rw (ex, eq-eqb (getD (f .«data») 0 0 % 32) 0 z)
+
+pub place-next : (f : Heard) (s : Found) → (getD (f .«data») 0 0 % 32 ≡ 0 → ⊥) → s .live ≡ placeOf f s
+unfolding placeOf indexOf pick
+place-next f s z = rw (ne-eqb (getD (f .«data») 0 0 % 32) 0 z)
+
+pub ruleset choices = (either-yes, either-no, first-here, first-there, limit-low, limit-high, place-first, place-next)

@@ -1,0 +1,12 @@
+-- `heads::either` meets its contract: the facts on each way out pick the law of that case. Assumes nothing.
+use borrow.Author.Needs.{needs}
+use Rattle.slot_search.proofs.Laws.{choices}
+use Rattle.slot_search.proofs.heads.either.Statement.{statement}
+use Rattle.slot_search.proofs.heads.either.Tie as tie
+
+pub either-spec : {M : Type 1} → statement M
+either-spec =
+    tie.close
+    (tie.spec
+    (λ c. search (needs, choices))
+    (λ c. search (needs, choices)))

@@ -1,0 +1,19 @@
+-- `heads::is_impossible` meets its contract. Assumes nothing.
+use borrow.Author.Needs.{needs}
+use mathlib.Core.Path.{refl}
+use Rattle.session.specs.Heads.{impossibleHead}
+use Rattle.slot_search.proofs.heads.is_impossible.Statement.{statement}
+use Rattle.slot_search.proofs.heads.is_impossible.Tie as tie
+
+returns : tie.Need-returns
+unfolding impossibleHead
+returns c = rw (c .before .before .before .before .before .before .wide .ensures)
+
+pub is-impossible-spec : {M : Type 1} → statement M
+is-impossible-spec =
+    tie.close
+    (tie.spec
+    (λ c κs. search needs)
+    (λ c. search needs)
+    (λ c. search needs)
+    returns)
