@@ -9,17 +9,15 @@ use lib.Dec.{ltb}
 use Rattle.base.specs.Pick.{pick}
 use Rattle.base.specs.Answer.{Answer}
 use Rattle.base.specs.Lists.{fill}
-use Rattle.can_id.specs.Build.{answerOf, numberOf, carriedOf, buildOf, fresh, withPriority, withDestination}
+use Rattle.can_id.specs.Build.{answerOf, numberOf, carriedOf, buildOf}
 use Rattle.can_id.specs.declared.Built.{Built}
 use Rattle.can_id.specs.declared.Built.the-variants.{Id, Refused}
 use Rattle.can_id.specs.declared.CanId.{CanId}
 use Rattle.can_id.specs.declared.CanIdBuildError.{CanIdBuildError}
-use Rattle.can_id.specs.declared.CanIdBuilder.{CanIdBuilder}
 use Rattle.can_id.specs.declared.Destination.{Destination}
-use Rattle.can_id.specs.declared.Destination.the-variants.{Nobody, To}
 use Rattle.fast_packet.specs.FastPacket.{listedIn, maxPayload}
 use Rattle.builder.specs.Builder.{fastOf, madeOf, idBuilder}
-use Rattle.builder.specs.Next.{Step, headerOf, indexAfter, frameOf, sentStep, endStep, refusedStep, framedStep, builtStep, nextOf}
+use Rattle.builder.specs.Next.{Step, headerOf, indexAfter, frameOf, sentStep, endStep, refusedStep, firstStep, laterStep, rawStep, framedStep, builtStep, nextOf}
 use Rattle.builder.specs.declared.FastPacketBuilder.{FastPacketBuilder}
 
 -- ---- the framing, and the identifier's builder, as the code comes by them
@@ -37,14 +35,20 @@ pub made-with : (pgn source : ℕ) (to : Destination) (p l : List ℕ) (held : �
     ≡ madeOf pgn source to p l held
 made-with pgn source to p l held t e = rw e
 
-module _ (b : FastPacketBuilder) (x y : CanIdBuilder) (g : x ≡ fresh (b .pgn) (b .«source_address»)) (h : y ≡ withPriority x (b .priority)) where
-  pub id-nobody : (a : Answer ℕ) → b .destination ≡ Nobody → a ≡ buildOf y → a ≡ buildOf (idBuilder b)
-  id-nobody a d e = e ∙ rw (h, g, d)
+pub ruleset starting = (made-with, fast-listed, fast-unlisted)
 
-  pub id-to : (a : Answer ℕ) (z : CanIdBuilder) (n : ℕ) → b .destination ≡ To n → z ≡ withDestination y n → a ≡ buildOf z → a ≡ buildOf (idBuilder b)
-  id-to a z n d k e = e ∙ rw (k, h, g, d)
+-- ---- the frames, from the bytes that stand in them
+module _ (id index : ℕ) (p dat : List ℕ) (x : Step) where
+  pub raw-is : x ≡ sentStep (frameOf id dat (length p)) index (length p) → dat ≡ fill 8 p → x ≡ rawStep id index p
+  raw-is e d = e ∙ rw d
 
-pub ruleset starting = (made-with, fast-listed, fast-unlisted, id-nobody, id-to)
+  module _ (sequence head next taken : ℕ) (h : head ≡ headerOf sequence index) (n : next ≡ indexAfter index) where
+    pub first-is : (len : ℕ) → x ≡ sentStep (frameOf id dat 8) next taken → dat ≡ head ∷ len ∷ fill 6 p → len ≡ length p → taken ≡ min 6 (length p) → x ≡ firstStep id sequence index p
+    first-is len e d l t = e ∙ rw (d, h, l, n, t)
+
+    pub later-is : (sent : ℕ) → x ≡ sentStep (frameOf id dat 8) next (sent + taken) → dat ≡ head ∷ fill 7 (drop sent p) → taken ≡ min 7 (length p - sent)
+        → x ≡ laterStep id sequence index sent p
+    later-is sent e d t = e ∙ rw (d, h, n, t)
 
 -- ---- the steps
 module _ (id : ℕ) (b : FastPacketBuilder) (index sent : ℕ) (p : List ℕ) (x : Step) where
@@ -52,25 +56,24 @@ module _ (id : ℕ) (b : FastPacketBuilder) (index sent : ℕ) (p : List ℕ) (x
   unfolding framedStep pick
   framed-long h e = e ∙ simp (lt-ltb maxPayload (length p) h)
 
-  pub framed-wide : length p ≤ maxPayload → b .fast ≡ false → 8 < length p → x ≡ refusedStep 2 [] index (length p) → x ≡ framedStep id b index sent p
-  unfolding framedStep pick
-  framed-wide h f k e = e ∙ simp (le-ltb maxPayload (length p) h, f, lt-ltb 8 (length p) k)
-
-  module _ (dat : List ℕ) (next taken : ℕ) where
-    pub framed-raw : length p ≤ maxPayload → b .fast ≡ false → length p ≤ 8 → x ≡ sentStep (frameOf id dat (length p)) index (length p) → dat ≡ fill 8 p → x ≡ framedStep id b index sent p
+  module _ (h : length p ≤ maxPayload) where
+    pub framed-first : b .fast ≡ true → sent ≡ 0 → x ≡ firstStep id (b .«sequence_id») index p → x ≡ framedStep id b index sent p
     unfolding framedStep pick
-    framed-raw h f k e d = e ∙ simp (le-ltb maxPayload (length p) h, f, le-ltb 8 (length p) k, d)
+    framed-first f k e = e ∙ simp (le-ltb maxPayload (length p) h, f, eq-eqb sent 0 k)
 
-    module _ (h : length p ≤ maxPayload) (f : b .fast ≡ true) (head : ℕ) (i : head ≡ headerOf (b .«sequence_id») index) (n : next ≡ indexAfter index) where
-      pub framed-first : (len : ℕ) → sent ≡ 0 → x ≡ sentStep (frameOf id dat 8) next taken → dat ≡ head ∷ len ∷ fill 6 p → len ≡ length p → taken ≡ min 6 (length p)
-          → x ≡ framedStep id b index sent p
-      unfolding framedStep pick
-      framed-first len k e d l t = e ∙ simp (le-ltb maxPayload (length p) h, f, eq-eqb sent 0 k, d, i, l, n, t)
+    pub framed-later : b .fast ≡ true → (sent ≡ 0 → ⊥) → x ≡ laterStep id (b .«sequence_id») index sent p → x ≡ framedStep id b index sent p
+    unfolding framedStep pick
+    framed-later f k e = e ∙ simp (le-ltb maxPayload (length p) h, f, ne-eqb sent 0 k)
 
-      pub framed-later : (sent ≡ 0 → ⊥) → x ≡ sentStep (frameOf id dat 8) next (sent + taken) → dat ≡ head ∷ fill 7 (drop sent p) → taken ≡ min 7 (length p - sent)
-          → x ≡ framedStep id b index sent p
-      unfolding framedStep pick
-      framed-later k e d t = e ∙ simp (le-ltb maxPayload (length p) h, f, ne-eqb sent 0 k, d, i, n, t)
+    pub framed-wide : b .fast ≡ false → 8 < length p → x ≡ refusedStep 2 [] index (length p) → x ≡ framedStep id b index sent p
+    unfolding framedStep pick
+    framed-wide f k e = e ∙ simp (le-ltb maxPayload (length p) h, f, lt-ltb 8 (length p) k)
+
+    pub framed-raw : b .fast ≡ false → length p ≤ 8 → x ≡ rawStep id index p → x ≡ framedStep id b index sent p
+    unfolding framedStep pick
+    framed-raw f k e = e ∙ simp (le-ltb maxPayload (length p) h, f, le-ltb 8 (length p) k)
+
+pub ruleset framing = (framed-long, framed-first, framed-later, framed-wide, framed-raw)
 
 module _ (b : FastPacketBuilder) (index sent : ℕ) (p : List ℕ) (x : Step) where
   pub next-empty : length p ≡ 0 → index ≡ 0 → x ≡ refusedStep 7 [] 1 sent → x ≡ nextOf b index sent p
@@ -98,5 +101,3 @@ module _ (b : FastPacketBuilder) (index sent : ℕ) (p : List ℕ) (x : Step) wh
       next-refused f q e = e ∙ rw (built, q)
 
 pub ruleset next = (next-empty, next-over, next-end, next-framed, next-refused)
-
-pub ruleset framing = (framed-long, framed-wide, framed-raw, framed-first, framed-later)

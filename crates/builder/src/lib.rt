@@ -7,12 +7,13 @@ ghost use Rattle.base.specs.Lists.{fill};
 ghost use Rattle.can_id.specs.Build.{answerOf, buildOf, numberOf, carriedOf};
 ghost use Rattle.fast_packet.specs.FastPacket.{maxPayload};
 ghost use Rattle.builder.specs.Builder.{fastOf, madeOf, withSequence, withPriority, withDestination, idBuilder};
-ghost use Rattle.builder.specs.Next.{headerOf, indexAfter, frameOf, stepOf, nextOf, sentStep, endStep, refusedStep, framedStep};
+ghost use Rattle.builder.specs.Next.{headerOf, indexAfter, frameOf, noFrame, stepOf, nextOf, sentStep, endStep, refusedStep, firstStep, laterStep, rawStep, framedStep};
 ghost use Rattle.builder.specs.Frames.{started, turnOf, nextTurn};
 use can_id::Built;
 use can_id::CanFrame;
 use can_id::CanId;
 use can_id::CanIdBuildError;
+use can_id::CanIdBuilder;
 use can_id::Destination;
 use fast_packet::FILL;
 use fast_packet::MAX_FAST_PACKET_PAYLOAD;
@@ -51,6 +52,17 @@ pub struct Next {
     pub bytes_sent: usize,
 }
 
+// Zeros in a frame's place.
+fn no_frame() -> CanFrame
+    ensures { λ r. ⌜ r ≡ noFrame ⌝ }
+{
+    CanFrame {
+        id: CanId(0),
+        data: [0; 8],
+        len: 0,
+    }
+}
+
 impl Next {
     fn sent(id: CanId, data: [u8; 8], len: usize, frame_index: u8, bytes_sent: usize) -> Self
         ensures { λ r. ⌜ stepOf r ≡ sentStep (frameOf (id .0) «data» len) «frame_index» «bytes_sent» ⌝ }
@@ -71,14 +83,9 @@ impl Next {
     fn end(frame_index: u8, bytes_sent: usize) -> Self
         ensures { λ r. ⌜ stepOf r ≡ endStep «frame_index» «bytes_sent» ⌝ }
     {
-        let frame = CanFrame {
-            id: CanId(0),
-            data: [0; 8],
-            len: 0,
-        };
         Next {
             kind: NextKind::End,
-            frame: frame,
+            frame: no_frame(),
             frame_index: frame_index,
             bytes_sent: bytes_sent,
         }
@@ -87,14 +94,9 @@ impl Next {
     fn refused(error: CanIdBuildError, frame_index: u8, bytes_sent: usize) -> Self
         ensures { λ r. ⌜ stepOf r ≡ refusedStep (numberOf error) (carriedOf error) «frame_index» «bytes_sent» ⌝ }
     {
-        let frame = CanFrame {
-            id: CanId(0),
-            data: [0; 8],
-            len: 0,
-        };
         Next {
             kind: NextKind::Refused(error),
-            frame: frame,
+            frame: no_frame(),
             frame_index: frame_index,
             bytes_sent: bytes_sent,
         }
@@ -144,6 +146,44 @@ fn filled(data: [u8; 8], at: usize, payload: &[u8], from: usize, count: usize) -
         i += 1;
     }
     out
+}
+
+// ---- the frames
+
+// The one frame of a message that is not fast.
+fn raw(id: CanId, frame_index: u8, payload: &[u8]) -> Next
+    requires { ⌜ length (now payload) ≤ 8 ⌝ }
+    ensures { λ r. ⌜ stepOf r ≡ rawStep (id .0) «frame_index» (now (payload .entry)) ⌝ }
+{
+    let total_len = payload.len();
+    let data = filled([FILL; 8], 0, payload, 0, total_len);
+    Next::sent(id, data, total_len, frame_index, total_len)
+}
+
+// The first frame of a fast message: header, length, and up to six bytes.
+fn first(id: CanId, sequence_id: u8, frame_index: u8, payload: &[u8]) -> Next
+    requires { ⌜ length (now payload) ≤ maxPayload ⌝ }
+    ensures { λ r. ⌜ stepOf r ≡ firstStep (id .0) «sequence_id» «frame_index» (now (payload .entry)) ⌝ }
+{
+    let total_len = payload.len();
+    let head = header(sequence_id, frame_index);
+    let size = length_byte(total_len);
+    let taken = least(6, total_len);
+    let data = [head, size, FILL, FILL, FILL, FILL, FILL, FILL];
+    let bytes = filled(data, 2, payload, 0, taken);
+    Next::sent(id, bytes, 8, index_after(frame_index), taken)
+}
+
+// A later one: header, and up to seven bytes.
+fn later(id: CanId, sequence_id: u8, frame_index: u8, bytes_sent: usize, payload: &[u8]) -> Next
+    requires { ⌜ «bytes_sent» < length (now payload) ⌝ }
+    ensures { λ r. ⌜ stepOf r ≡ laterStep (id .0) «sequence_id» «frame_index» «bytes_sent» (now (payload .entry)) ⌝ }
+{
+    let head = header(sequence_id, frame_index);
+    let taken = least(7, payload.len() - bytes_sent);
+    let data = [head, FILL, FILL, FILL, FILL, FILL, FILL, FILL];
+    let bytes = filled(data, 1, payload, bytes_sent, taken);
+    Next::sent(id, bytes, 8, index_after(frame_index), bytes_sent + taken)
 }
 
 // ---- the builder
@@ -221,12 +261,14 @@ impl FastPacketBuilder {
     fn identifier(self) -> Built
         ensures { λ r. ⌜ answerOf r ≡ buildOf (idBuilder self) ⌝ }
     {
-        let id_builder = CanId::builder(self.pgn, self.source_address).with_priority(self.priority);
         let destination = self.destination;
-        match destination {
-            Destination::Nobody => id_builder.build(),
-            Destination::To(address) => id_builder.to_destination(address).build(),
-        }
+        let id_builder = CanIdBuilder {
+            priority: self.priority % 8,
+            pgn: self.pgn,
+            source_address: self.source_address,
+            destination: destination,
+        };
+        id_builder.build()
     }
 
     // The frame, with the identifier.
@@ -238,26 +280,16 @@ impl FastPacketBuilder {
         if total_len > MAX_FAST_PACKET_PAYLOAD {
             return Next::refused(CanIdBuildError::InvalidData, frame_index, total_len);
         }
-        let mut data = [FILL; 8];
-        let fast = self.fast;
-        if !fast {
-            if total_len > 8 {
-                return Next::refused(CanIdBuildError::InvalidData, frame_index, total_len);
+        if self.fast {
+            if bytes_sent == 0 {
+                return first(id, self.sequence_id, frame_index, payload);
             }
-            let raw = filled(data, 0, payload, 0, total_len);
-            return Next::sent(id, raw, total_len, frame_index, total_len);
+            return later(id, self.sequence_id, frame_index, bytes_sent, payload);
         }
-        data[0] = header(self.sequence_id, frame_index);
-        let next_index = index_after(frame_index);
-        if bytes_sent == 0 {
-            data[1] = length_byte(total_len);
-            let taken = least(6, total_len);
-            let first = filled(data, 2, payload, 0, taken);
-            return Next::sent(id, first, 8, next_index, taken);
+        if total_len > 8 {
+            return Next::refused(CanIdBuildError::InvalidData, frame_index, total_len);
         }
-        let taken = least(7, total_len - bytes_sent);
-        let later = filled(data, 1, payload, bytes_sent, taken);
-        Next::sent(id, later, 8, next_index, bytes_sent + taken)
+        raw(id, frame_index, payload)
     }
 
     // The next frame of a message with this payload, at a frame index and after some bytes sent.
@@ -265,8 +297,8 @@ impl FastPacketBuilder {
         ensures { λ r. ⌜ stepOf r ≡ nextOf self «frame_index» «bytes_sent» (now (payload .entry)) ⌝ }
     {
         let total_len = payload.len();
-        // An empty payload has nothing to send: say so once instead of ending as if every frame had gone out.
         if total_len == 0 {
+            // An empty payload has nothing to send: say so once instead of ending as if every frame had gone out.
             if frame_index == 0 {
                 return Next::refused(CanIdBuildError::EmptyPayload, 1, bytes_sent);
             }
@@ -277,8 +309,8 @@ impl FastPacketBuilder {
         }
         let built = self.identifier();
         match built {
-            Built::Id(id) => self.framed(id, frame_index, bytes_sent, payload),
-            Built::Refused(error) => Next::refused(error, frame_index, total_len),
+            Built::Id(id) => return self.framed(id, frame_index, bytes_sent, payload),
+            Built::Refused(error) => return Next::refused(error, frame_index, total_len),
         }
     }
 

@@ -1,6 +1,5 @@
 -- `FastPacketBuilder::framed` meets its contract: the facts on each way out pick the law of that case. Assumes nothing.
 use borrow.Author.Needs.{needs}
-use borrow.Author.Tests.{not-true, not-false}
 use Rattle.builder.proofs.NextLaws.{framing}
 use Rattle.builder.proofs.FastPacketBuilder.framed.Statement.{statement}
 use Rattle.builder.proofs.FastPacketBuilder.framed.Tie as tie
@@ -10,24 +9,12 @@ framed-spec =
     tie.close
     (tie.spec
     (λ c κs. search needs)
-    (λ c. search (needs, framing, not-true, not-false))
+    (λ c. search (needs, framing))
     (λ c κs. search needs)
-    (λ c. search (needs, framing, not-true, not-false))
+    (λ c. search (needs, framing))
     (λ c κs. search needs)
+    (λ c. search (needs, framing))
     (λ c κs. search needs)
-    (λ c. search (needs, framing, not-true, not-false))
+    (λ c. search (needs, framing))
     (λ c κs. search needs)
-    (λ c. search needs)
-    (λ c κs. search needs)
-    (λ c κs. search needs)
-    (λ c. search needs)
-    (λ c κs. search needs)
-    (λ c κs. search needs)
-    (λ c κs. search needs)
-    (λ c. search (needs, framing, not-true, not-false))
-    (λ c. search needs)
-    (λ c κs. search needs)
-    (λ c κs. search needs)
-    (λ c. search needs)
-    (λ c κs. search needs)
-    (λ c. search (needs, framing, not-true, not-false)))
+    (λ c. search (needs, framing)))
