@@ -1,7 +1,7 @@
 pub mod RowLaws
 pub mod SearchLaws
+pub mod WayLaws
 pub mod Mirrors
-pub mod Plans
 pub mod Runs
 pub mod Sought
 pub mod Unique

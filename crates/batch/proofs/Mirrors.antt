@@ -4,14 +4,16 @@ use mathlib.Core.Path.{_≡_, refl, _∙_}
 use mathlib.Core.Bool.{Bool, false}
 use mathlib.Core.List.{List, [], _∷_}
 use lib.ListN.{length, getD, set, replicate, length-set, length-replicate, getD-replicate}
-use lib.Seq.{getD-set-same, getD-set-other}
+use lib.Seq.{set-getD, getD-set-same, getD-set-other}
 use native.Mathlib.Nat.{not-suc-le-zero, le-of-suc-le-suc}
 use native.Mathlib.Omega.{arith}
 use Rattle.base.proofs.Cases.{same?}
 use Rattle.fast_packet.specs.FastPacket.{listedIn}
 use Rattle.session.specs.declared.Head.{Head}
+use Rattle.session.specs.declared.Heard.{Heard}
 use Rattle.session.specs.Rules.{poolLimit}
-use Rattle.batch.specs.inner.Mirror.{Shows, Mirrors}
+use Rattle.session.specs.Heads.{copiedHead}
+use Rattle.batch.specs.inner.Mirror.{keyNumber, Shows, Mirrors}
 use Rattle.batch.specs.inner.Memory.{places, Remembers}
 
 -- within a list the default does not matter
@@ -48,6 +50,17 @@ module _ (hs : List Head) (ks os ts : List ℕ) where
               (λ q. rw (q, getD-set-same hs i h e (omega (arith, long)), getD-set-same ks i k 0 (omega (arith, m .keys)), getD-set-same os i o 0 (omega (arith, m .owners)), getD-set-same ts i t 0 (omega (arith, m .lasts))) s)
               (λ q. rw (getD-set-other hs i j h e q, getD-set-other ks i j k 0 q, getD-set-other os i j o 0 q, getD-set-other ts i j t 0 q) (m .at j e l));
         }
+
+  -- a session that goes on: only its time is another
+  module _ (f : Heard) (d : Head) where
+    shows-copied : (h : Head) (k o t : ℕ) → Shows h k o t → Shows (copiedHead f h) k o (f .«now_ms»)
+    unfolding copiedHead keyNumber
+    shows-copied h k o t s = record { key = s .key; owner = s .owner; last = refl; range = record { pgn = s .range .pgn; byte = s .range .byte } }
+
+    pub mirrors-run : (i : ℕ) → i < poolLimit → (t : Head) → t ≡ copiedHead f (getD hs i d) → length hs ≡ poolLimit → Mirrors poolLimit hs ks os ts → Mirrors poolLimit (set hs i t) ks os (set ts i (f .«now_ms»))
+    mirrors-run i lt t et long m =
+        rw (set-getD ks i 0, set-getD os i 0) at
+        (mirrors-set i lt (getD ks i 0) (getD os i 0) (f .«now_ms») t long m (rw et (shows-copied (getD hs i d) _ _ _ (m .at i d lt))))
 
 -- ---- the memory
 

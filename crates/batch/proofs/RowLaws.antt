@@ -1,10 +1,10 @@
 -- The cases of the tests on rows, as the code meets them. Assumes nothing.
 use Prim.Native.Nat.{ℕ, _+_, _*_, _-_, _/_, _≤_, _<_}
-use mathlib.Core.Path.{_≡_, refl}
-use mathlib.Core.Bool.{true}
+use mathlib.Core.Path.{_≡_, refl, sym, _∙_}
+use mathlib.Core.Bool.{Bool, true, false}
 use lib.Dec.{ltb}
 use native.Mathlib.Omega.{arith}
-use borrow.Author.Tests.{lt-ltb, le-ltb}
+use borrow.Author.Tests.{ltb-false, lt-ltb, le-ltb}
 use Rattle.base.proofs.Cases.{less?}
 use Rattle.batch.specs.Rows.{tooShort}
 
@@ -42,3 +42,7 @@ pub room-left : (room used n : ℕ) → used ≤ room → ltb (room - used) n �
 room-left room used n h = same-test (room - used) n room (used + n) (λ l. omega arith) (λ l. omega arith)
 
 pub ruleset short-rules = (few-pgns, few-sources, few-bytes, few-kinds, few-lengths, room-left)
+
+-- a message that has room fits
+pub has-room : (room used n : ℕ) (b : Bool) → b ≡ ltb room (used + n) → b ≡ false → used + n ≤ room
+has-room room used n b eb y = ltb-false room (used + n) (sym eb ∙ y)

@@ -7,10 +7,10 @@ use mathlib.Core.List.{List, _++_}
 use lib.ListN.{length, getD, take, drop, set, replicate, length-set, length-drop, take-append-drop}
 use lib.Seq.{paste, paste-zero, take-paste, drop-paste, set-getD, length-paste, length-take-le, take-suc-set, drop-set-lt, drop-drop, take-at}
 use lib.Dec.{ltb}
-use native.Mathlib.Nat.{sub-zero}
+use native.Mathlib.Nat.{zero-add, add-zero, sub-zero}
 use native.Mathlib.Numerals.{add-one}
 use native.Mathlib.Omega.{arith}
-use borrow.Author.Tests.{ltb-false}
+use borrow.Author.Tests.{ltb-false, le-ltb}
 use Rattle.base.specs.Pick.{pick}
 use Rattle.base.specs.Lists.{any}
 use Rattle.session.specs.declared.Heard.{Heard}
@@ -18,9 +18,12 @@ use Rattle.session.specs.declared.Head.{Head}
 use Rattle.session.specs.declared.Plan.{Plan}
 use Rattle.session.specs.declared.Counters.{Counters}
 use Rattle.session.specs.Rules.{Rules, poolLimit}
-use Rattle.session.specs.Heads.{impossibleHead}
+use Rattle.session.specs.declared.Kind.the-variants.{Ignored}
+use Rattle.session.specs.declared.Mark.{Mark}
+use Rattle.session.specs.Heads.{impossibleHead, copiedHead}
 use Rattle.session.specs.Counting.{raised}
 use Rattle.session.specs.inner.Search.{blank, seenIf, seenIn}
+use Rattle.session.specs.inner.Plan.{idle}
 use Rattle.session.proofs.Seen.{seen-bad}
 use Rattle.session.proofs.Sound.{or-left, or-right}
 use Rattle.assembler.specs.declared.Pool.{Pool}
@@ -28,7 +31,7 @@ use Rattle.assembler.specs.Slots.{onHead, impossible}
 use Rattle.assembler.specs.View.{slotsFrom, slotsOf, receiveOf}
 use Rattle.assembler.proofs.Views.{Whole, any-view}
 use Rattle.assembler.proofs.Carries.{carried, Does, slot-long}
-use Rattle.batch.proofs.Plans.{Apart, Untouched}
+use Rattle.batch.proofs.WayLaws.{shortPlan, runPlan}
 use Rattle.batch.specs.Rows.{Rows, frameAt, kindNumber, Run, start, took, answerTo, runFrom, runOf, Left, over, leaves, refusedBy, tooShort, batchOf}
 
 -- ---- the bytes of a message, in the arena and as the answer has them
@@ -103,6 +106,18 @@ looked-at R f p limit = go (ltb poolLimit (p .size)) refl (R .limit) limit
     go true e n en = rw (en, e)
     go false e n en = rw (en, e, any-view (impossibleHead R) (p .size) (p .heads) (p .bytes)) (seen-bad R f (take (p .size) (p .heads)) 0)
 
+-- ---- plans
+
+-- a message comes from the buffer or from the frame, never from both
+abbrev Apart : Plan → Type 0
+Apart d = (d .whole ≡ 0) ⊎ (d .short ≡ 0)
+
+-- without a slot
+record Untouched (h : Head) (d : Plan) : Type 0 where
+  head : d .head ≡ h
+  count : d .count ≡ 0
+  whole : d .whole ≡ 0
+
 -- ---- the run so far
 
 -- the code's state as a run
@@ -169,7 +184,8 @@ module _ (R : Rules) (l : List ℕ) (w : Rows) (p : Pool) (k : Counters) (ks₀ 
         let none-left : length (w .times) - i ≡ 0 = omega (arith, h .low) in
         stopped (rw none-left at (h .run))
 
-    module _ (lt : i < length (w .times)) (f : Heard) (ef : f ≡ frameAt w i) (d : Plan) (g : ℕ) (does : Does f q c d g (receiveOf R l f q c)) (b : Bool) (eb : b ≡ ltb (length ar) (used + (d .whole + d .short))) where
+    -- a frame by the plan d, whose message has n bytes
+    module _ (lt : i < length (w .times)) (f : Heard) (ef : f ≡ frameAt w i) (d : Plan) (g : ℕ) (does : Does f q c d g (receiveOf R l f q c)) (n : ℕ) (en : n ≡ d .whole + d .short) (b : Bool) (eb : b ≡ ltb (length ar) (used + n)) where
       abbrev more : length (w .times) - i ≡ suc (length (w .times) - suc i)
       more = omega arith
 
@@ -180,20 +196,20 @@ module _ (R : Rules) (l : List ℕ) (w : Rows) (p : Pool) (k : Counters) (ks₀ 
       unfolding answerTo soFar
       answer-is = rw (← ef) (sym (does .is))
 
-      told : length (z .messages) + answerTo R l z (frameAt w i) .length ≡ used + (d .whole + d .short)
+      told : length (z .messages) + answerTo R l z (frameAt w i) .length ≡ used + n
       unfolding soFar carried
-      told = rw (answer-is, length-take-le used ar (h .room))
+      told = rw (answer-is, length-take-le used ar (h .room), en)
 
       turned : pick b z (runFrom R l w (length ar₀) (length (w .times) - suc i) (suc i) (took z (answerTo R l z (frameAt w i)))) ≡ runOf R l w (length ar₀) p k
       turned = unfold runFrom in rw (eb, ← told, h .arena) (rw more at (h .run))
 
       -- the next message has no room
-      pub stops : b ≡ true
+      stops : b ≡ true
           → record { answer = record { refused = 0; taken = i; used = used; counters = c; pool = q }; kinds = ks; lengths = ls; arena = ar } ≡ leaves (runOf R l w (length ar₀) p k) ks₀ ls₀ ar₀
       stops y = stopped (unfold pick in rw y at turned)
 
-      pub fits-arena : b ≡ false → used + (d .whole + d .short) ≤ length ar
-      fits-arena y = ltb-false (length ar) (used + (d .whole + d .short)) (sym eb ∙ y)
+      fits-arena : b ≡ false → used + n ≤ length ar
+      fits-arena y = ltb-false (length ar) (used + n) (sym eb ∙ y)
 
       module _ (y : b ≡ false) (low : g < poolLimit) (eight : length (f .«data») ≡ 8) (alone : Apart d) (bs : List ℕ) (ebs : bs ≡ paste (q .bytes) (g * 223 + d .at) (drop (d .from) (f .«data»)) (d .count))
           (ar′ : List ℕ) (ear : ar′ ≡ paste (paste ar used (drop (g * 223) bs) (d .whole)) used (drop 2 (f .«data»)) (d .short)) (m : Counters) (em : m ≡ raised (d .mark) c) (v : ℕ) (ev : v ≡ kindNumber (d .kind)) where
@@ -201,7 +217,7 @@ module _ (R : Rules) (l : List ℕ) (w : Rows) (p : Pool) (k : Counters) (ks₀ 
         buffer-long = slot-long bs f q (h .whole) eight g d low (does .fits) ebs
 
         -- the pool after the frame
-        abbrev pub after : Pool
+        abbrev after : Pool
         after = record { size = q .size; heads = set (q .heads) g (d .head); bytes = bs }
 
         whole-there : d .whole ≤ length (drop (g * 223) bs)
@@ -210,13 +226,14 @@ module _ (R : Rules) (l : List ℕ) (w : Rows) (p : Pool) (k : Counters) (ks₀ 
         short-there : d .short ≤ length (drop 2 (f .«data»))
         short-there = simp length-drop (omega (arith, eight, does .fits .short))
 
-        took-is : took z (answerTo R l z (frameAt w i)) ≡ soFar after m (set ks i v) (set ls i (d .whole + d .short)) ar′ (used + (d .whole + d .short)) (i + 1)
+        took-is : took z (answerTo R l z (frameAt w i)) ≡ soFar after m (set ks i v) (set ls i n) ar′ (used + n) (i + 1)
         unfolding took soFar carried
         took-is =
             rw (
               answer-is,
+              en,
               ear,
-              laid-start ar (drop (g * 223) bs) (drop 2 (f .«data»)) used (d .whole) (d .short) (omega (arith, fits-arena y)) (omega (arith, fits-arena y)) whole-there short-there (does .fits .whole) (omega (arith, does .fits .short)) alone,
+              laid-start ar (drop (g * 223) bs) (drop 2 (f .«data»)) used (d .whole) (d .short) (omega (arith, en, fits-arena y)) (omega (arith, en, fits-arena y)) whole-there short-there (does .fits .whole) (omega (arith, does .fits .short)) alone,
               add-one i,
               take-suc-set ks i v (omega (arith, lt, h .fit .kinds, h .kinds)),
               take-suc-set ls i (d .whole + d .short) (omega (arith, lt, h .fit .lengths, h .lengths)),
@@ -229,9 +246,9 @@ module _ (R : Rules) (l : List ℕ) (w : Rows) (p : Pool) (k : Counters) (ks₀ 
         kept-past row row₀ x e =
             rw (drop-set-lt (i + 1) row i x (omega arith), ← drop-drop 1 i row, ← drop-drop 1 i row₀, e)
 
-        pub goes-on : Running (set ks i v) (set ls i (d .whole + d .short)) ar′ after m (used + (d .whole + d .short)) (i + 1)
+        goes-on : Running (set ks i v) (set ls i n) ar′ after m (used + n) (i + 1)
         goes-on =
-            let mid = laid-long ar (drop (g * 223) bs) (drop 2 (f .«data»)) used (d .whole) (d .short) (omega (arith, fits-arena y)) (omega (arith, fits-arena y)) whole-there short-there (does .fits .whole) (omega (arith, does .fits .short)) in
+            let mid = laid-long ar (drop (g * 223) bs) (drop 2 (f .«data»)) used (d .whole) (d .short) (omega (arith, en, fits-arena y)) (omega (arith, en, fits-arena y)) whole-there short-there (does .fits .whole) (omega (arith, does .fits .short)) in
             let long : length ar′ ≡ length ar = ap length ear ∙ mid in
             record {
               low = omega (arith, lt);
@@ -242,24 +259,74 @@ module _ (R : Rules) (l : List ℕ) (w : Rows) (p : Pool) (k : Counters) (ks₀ 
               arena = long ∙ h .arena;
               room = omega (arith, long, fits-arena y);
               kinds-kept = kept-past ks ks₀ v (h .kinds-kept);
-              lengths-kept = kept-past ls ls₀ (d .whole + d .short) (h .lengths-kept);
+              lengths-kept = kept-past ls ls₀ n (h .lengths-kept);
               arena-kept =
-                  ap (λ (r : List ℕ). drop (used + (d .whole + d .short)) r) ear
-                  ∙ laid-rest ar (drop (g * 223) bs) (drop 2 (f .«data»)) used (d .whole) (d .short) (omega (arith, fits-arena y)) (omega (arith, fits-arena y)) whole-there short-there (does .fits .whole) (omega (arith, does .fits .short)) alone
-                  ∙ rw (← drop-drop (d .whole + d .short) used ar, ← drop-drop (d .whole + d .short) used ar₀, h .arena-kept);
+                  rw (en, ear)
+                  (laid-rest ar (drop (g * 223) bs) (drop 2 (f .«data»)) used (d .whole) (d .short) (omega (arith, en, fits-arena y)) (omega (arith, en, fits-arena y)) whole-there short-there (does .fits .whole) (omega (arith, does .fits .short)) alone
+                  ∙ rw (← drop-drop (d .whole + d .short) used ar, ← drop-drop (d .whole + d .short) used ar₀, h .arena-kept));
               run = rw (← took-is, add-one i) (unfold pick in rw y at turned);
             }
 
       -- a frame that takes no slot: the pool is as it was
-      pub goes-past : b ≡ false → g < poolLimit → length (f .«data») ≡ 8 → Apart d → (e : Head) → Untouched (getD (q .heads) g e) d → (ar′ : List ℕ) → ar′ ≡ paste ar used (drop 2 (f .«data»)) (d .short)
-          → (m : Counters) → m ≡ raised (d .mark) c → (v : ℕ) → v ≡ kindNumber (d .kind) → Running (set ks i v) (set ls i (d .whole + d .short)) ar′ q m (used + (d .whole + d .short)) (i + 1)
-      goes-past y low eight alone e u ar′ ear m em v ev =
+      goes-past : b ≡ false → g < poolLimit → length (f .«data») ≡ 8 → (e : Head) → Untouched (getD (q .heads) g e) d → (ar′ : List ℕ) → ar′ ≡ paste ar used (drop 2 (f .«data»)) (d .short)
+          → (m : Counters) → m ≡ raised (d .mark) c → (v : ℕ) → v ≡ kindNumber (d .kind) → Running (set ks i v) (set ls i n) ar′ q m (used + n) (i + 1)
+      goes-past y low eight e u ar′ ear m em v ev =
           let bs : List ℕ = paste (q .bytes) (g * 223 + d .at) (drop (d .from) (f .«data»)) (d .count) in
           let kept : bs ≡ q .bytes = rw (u .count) (sym (paste-zero (q .bytes) (g * 223 + d .at) (drop (d .from) (f .«data»)))) in
           let same : record { size = q .size; heads = set (q .heads) g (d .head); bytes = bs } ≡ q = rw (u .head, kept, set-getD (q .heads) g e) in
           let laid-short : ar′ ≡ paste (paste ar used (drop (g * 223) bs) (d .whole)) used (drop 2 (f .«data»)) (d .short) = rw (u .whole, ← paste-zero ar used (drop (g * 223) bs)) ear in
-          subst (λ (x : Pool). Running (set ks i v) (set ls i (d .whole + d .short)) ar′ x m (used + (d .whole + d .short)) (i + 1)) same
-          (goes-on y low eight alone bs refl ar′ laid-short m em v ev)
+          subst (λ (x : Pool). Running (set ks i v) (set ls i n) ar′ x m (used + n) (i + 1)) same
+          (goes-on y low eight (inl (u .whole)) bs refl ar′ laid-short m em v ev)
+
+    -- ---- the four ways that the code has
+
+    module _ (lt : i < length (w .times)) (f : Heard) (ef : f ≡ frameAt w i) (g : ℕ) (low : g < poolLimit) (eight : length (f .«data») ≡ 8) (e : Head) where
+      no-bytes : false ≡ ltb (length ar) (used + 0)
+      no-bytes = sym (le-ltb (length ar) (used + 0) (omega (arith, h .room)))
+
+      -- neither a slot nor a message
+      pub goes-missed : (k₁ : Mark) → Does f q c (idle Ignored k₁ (getD (q .heads) g e)) g (receiveOf R l f q c) → (m : Counters) → m ≡ raised k₁ c → Running (set ks i 0) (set ls i 0) ar q m used (i + 1)
+      unfolding idle kindNumber
+      goes-missed k₁ does m em =
+          rw (add-zero used) at
+          (goes-past lt f ef (idle Ignored k₁ (getD (q .heads) g e)) g does 0 refl false no-bytes refl low eight e (record { head = refl; count = refl; whole = refl }) ar (paste-zero ar used (drop 2 (f .«data»))) m em 0 refl)
+
+      -- a message in one frame
+      pub goes-short : (n : ℕ) → Does f q c (shortPlan R f (getD (q .heads) g e) n) g (receiveOf R l f q c) → (b : Bool) → b ≡ ltb (length ar) (used + n) → b ≡ false
+          → (ar′ : List ℕ) → ar′ ≡ paste ar used (drop 2 (f .«data»)) n → Running (set ks i 2) (set ls i n) ar′ q c (used + n) (i + 1)
+      unfolding shortPlan kindNumber raised
+      goes-short n does b eb y ar′ ear =
+          goes-past lt f ef (shortPlan R f (getD (q .heads) g e) n) g does n (sym (zero-add n)) b eb y low eight e (record { head = refl; count = refl; whole = refl }) ar′ ear c refl 2 refl
+
+      -- seven bytes more
+      pub goes-running : Does f q c (runPlan R f (getD (q .heads) g e)) g (receiveOf R l f q c) → (t : Head) → t ≡ copiedHead f (getD (q .heads) g e)
+          → (bs : List ℕ) → bs ≡ paste (q .bytes) (g * 223 + getD (q .heads) g e .«current_size») (drop 1 (f .«data»)) 7
+          → Running (set ks i 1) (set ls i 0) ar (record { size = q .size; heads = set (q .heads) g t; bytes = bs }) c used (i + 1)
+      unfolding runPlan kindNumber raised
+      goes-running does t et bs ebs =
+          let laid-none : ar ≡ paste (paste ar used (drop (g * 223) bs) 0) used (drop 2 (f .«data»)) 0 = paste-zero ar used (drop (g * 223) bs) ∙ paste-zero (paste ar used (drop (g * 223) bs) 0) used (drop 2 (f .«data»)) in
+          rw (add-zero used, ← et) at
+          (goes-on lt f ef (runPlan R f (getD (q .heads) g e)) g does 0 refl false no-bytes refl low eight (inl refl) bs ebs ar laid-none c refl 1 refl)
+
+      -- by any plan for a slot
+      pub goes-by : (d : Plan) → Does f q c d g (receiveOf R l f q c) → d .short ≡ 0 → (b : Bool) → b ≡ ltb (length ar) (used + d .whole) → b ≡ false
+          → (bs : List ℕ) → bs ≡ paste (q .bytes) (g * 223 + d .at) (drop (d .from) (f .«data»)) (d .count) → (ar′ : List ℕ) → ar′ ≡ paste ar used (drop (g * 223) bs) (d .whole)
+          → (m : Counters) → m ≡ raised (d .mark) c → (v : ℕ) → v ≡ kindNumber (d .kind)
+          → Running (set ks i v) (set ls i (d .whole)) ar′ (record { size = q .size; heads = set (q .heads) g (d .head); bytes = bs }) m (used + d .whole) (i + 1)
+      goes-by d does none b eb y bs ebs ar′ ear m em v ev =
+          let all : d .whole ≡ d .whole + d .short = rw none (sym (add-zero (d .whole))) in
+          let laid-whole : ar′ ≡ paste (paste ar used (drop (g * 223) bs) (d .whole)) used (drop 2 (f .«data»)) (d .short) = rw none (ear ∙ paste-zero (paste ar used (drop (g * 223) bs) (d .whole)) used (drop 2 (f .«data»))) in
+          goes-on lt f ef d g does (d .whole) all b eb y low eight (inr none) bs ebs ar′ laid-whole m em v ev
+
+      -- a message in one frame, or one from a slot, that has no room
+      pub stops-short : (n : ℕ) → Does f q c (shortPlan R f (getD (q .heads) g e) n) g (receiveOf R l f q c) → (b : Bool) → b ≡ ltb (length ar) (used + n) → b ≡ true
+          → record { answer = record { refused = 0; taken = i; used = used; counters = c; pool = q }; kinds = ks; lengths = ls; arena = ar } ≡ leaves (runOf R l w (length ar₀) p k) ks₀ ls₀ ar₀
+      unfolding shortPlan
+      stops-short n does b eb y = stops lt f ef (shortPlan R f (getD (q .heads) g e) n) g does n (sym (zero-add n)) b eb y
+
+      pub stops-by : (d : Plan) → Does f q c d g (receiveOf R l f q c) → d .short ≡ 0 → (b : Bool) → b ≡ ltb (length ar) (used + d .whole) → b ≡ true
+          → record { answer = record { refused = 0; taken = i; used = used; counters = c; pool = q }; kinds = ks; lengths = ls; arena = ar } ≡ leaves (runOf R l w (length ar₀) p k) ks₀ ls₀ ar₀
+      stops-by d does none b eb y = stops lt f ef d g does (d .whole) (rw none (sym (add-zero (d .whole)))) b eb y
 
 -- ---- the call's three ways out
 

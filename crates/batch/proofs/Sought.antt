@@ -2,7 +2,7 @@
 -- Assumes nothing.
 use Prim.Native.Nat.{ℕ, suc, _+_, _*_, _≤_, _<_}
 use mathlib.Core.Path.{_≡_, refl, sym, ap, subst, _∙_}
-use mathlib.Core.Bool.{Bool, true, false, not, _&&_, _||_}
+use mathlib.Core.Bool.{Bool, true, false, not, _&&_, _||_, true≢false}
 use mathlib.Core.Option.{Option, none, some}
 use mathlib.Core.List.{List, [], _∷_}
 use lib.ListN.{length, getD, take, drop, set}
@@ -10,7 +10,7 @@ use lib.Seq.{paste, set-getD, getD-take, length-take-le}
 use lib.Dec.{eqb, ltb, leb}
 use native.Mathlib.Nat.{zero-add, add-zero}
 use native.Mathlib.Omega.{arith}
-use borrow.Author.Tests.{ltb-false, le-ltb, eq-eqb, ne-eqb}
+use borrow.Author.Tests.{ltb-false, lt-ltb, le-ltb, eq-eqb, ne-eqb}
 use Rattle.base.specs.Pick.{pick}
 use Rattle.base.specs.Lists.{next, here, firstAt}
 use Rattle.base.proofs.Cases.{same?}
@@ -23,11 +23,11 @@ use Rattle.session.specs.declared.Kind.the-variants.{Ignored}
 use Rattle.session.specs.declared.Mark.{Mark}
 use Rattle.session.specs.declared.Mark.the-variants.{Rejected, Unknown}
 use Rattle.session.specs.declared.Counters.{Counters}
-use Rattle.session.specs.Rules.{base, poolLimit, silence, keysEqual}
+use Rattle.session.specs.Rules.{Rules, base, poolLimit, silence, keysEqual}
 use Rattle.session.specs.Frames.{sequenceOf, indexOf, sizeOf, badSize, keyOf}
-use Rattle.session.specs.Heads.{headKey, hasKey, isSilent, isFree, isFreeOfSource, hasLiveKey}
+use Rattle.session.specs.Heads.{copiedHead, headKey, hasKey, isSilent, isFree, isFreeOfSource, hasLiveKey}
 use Rattle.session.specs.inner.Search.{seen, seenIf, seenIn, firstOf, placeOf, withinLimit}
-use Rattle.session.specs.inner.Plan.{idle, planShort, planSized, planFirst, planIndex, planListed, planOf}
+use Rattle.session.specs.inner.Plan.{idle, planOpen, planShort, planSized, planFirst, planCopy, planTurn, planNext, planIndex, planListed, planOf}
 use Rattle.session.proofs.Sound.{or-left, or-right}
 use Rattle.session.proofs.Seen.{place, seen-key, seen-live, seen-own, seen-free}
 use Rattle.assembler.specs.declared.Pool.{Pool}
@@ -41,6 +41,8 @@ use Rattle.assembler.proofs.ByCalls.{sized-view}
 use Rattle.assembler.proofs.Keeps.{keeps}
 use Rattle.assembler.proofs.Carries.{carried, Fits, Does, receives}
 use Rattle.batch.specs.inner.Mirror.{packed, keyNumber, frameKey, InRange, Shows, Mirrors, firstFrom, keyAt, openAt, ownAt, liveAt, chosenIn, liveIn, quiet, sought}
+use Rattle.batch.specs.inner.Ways.{shortIn, missMark, runsOn}
+use Rattle.batch.proofs.WayLaws.{plan-missed, shortPlan, plan-short, runPlan, plan-runs}
 use Rattle.batch.proofs.Runs.{looked-at}
 
 -- ---- a packed key tells its three parts apart
@@ -194,6 +196,31 @@ module _ (f : Heard) (p : Pool) (k : Counters) (e : Head) where
         fits = λ h h′ x. unfold planShort in record { room = x .room; there = x .there; whole = x .whole; short = x .short; total = x .total };
       }
 
+-- a frame that may take a slot is no message by itself
+loud-short : (R : Rules) (f : Heard) (h : Head) → (b : Bool) → leb (sizeOf f) 6 ≡ b → b ≡ false → planShort b true R f h .short ≡ 0
+unfolding planShort planOpen
+loud-short R f h true e n = absurd (true≢false n)
+loud-short R f h false e n = refl
+
+loud-sized : (R : Rules) (f : Heard) (h : Head) → quiet f ≡ false → (b : Bool) → planSized b true R f h .short ≡ 0
+unfolding planSized idle quiet
+loud-sized R f h q true = refl
+loud-sized R f h q false = loud-short R f h (leb (sizeOf f) 6) refl (or-left (leb (sizeOf f) 6) _ q)
+
+copy-short : (f : Heard) (h : Head) (b : Bool) → planCopy b f h .short ≡ 0
+unfolding planCopy
+copy-short f h true = refl
+copy-short f h false = refl
+
+turn-short : (f : Heard) (h : Head) (b : Bool) → planTurn b f h .short ≡ 0
+unfolding planTurn idle
+turn-short f h true = copy-short f h _
+turn-short f h false = refl
+
+next-short : (f : Heard) (h : Head) → planNext true f h .short ≡ 0
+unfolding planNext
+next-short f h = turn-short f h _
+
 -- ---- the search's place carries the frame out
 
 limit : base .limit ≡ poolLimit
@@ -267,11 +294,51 @@ module _ (l : List ℕ) (f : Heard) (p : Pool) (k : Counters) (w : Whole p) (eig
   at-sought false et = at-unlisted poolLimit (at-real false et)
 
   -- as the code comes by it
-  pub seeks : (t : Bool) (key i g : ℕ) (d : Plan) → t ≡ listedIn (f .pgn) l → key ≡ frameKey f → i ≡ sought ks os ts (p .size) t key f → g ≡ withinLimit i
-      → d ≡ planOf false t (ltb i poolLimit) base f (getD (p .heads) g e) → Does f p k d g (receiveOf base l f p k)
-  seeks t key i g d et ek ei eg ed =
-      let at : i ≡ sought ks os ts (p .size) t (frameKey f) f = ei ∙ rw ek in
-      rw (ed, eg, at) (at-sought t et)
+  module _ (t : Bool) (et : t ≡ listedIn (f .pgn) l) (key : ℕ) (ek : key ≡ frameKey f) (i : ℕ) (ei : i ≡ sought ks os ts (p .size) t key f) where
+    at-place : At t i
+    at-place = let at : i ≡ sought ks os ts (p .size) t (frameKey f) f = ei ∙ rw ek in rw at (at-sought t et)
+
+    -- no slot
+    at-none : poolLimit ≤ i → Does f p k (planOf false t false base f (getD (p .heads) 0 e)) 0 (receiveOf base l f p k)
+    unfolding withinLimit pick
+    at-none past = rw (le-ltb i poolLimit past) at at-place
+
+    pub seeks-missed : poolLimit ≤ i → (s : ℕ) → s ≡ shortIn t f → s ≡ 0 → Does f p k (idle Ignored (missMark t f) (getD (p .heads) 0 e)) 0 (receiveOf base l f p k)
+    seeks-missed past s es z = rw (plan-missed base f (getD (p .heads) 0 e) t (sym z ∙ es)) at (at-none past)
+
+    pub seeks-short : poolLimit ≤ i → (s : ℕ) → s ≡ shortIn t f → (s ≡ 0 → ⊥) → Does f p k (shortPlan base f (getD (p .heads) 0 e) s) 0 (receiveOf base l f p k)
+    seeks-short past s es n = rw es (rw (plan-short base f (getD (p .heads) 0 e) t (λ z. n (es ∙ z))) at (at-none past))
+
+    -- a slot: then the PGN is listed, and the frame is no message by itself
+    module _ (low : i < poolLimit) where
+      slot-listed : (b : Bool) → t ≡ b → b ≡ true
+      unfolding sought pick
+      slot-listed true e = refl
+      slot-listed false e = absurd (omega (arith, low, rw e at ei))
+
+      at-slot : Does f p k (planOf false true true base f (getD (p .heads) i e)) i (receiveOf base l f p k)
+      unfolding withinLimit pick
+      at-slot = rw (lt-ltb i poolLimit low, slot-listed t refl) at at-place
+
+      pub seeks-slot : (d : Plan) → d ≡ planOf false true true base f (getD (p .heads) i e) → Does f p k d i (receiveOf base l f p k)
+      seeks-slot d ed = rw ed at-slot
+
+      pub seeks-running : (b : Bool) → b ≡ runsOn f (getD (p .heads) i e) → b ≡ true → Does f p k (runPlan base f (getD (p .heads) i e)) i (receiveOf base l f p k)
+      seeks-running b eb y = rw (plan-runs base f (getD (p .heads) i e) (sym eb ∙ y)) at at-slot
+
+      slot-loud : eqb (indexOf f) 0 ≡ true → (y : Bool) → quiet f ≡ y → y ≡ false
+      unfolding sought pick
+      slot-loud z true q = absurd (omega (arith, low, rw (slot-listed t refl, z, q) at ei))
+      slot-loud z false q = refl
+
+      slot-index : (h : Head) (b : Bool) → eqb (indexOf f) 0 ≡ b → planIndex b true base f h .short ≡ 0
+      unfolding planIndex planFirst
+      slot-index h true z = loud-sized base f h (slot-loud z (quiet f) refl) (badSize f)
+      slot-index h false z = next-short f h
+
+      pub slot-alone : (d : Plan) (h : Head) → d ≡ planOf false true true base f h → d .short ≡ 0
+      unfolding planOf planListed
+      slot-alone d h ed = ap (λ (x : Plan). x .short) ed ∙ slot-index h (eqb (indexOf f) 0) refl
 
 -- ---- a possible pool stays possible
 
@@ -289,3 +356,8 @@ module _ (l : List ℕ) (f : Heard) (p : Pool) (k : Counters) (w : Whole p) (eig
   stays-possible d g does bs eb =
       let after : record { size = p .size; heads = set (p .heads) g (d .head); bytes = bs } ≡ receiveOf base l f p k .pool = rw eb (ap (λ (a : Received). a .pool) (does .is)) in
       rw after call-possible
+
+  pub runs-possible : (e : Head) (g : ℕ) → Does f p k (runPlan base f (getD (p .heads) g e)) g (receiveOf base l f p k) → (t : Head) → t ≡ copiedHead f (getD (p .heads) g e)
+      → (bs : List ℕ) → bs ≡ paste (p .bytes) (g * 223 + getD (p .heads) g e .«current_size») (drop 1 (f .«data»)) 7 → impossible base (slotsOf (record { size = p .size; heads = set (p .heads) g t; bytes = bs })) ≡ false
+  unfolding runPlan
+  runs-possible e g does t et bs ebs = rw et (stays-possible (runPlan base f (getD (p .heads) g e)) g does bs ebs)

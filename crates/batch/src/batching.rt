@@ -5,6 +5,7 @@ ghost use Rattle.batch.specs.Rows.{Left, batchOf};
 use crate::Batch;
 use crate::bytes::carry;
 use crate::bytes::deliver_short;
+use crate::bytes::keep;
 use crate::memory::PLACES;
 use crate::memory::looked_up;
 use crate::rows::frame_at;
@@ -16,6 +17,10 @@ use crate::search::key_of_frame;
 use crate::search::mirror_of;
 use crate::search::seek;
 use crate::search::walk;
+use crate::ways::missed;
+use crate::ways::ran_on;
+use crate::ways::runs_on;
+use crate::ways::short_in;
 use assembler::Pool;
 use fast_packet::is_listed;
 use plan::decide;
@@ -23,7 +28,6 @@ use session::Counters;
 use session::Heard;
 use session::POOL_LIMIT;
 use session::count;
-use slot_search::within_limit;
 
 const IMPOSSIBLE_POOL: u8 = 1;
 
@@ -98,11 +102,47 @@ pub fn process_frames(
         let heard = frame_at(times, frame_pgns, sources, data, i);
         let listed = looked_up(pgns, &mut asked, &mut known, heard.pgn);
         let key = key_of_frame(heard);
-        let place = seek(&keys, &owners, &lasts, q.size, listed, key, heard);
-        let g = within_limit(place);
-        let d = decide(false, listed, place < POOL_LIMIT, q.heads[g], heard);
-        let length = d.whole + d.short;
-        if no_room(arena.len(), used, length) {
+        let g = seek(&keys, &owners, &lasts, q.size, listed, key, heard);
+        let frame = heard.data;
+        // a frame that takes no slot leaves the pool as it is
+        if POOL_LIMIT <= g {
+            let short = short_in(listed, heard);
+            if short == 0 {
+                c = missed(c, listed, heard);
+                kinds[i] = 0;
+                lengths[i] = 0;
+                i += 1;
+                continue;
+            }
+            if no_room(arena.len(), used, short) {
+                return Batch {
+                    refused: 0,
+                    taken: i,
+                    used: used,
+                    counters: c,
+                    pool: q,
+                };
+            }
+            deliver_short(arena, used, frame, short);
+            kinds[i] = 2;
+            lengths[i] = short as u8;
+            used += short;
+            i += 1;
+            continue;
+        }
+        let h = q.heads[g];
+        // nearly every frame of a longer message: seven bytes more, and the message is not there yet
+        if runs_on(h, heard) {
+            q.heads[g] = ran_on(h, heard);
+            lasts[g] = heard.now_ms;
+            keep(&mut q.bytes, g, h.current_size, frame);
+            kinds[i] = 1;
+            lengths[i] = 0;
+            i += 1;
+            continue;
+        }
+        let d = decide(false, true, true, q.heads[g], heard);
+        if no_room(arena.len(), used, d.whole) {
             return Batch {
                 refused: 0,
                 taken: i,
@@ -115,21 +155,15 @@ pub fn process_frames(
         c = count(c, mark);
         let kind = d.kind;
         kinds[i] = number_of(kind);
-        lengths[i] = length as u8;
+        lengths[i] = d.whole as u8;
         let at = used;
-        used += length;
+        used += d.whole;
         i += 1;
-        let frame = heard.data;
-        // a frame that takes no slot leaves the pool as it is
-        if POOL_LIMIT <= place {
-            deliver_short(arena, at, frame, d.short);
-            continue;
-        }
-        let h = d.head;
-        q.heads[g] = h;
-        keys[g] = key_of(h);
-        owners[g] = h.source_address;
-        lasts[g] = h.last_seen_ms;
+        let t = d.head;
+        q.heads[g] = t;
+        keys[g] = key_of(t);
+        owners[g] = t.source_address;
+        lasts[g] = t.last_seen_ms;
         carry(
             &mut q.bytes,
             arena,
@@ -140,7 +174,6 @@ pub fn process_frames(
             d.from,
             d.count,
             d.whole,
-            d.short,
         );
     }
     Batch {

@@ -63,8 +63,22 @@ pub(crate) fn deliver_short(arena: &mut [u8], at: usize, frame: [u8; 8], n: usiz
     }
 }
 
+// Keeps the seven bytes of a continuation at place `at` of the buffer of slot g.
+pub(crate) fn keep(bytes: &mut [u8; POOL_BYTES], g: usize, at: usize, frame: [u8; 8])
+    requires { ⌜ (length (now bytes) ≡ poolBytes) × (g < poolLimit) × (at + 7 ≤ maxPayload) ⌝ }
+    ensures { λ r. ⌜ now (bytes .exit) ≡ paste (now (bytes .entry)) (g * maxPayload + at) (drop 1 frame) 7 ⌝ }
+{
+    put(
+        bytes,
+        g * MAX_FAST_PACKET_PAYLOAD + at,
+        frame,
+        1,
+        CONTINUATION_PAYLOAD,
+    );
+}
+
 // Carries a plan out on the bytes of slot g: `n` bytes of the frame, from `from` on, go to place `at` of its buffer; then a message of `whole` bytes
-// leaves the buffer, or one of `short` bytes the frame, for place `used` of the arena.
+// leaves the buffer for place `used` of the arena.
 pub(crate) fn carry(
     bytes: &mut [u8; POOL_BYTES],
     arena: &mut [u8],
@@ -75,13 +89,11 @@ pub(crate) fn carry(
     from: usize,
     n: usize,
     whole: usize,
-    short: usize,
 )
-    requires { ⌜ (length (now bytes) ≡ poolBytes) × (g < poolLimit) × (at + n ≤ maxPayload) × (from + n ≤ 8) × (whole ≤ maxPayload) × (short ≤ 6) × (used + whole ≤ length (now arena)) × (used + short ≤ length (now arena)) ⌝ }
-    ensures { λ r. ⌜ (now (bytes .exit) ≡ paste (now (bytes .entry)) (g * maxPayload + at) (drop from frame) n) × (now (arena .exit) ≡ paste (paste (now (arena .entry)) used (drop (g * maxPayload) (now (bytes .exit))) whole) used (drop 2 frame) short) ⌝ }
+    requires { ⌜ (length (now bytes) ≡ poolBytes) × (g < poolLimit) × (at + n ≤ maxPayload) × (from + n ≤ 8) × (whole ≤ maxPayload) × (used + whole ≤ length (now arena)) ⌝ }
+    ensures { λ r. ⌜ (now (bytes .exit) ≡ paste (now (bytes .entry)) (g * maxPayload + at) (drop from frame) n) × (now (arena .exit) ≡ paste (now (arena .entry)) used (drop (g * maxPayload) (now (bytes .exit))) whole) ⌝ }
 {
     let start = g * MAX_FAST_PACKET_PAYLOAD;
     store(bytes, start + at, frame, from, n);
     deliver(arena, used, bytes, start, whole);
-    deliver_short(arena, used, frame, short);
 }

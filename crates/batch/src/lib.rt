@@ -5,6 +5,7 @@ mod bytes;
 mod memory;
 mod rows;
 mod search;
+mod ways;
 
 use assembler::Pool;
 pub use batching::process_frames;

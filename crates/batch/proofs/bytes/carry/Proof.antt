@@ -17,13 +17,7 @@ deliver-requires c κs =
     ap length (c .before .before .store .ensures)
     ∙ length-paste (a .bytes .now) (a .g * 223 + a .at) (drop (a .from) (a .frame)) (a .n) (omega (arith, pre .0, pre .1, pre .2)) (simp length-drop (omega (arith, eight, pre .3)))
     ∙ pre .0 in
-    (pre .6, long, omega (arith, pre .1, pre .4))
-
-returns : tie.Need-returns
-returns c =
-    let stored = c .before .before .before .before .before .before .before .before .before .store .ensures in
-    let message = c .before .before .before .before .before .before .deliver .ensures in
-    (stored, c .before .before .deliver-short .ensures ∙ rw message)
+    (pre .5, long, omega (arith, pre .1, pre .4))
 
 pub carry-spec : {M : Type 1} → statement M
 carry-spec =
@@ -33,6 +27,5 @@ carry-spec =
     (λ c. search needs)
     (λ c κs. search needs)
     deliver-requires
-    (λ c κs. search needs)
     (λ c. search needs)
-    returns)
+    (λ c. search needs))

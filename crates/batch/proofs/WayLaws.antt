@@ -1,0 +1,160 @@
+-- The cases of the ways that most frames go, as the code meets them, and the plans that they stand for. Assumes nothing.
+use Prim.Native.Nat.{ℕ, _+_, _-_, _%_, _≤_, _<_}
+use mathlib.Core.Path.{_≡_, refl, sym, ap, _∙_}
+use mathlib.Core.Bool.{Bool, true, false, not, _&&_, _||_, true≢false}
+use lib.ListN.{getD}
+use lib.Dec.{eqb, ltb, leb}
+use native.Mathlib.Omega.{arith}
+use borrow.Author.Tests.{not-true, not-false, ltb-true, leb-true, eqb-true, lt-ltb, le-ltb, le-leb, lt-leb, eq-eqb, ne-eqb}
+use Rattle.base.specs.Pick.{pick}
+use Rattle.session.specs.declared.Heard.{Heard}
+use Rattle.session.specs.declared.Head.{Head}
+use Rattle.session.specs.declared.Plan.{Plan}
+use Rattle.session.specs.declared.Counters.{Counters}
+use Rattle.session.specs.declared.Kind.the-variants.{Ignored, FragmentConsumed, MessageComplete}
+use Rattle.session.specs.declared.Mark.the-variants.{Nothing, Exhausted, Rejected, Lost, Unknown}
+use Rattle.session.specs.Rules.{Rules}
+use Rattle.session.specs.Frames.{indexOf, sizeOf, badSize}
+use Rattle.session.specs.Heads.{inTurn, wanted, copiedHead, allThere}
+use Rattle.session.specs.Counting.{raised}
+use Rattle.session.specs.inner.Plan.{idle, planOpen, planShort, planSized, planFirst, planCopy, planTurn, planNext, planIndex, planListed, planOf}
+use Rattle.batch.specs.inner.Ways.{shortIn, missMark, runsOn}
+
+-- ---- the code's tests
+
+module _ (listed : Bool) (f : Heard) where
+  pub short-unlisted : not listed ≡ true → (0 ≡ shortIn listed f) × (0 ≤ 6)
+  unfolding shortIn pick
+  short-unlisted e = (rw (not-true listed e), omega arith)
+
+  pub miss-unlisted : (c r : Counters) → not listed ≡ true → r ≡ raised Unknown c → r ≡ raised (missMark listed f) c
+  unfolding missMark pick
+  miss-unlisted c r e er = er ∙ rw (not-true listed e)
+
+  module _ (e : not listed ≡ false) where
+    pub short-next : (getD (f .«data») 0 0 % 32 ≡ 0 → ⊥) → (0 ≡ shortIn listed f) × (0 ≤ 6)
+    unfolding shortIn pick indexOf
+    short-next z = (rw (not-false listed e, ne-eqb (getD (f .«data») 0 0 % 32) 0 z), omega arith)
+
+    pub miss-next : (c r : Counters) → (getD (f .«data») 0 0 % 32 ≡ 0 → ⊥) → r ≡ raised Lost c → r ≡ raised (missMark listed f) c
+    unfolding missMark pick indexOf
+    miss-next c r z er = er ∙ rw (not-false listed e, ne-eqb (getD (f .«data») 0 0 % 32) 0 z)
+
+    module _ (z : getD (f .«data») 0 0 % 32 ≡ 0) where
+      pub short-here : getD (f .«data») 1 0 ≤ 6 → (getD (f .«data») 1 0 ≡ shortIn listed f) × (getD (f .«data») 1 0 ≤ 6)
+      unfolding shortIn pick indexOf sizeOf
+      short-here l = (rw (not-false listed e, eq-eqb (getD (f .«data») 0 0 % 32) 0 z, le-leb (getD (f .«data») 1 0) 6 l), l)
+
+      pub short-over : 6 < getD (f .«data») 1 0 → (0 ≡ shortIn listed f) × (0 ≤ 6)
+      unfolding shortIn pick indexOf sizeOf
+      short-over l = (rw (not-false listed e, eq-eqb (getD (f .«data») 0 0 % 32) 0 z, lt-leb (getD (f .«data») 1 0) 6 l), omega arith)
+
+      module _ (c r : Counters) where
+        pub miss-none : getD (f .«data») 1 0 ≡ 0 → r ≡ raised Rejected c → r ≡ raised (missMark listed f) c
+        unfolding missMark pick indexOf badSize sizeOf
+        miss-none s er = er ∙ rw (not-false listed e, eq-eqb (getD (f .«data») 0 0 % 32) 0 z, eq-eqb (getD (f .«data») 1 0) 0 s)
+
+        pub miss-over : (getD (f .«data») 1 0 ≡ 0 → ⊥) → 223 < getD (f .«data») 1 0 → r ≡ raised Rejected c → r ≡ raised (missMark listed f) c
+        unfolding missMark pick indexOf badSize sizeOf
+        miss-over s l er = er ∙ rw (not-false listed e, eq-eqb (getD (f .«data») 0 0 % 32) 0 z, ne-eqb (getD (f .«data») 1 0) 0 s, lt-ltb 223 (getD (f .«data») 1 0) l)
+
+        pub miss-full : (getD (f .«data») 1 0 ≡ 0 → ⊥) → getD (f .«data») 1 0 ≤ 223 → r ≡ raised Exhausted c → r ≡ raised (missMark listed f) c
+        unfolding missMark pick indexOf badSize sizeOf
+        miss-full s l er = er ∙ rw (not-false listed e, eq-eqb (getD (f .«data») 0 0 % 32) 0 z, ne-eqb (getD (f .«data») 1 0) 0 s, le-ltb 223 (getD (f .«data») 1 0) l)
+
+module _ (f : Heard) (h : Head) where
+  pub runs-other : (getD (f .«data») 0 0 % 32 ≡ h .«last_frame_index» + 1 → ⊥) → false ≡ runsOn f h
+  unfolding runsOn inTurn indexOf
+  runs-other n = rw (ne-eqb (getD (f .«data») 0 0 % 32) (h .«last_frame_index» + 1) n)
+
+  module _ (e : getD (f .«data») 0 0 % 32 ≡ h .«last_frame_index» + 1) where
+    pub runs-next : ltb 7 (h .«expected_size» - h .«current_size») ≡ runsOn f h
+    unfolding runsOn inTurn indexOf
+    runs-next = rw (eq-eqb (getD (f .«data») 0 0 % 32) (h .«last_frame_index» + 1) e)
+
+    pub runs-past : h .«expected_size» < h .«current_size» → false ≡ runsOn f h
+    unfolding runsOn inTurn indexOf
+    runs-past l = rw (eq-eqb (getD (f .«data») 0 0 % 32) (h .«last_frame_index» + 1) e) (sym (le-ltb 7 (h .«expected_size» - h .«current_size») (omega arith)))
+
+pub ruleset ways = (short-unlisted, miss-unlisted, short-next, miss-next, short-here, short-over, miss-none, miss-over, miss-full, runs-other, runs-next, runs-past)
+
+-- ---- the plans of these ways
+
+module _ (R : Rules) (f : Heard) (h : Head) where
+  none-bad : 0 ≡ sizeOf f → badSize f ≡ true
+  unfolding badSize
+  none-bad z = rw (eq-eqb (sizeOf f) 0 (sym z))
+
+  -- no slot and no message: a counter, and nothing else
+  miss-sized : (b s : Bool) → badSize f ≡ b → leb (sizeOf f) 6 ≡ s → 0 ≡ pick s (sizeOf f) 0 → planSized b false R f h ≡ idle Ignored (pick b Rejected Exhausted) h
+  unfolding planSized planShort planOpen pick
+  miss-sized true s eb es z = refl
+  miss-sized false true eb es z = absurd (true≢false (sym (none-bad z) ∙ eb))
+  miss-sized false false eb es z = rw es
+
+  miss-index : (b : Bool) → eqb (indexOf f) 0 ≡ b → 0 ≡ pick b (pick (leb (sizeOf f) 6) (sizeOf f) 0) 0 → planIndex b false R f h ≡ idle Ignored (pick b (pick (badSize f) Rejected Exhausted) Lost) h
+  unfolding planIndex planFirst planNext pick
+  miss-index true eb z = miss-sized (badSize f) (leb (sizeOf f) 6) refl refl z
+  miss-index false eb z = refl
+
+  pub plan-missed : (t : Bool) → 0 ≡ shortIn t f → planOf false t false R f h ≡ idle Ignored (missMark t f) h
+  unfolding planOf planListed shortIn missMark pick
+  plan-missed true z = miss-index (eqb (indexOf f) 0) refl z
+  plan-missed false z = refl
+
+  -- a message in one frame
+  unfoldable pub shortPlan : ℕ → Plan
+  shortPlan n = record { kind = MessageComplete; mark = Nothing; head = h; at = 0; from = 0; count = 0; whole = 0; short = n }
+
+  short-sized : (s : Bool) → leb (sizeOf f) 6 ≡ s → (pick s (sizeOf f) 0 ≡ 0 → ⊥) → planSized (badSize f) false R f h ≡ shortPlan (pick s (sizeOf f) 0)
+  unfolding planSized planShort shortPlan pick badSize
+  short-sized true es n = rw (ne-eqb (sizeOf f) 0 n, le-ltb 223 (sizeOf f) (omega (arith, leb-true (sizeOf f) 6 es)), es)
+  short-sized false es n = absurd (n refl)
+
+  short-index : (b : Bool) → eqb (indexOf f) 0 ≡ b → (pick b (pick (leb (sizeOf f) 6) (sizeOf f) 0) 0 ≡ 0 → ⊥) → planIndex b false R f h ≡ shortPlan (pick b (pick (leb (sizeOf f) 6) (sizeOf f) 0) 0)
+  unfolding planIndex planFirst pick
+  short-index true eb n = short-sized (leb (sizeOf f) 6) refl n
+  short-index false eb n = absurd (n refl)
+
+  pub plan-short : (t : Bool) → (shortIn t f ≡ 0 → ⊥) → planOf false t false R f h ≡ shortPlan (shortIn t f)
+  unfolding planOf planListed shortIn pick
+  plan-short true n = short-index (eqb (indexOf f) 0) refl n
+  plan-short false n = absurd (n refl)
+
+  -- seven bytes more
+  unfoldable pub runPlan : Plan
+  runPlan = record { kind = FragmentConsumed; mark = Nothing; head = copiedHead f h; at = h .«current_size»; from = 1; count = 7; whole = 0; short = 0 }
+
+  and-left : (a b : Bool) → (a && b) ≡ true → a ≡ true
+  and-left true b e = refl
+  and-left false b e = e
+
+  and-right : (a b : Bool) → (a && b) ≡ true → b ≡ true
+  and-right true b e = e
+  and-right false b e = absurd (true≢false (sym e))
+
+  run-turn : runsOn f h ≡ true → inTurn f h ≡ true
+  unfolding runsOn
+  run-turn e = and-left (inTurn f h) _ e
+
+  pub run-missing : runsOn f h ≡ true → 7 < h .«expected_size» - h .«current_size»
+  unfolding runsOn
+  run-missing e = ltb-true 7 (h .«expected_size» - h .«current_size») (and-right (inTurn f h) _ e)
+
+  run-seven : runsOn f h ≡ true → wanted h ≡ 7
+  unfolding wanted
+  run-seven e = omega (arith, run-missing e)
+
+  run-later : runsOn f h ≡ true → eqb (indexOf f) 0 ≡ false
+  unfolding inTurn
+  run-later e =
+      let index : indexOf f ≡ h .«last_frame_index» + 1 = eqb-true (indexOf f) (h .«last_frame_index» + 1) (run-turn e) in
+      ne-eqb (indexOf f) 0 (λ z. absurd (omega (arith, z, index)))
+
+  run-more : runsOn f h ≡ true → allThere (copiedHead f h) ≡ false
+  unfolding allThere copiedHead
+  run-more e = rw (run-seven e) (lt-leb (h .«expected_size») (h .«current_size» + 7) (omega (arith, run-missing e)))
+
+  pub plan-runs : runsOn f h ≡ true → planOf false true true R f h ≡ runPlan
+  unfolding planOf planListed planIndex planNext planTurn planCopy runPlan
+  plan-runs e = rw (run-later e, run-turn e, run-more e, run-seven e)

@@ -1,0 +1,23 @@
+-- The ways that most frames go, as the code tells them apart. Nobody needs to believe these definitions: only the code's own contracts cite them.
+use mathlib.Core.Bool.{Bool, _&&_}
+use Prim.Native.Nat.{ℕ, _-_}
+use lib.Dec.{eqb, ltb, leb}
+use Rattle.base.specs.Pick.{pick}
+use Rattle.session.specs.declared.Head.{Head}
+use Rattle.session.specs.declared.Heard.{Heard}
+use Rattle.session.specs.declared.Mark.{Mark}
+use Rattle.session.specs.declared.Mark.the-variants.{Exhausted, Rejected, Lost, Unknown}
+use Rattle.session.specs.Frames.{indexOf, sizeOf, badSize}
+use Rattle.session.specs.Heads.{inTurn}
+
+-- how many bytes the message has that comes in this one frame; 0 where none does
+unfoldable pub shortIn : Bool → Heard → ℕ
+shortIn listed f = pick listed (pick (eqb (indexOf f) 0) (pick (leb (sizeOf f) 6) (sizeOf f) 0) 0) 0
+
+-- the counter that a frame with no slot and no message raises
+unfoldable pub missMark : Bool → Heard → Mark
+missMark listed f = pick listed (pick (eqb (indexOf f) 0) (pick (badSize f) Rejected Exhausted) Lost) Unknown
+
+-- the session's next frame, and more than its seven bytes are missing
+unfoldable pub runsOn : Heard → Head → Bool
+runsOn f h = inTurn f h && ltb 7 (h .«expected_size» - h .«current_size»)
