@@ -144,7 +144,7 @@ tests-give false false true d n fs e = let z : _≡_ {A = ℕ} 0 1 = cc in absur
 tests-give false false false true n fs e = let z : _≡_ {A = ℕ} 0 1 = cc in absurd (omega arith)
 tests-give false false false false n fs e = (refl, refl, refl)
 
-length-frames : (id sequence : ℕ) (p : List ℕ) (n k : ℕ) → length (framesFrom id sequence p k n) ≡ n
+pub length-frames : (id sequence : ℕ) (p : List ℕ) (n k : ℕ) → length (framesFrom id sequence p k n) ≡ n
 length-frames id sequence p zero k = refl
 length-frames id sequence p (suc n) k = ap suc (length-frames id sequence p n (suc k))
 
