@@ -15,7 +15,7 @@ use Rattle.ffi.specs.Bench.{five, fiveOf}
 use Rattle.ffi.specs.inner.Fives.{oneNumber, twoNumbers, fiveNumbers, faultFive, reassembledFive, checkedFive}
 
 faults : (f : Fault) → faultFive f ≡ five (valuesOf f)
-unfolding five valuesOf oneNumber twoNumbers fiveNumbers
+unfolding five valuesOf
 faults (Length n len) = refl
 faults (Restarted n) = refl
 faults (Announced n size) = refl
@@ -24,14 +24,14 @@ faults (Order n sequence index wanted next) = refl
 faults (Padding n byte) = refl
 
 reassembled : (r : Reassembled) → reassembledFive r ≡ fiveOf (ofReassembled r)
-unfolding five fiveOf ofReassembled oneNumber
+unfolding five fiveOf ofReassembled
 reassembled (Messages n) = refl
 reassembled (Refused f) = faults f
 reassembled (Incomplete size) = refl
 reassembled NoRoom = refl
 
 checked : (c : Checked) → checkedFive c ≡ fiveOf (ofChecked c)
-unfolding five fiveOf ofChecked oneNumber
+unfolding five fiveOf ofChecked
 checked Good = refl
 checked NoCount = refl
 checked Over = refl

@@ -31,7 +31,7 @@ use Rattle.batch.specs.declared.Batch.{Batch}
 use Rattle.ffi.specs.Batches.{LeftPool, LeftBy, batchWith}
 use Rattle.ffi.specs.Ids.{partsOf, setPriority, setDestination, setOf, bothOf}
 use Rattle.ffi.specs.Numbers.{isSet, laidOn, flagOn, byteOn, wordOn, toAddress, codeOf, valueOf}
-use Rattle.ffi.specs.Pool.{headAt, headsFrom, putFlag, putByte, putWord, headLaid, laid, poolFrom, countersFrom, calledWith, calledWithLength, Left, MadeAs}
+use Rattle.ffi.specs.Pool.{headAt, headsFrom, putFlag, putByte, putWord, keyLaid, sizesLaid, headLaid, laid, poolFrom, countersFrom, calledWith, calledWithLength, Left, MadeAs}
 use Rattle.ffi.specs.Frames.{builderFrom, builderNumbers, iteratorFrom, placeLaid, turnStep, nextWith, turnWith, madeWith, heldAfter, madeNumbers, Told}
 
 -- ---- the setters of an identifier's builder, one after the other
@@ -78,50 +78,47 @@ turn-by n place payload e f g = g ∙ ap turnStep (f ∙ ap (λ (t : FrameIterat
 pub place-by : (place : List ℕ) {s t : Step} {r : List ℕ} → r ≡ placeLaid place s → s ≡ t → r ≡ placeLaid place t
 place-by place h e = h ∙ ap (placeLaid place) e
 
-pub begun-by : (pgn source d : ℕ) (payload pgns : List ℕ) (held : ℕ) {k : ℕ} {to : Destination} {m : Begun} {r : ℕ} {v : List ℕ}
-    → k ≡ d → to ≡ toAddress k → m ≡ madeOf pgn source to payload pgns held → (r ≡ heldAfter m) × (v ≡ madeNumbers m)
+pub begun-by : (pgn source d : ℕ) (payload pgns : List ℕ) (held : ℕ) {to : Destination} {m : Begun} {r : ℕ} {v : List ℕ}
+    → to ≡ toAddress d → m ≡ madeOf pgn source to payload pgns held → (r ≡ heldAfter m) × (v ≡ madeNumbers m)
     → (r ≡ heldAfter (madeWith pgn source d payload pgns held)) × (v ≡ madeNumbers (madeWith pgn source d payload pgns held))
 unfolding madeWith
-begun-by pgn source d payload pgns held e f g (h, i) =
-    let whole = g ∙ ap (λ (x : Destination). madeOf pgn source x payload pgns held) (f ∙ ap toAddress e) in
+begun-by pgn source d payload pgns held f g (h, i) =
+    let whole = g ∙ ap (λ (x : Destination). madeOf pgn source x payload pgns held) f in
     (h ∙ ap heldAfter whole, i ∙ ap madeNumbers whole)
 
 -- ---- an identifier built, by what its builder is
 pub answered-by : {a b : Answer ℕ} {r v : ℕ} → (r ≡ codeOf a) × (v ≡ valueOf a) → a ≡ b → (r ≡ codeOf b) × (v ≡ valueOf b)
 answered-by {r = r} {v} h e = subst (λ (x : Answer ℕ). (r ≡ codeOf x) × (v ≡ valueOf x)) e h
 
-pub parts-by : (priority pgn source d : ℕ) {k : ℕ} {to : Destination} {a : Answer ℕ}
-    → k ≡ d → to ≡ toAddress k → a ≡ buildOf (record { priority = priority; pgn = pgn; «source_address» = source; destination = to }) → a ≡ buildOf (partsOf priority pgn source d)
+pub parts-by : (priority pgn source d : ℕ) {to : Destination} {a : Answer ℕ}
+    → to ≡ toAddress d → a ≡ buildOf (record { priority = priority; pgn = pgn; «source_address» = source; destination = to }) → a ≡ buildOf (partsOf priority pgn source d)
 unfolding partsOf
-parts-by priority pgn source d e f g =
-    g ∙ ap (λ (x : Destination). buildOf (record { priority = priority; pgn = pgn; «source_address» = source; destination = x })) (f ∙ ap toAddress e)
+parts-by priority pgn source d f g =
+    g ∙ ap (λ (x : Destination). buildOf (record { priority = priority; pgn = pgn; «source_address» = source; destination = x })) f
 
 pub set-by : (pgn source priority d : ℕ) {b c e : CanIdBuilder} → b ≡ fresh pgn source → c ≡ setPriority priority b → e ≡ setDestination d c → e ≡ setOf pgn source priority d
 unfolding setOf
 set-by pgn source priority d f g h = h ∙ ap (setDestination d) (g ∙ ap (setPriority priority) f)
 
 -- ---- a flag over a number: by the two flags as numbers
-module _ (old : ℕ) (x : Bool) {s : Bool} {a b : ℕ} (e : s ≡ isSet old) (f : a ≡ pick s 1 0) (g : b ≡ pick x 1 0) where
-  read-flag : a ≡ pick (isSet old) 1 0
-  read-flag = f ∙ ap (λ (t : Bool). pick t 1 0) e
-
+module _ (old : ℕ) (x : Bool) {a b : ℕ} (f : a ≡ pick (isSet old) 1 0) (g : b ≡ pick x 1 0) where
   pub flag-kept : a ≡ b → old ≡ flagOn old x
   unfolding flagOn laidOn
-  flag-kept h = when-eq old (pick x 1 0) (sym read-flag ∙ h ∙ g) refl
+  flag-kept h = when-eq old (pick x 1 0) (sym f ∙ h ∙ g) refl
 
   pub flag-laid : {r : ℕ} → (a ≡ b → ⊥) → r ≡ pick x 1 0 → r ≡ flagOn old x
   unfolding flagOn laidOn
-  flag-laid h k = when-ne old (pick x 1 0) (λ p. h (read-flag ∙ p ∙ sym g)) k
+  flag-laid h k = when-ne old (pick x 1 0) (λ p. h (f ∙ p ∙ sym g)) k
 
 pub ruleset flags = (flag-kept, flag-laid)
 
 -- ---- a head and a pool read field by field
-pub head-by : (n : List ℕ) (at : ℕ) {a : Bool} {b c d e f g h : ℕ}
-    → a ≡ isSet (getD n at 0) → b ≡ getD n (at + 1) 0 % 0x100 → c ≡ getD n (at + 2) 0 % 0x100 → d ≡ getD n (at + 3) 0 % 0x100 → e ≡ getD n (at + 4) 0 % 0x1_0000_0000
+pub head-by : (n : List ℕ) (at : ℕ) {b c d e w f g h : ℕ}
+    → w ≡ getD n at 0 → b ≡ getD n (at + 1) 0 % 0x100 → c ≡ getD n (at + 2) 0 % 0x100 → d ≡ getD n (at + 3) 0 % 0x100 → e ≡ getD n (at + 4) 0 % 0x1_0000_0000
     → f ≡ getD n (at + 5) 0 → g ≡ getD n (at + 6) 0 → h ≡ getD n (at + 7) 0
-    → record { «in_progress» = a; «source_address» = b; «sequence_id» = c; «last_frame_index» = d; pgn = e; «expected_size» = f; «current_size» = g; «last_seen_ms» = h } ≡ headAt n at
+    → record { «in_progress» = isSet w; «source_address» = b; «sequence_id» = c; «last_frame_index» = d; pgn = e; «expected_size» = f; «current_size» = g; «last_seen_ms» = h } ≡ headAt n at
 unfolding headAt
-head-by n at a b c d e f g h = rw (a, b, c, d, e, f, g, h) refl
+head-by n at w b c d e f g h = rw (w, b, c, d, e, f, g, h) refl
 
 pub pool-by : (size : ℕ) (heads bytes : List ℕ) {h : List Head} → h ≡ headsFrom heads → record { size = size; heads = h; bytes = bytes } ≡ poolFrom size heads bytes
 unfolding poolFrom
@@ -141,12 +138,15 @@ unfolding putWord
 word-put n i x e = ap (set n i) e
 
 -- ---- a head laid number by number
-pub head-laid : (n : List ℕ) (at : ℕ) (h : Head) {a b c d e f g r : List ℕ} {x y : ℕ}
+pub key-laid : (n : List ℕ) (at : ℕ) (h : Head) {a b c d r : List ℕ}
     → a ≡ putFlag n at (h .«in_progress») → b ≡ putByte a (at + 1) (h .«source_address») → c ≡ putByte b (at + 2) (h .«sequence_id») → d ≡ putByte c (at + 3) (h .«last_frame_index»)
-    → e ≡ putWord d (at + 4) (h .pgn) → x ≡ h .«expected_size» → f ≡ set e (at + 5) x → y ≡ h .«current_size» → g ≡ set f (at + 6) y → r ≡ set g (at + 7) (h .«last_seen_ms»)
-    → r ≡ headLaid n at h
+    → r ≡ putWord d (at + 4) (h .pgn) → r ≡ keyLaid n at h
+unfolding keyLaid
+key-laid n at h A B C D R = rw (R, D, C, B, A) refl
+
+pub head-laid : (n : List ℕ) (at : ℕ) (h : Head) {a r : List ℕ} → a ≡ keyLaid n at h → r ≡ sizesLaid a at h → r ≡ headLaid n at h
 unfolding headLaid
-head-laid n at h A B C D E X F Y G R = rw (R, G, Y, F, X, E, D, C, B, A) refl
+head-laid n at h A R = rw (R, A) refl
 
 -- ---- heads laid one after the other
 pub laid-none : (heads : List Head) (n : List ℕ) → n ≡ laid 0 heads n

@@ -25,7 +25,7 @@ use Rattle.assembler.specs.declared.Received.{Received}
 use Rattle.assembler.proofs.Views.{view-back}
 use Rattle.batch.specs.Rows.{Rows, Run, batchOf, leaves, refusedBy, Left as Rowed}
 use Rattle.ffi.specs.Numbers.{isSet, laidOn, flagOn, byteOn, wordOn}
-use Rattle.ffi.specs.Pool.{headAt, putFlag, putByte, putWord, headLaid, headsFrom, laid, poolFrom, countersFrom, counterNumbers, kindCode, Left, calledWith, calledWithLength, MadeAs}
+use Rattle.ffi.specs.Pool.{headAt, putFlag, putByte, putWord, keyLaid, sizesLaid, headLaid, headsFrom, laid, poolFrom, countersFrom, counterNumbers, kindCode, Left, calledWith, calledWithLength, MadeAs}
 use Rattle.ffi.specs.Batches.{LeftPool, LeftBy, batchWith}
 
 -- ---- what was read from a number leaves it
@@ -34,7 +34,7 @@ unfolding laidOn
 same old new = sym (when-eq old new {a = new} refl refl)
 
 head-same : (n : List ℕ) (at : ℕ) {m : List ℕ} → m ≡ n → headLaid m at (headAt n at) ≡ n
-unfolding headLaid headAt putFlag putByte putWord flagOn byteOn wordOn
+unfolding headLaid keyLaid sizesLaid headAt putFlag putByte putWord flagOn byteOn wordOn
 head-same n at e =
     rw (
       e,

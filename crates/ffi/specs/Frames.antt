@@ -75,7 +75,7 @@ pub record Told (s : Step) (code : ℕ) (bytes frame : List ℕ) : Type 0 where
   pub named : frame ≡ stepFrame s
 
 -- the frame index and the bytes sent that follow
-unfoldable pub stepAfter : Step → List ℕ
+abbrev pub stepAfter : Step → List ℕ
 stepAfter s = s .index ∷ s .bytes ∷ []
 
 -- and over a place, by the rule of `laidOn`

@@ -9,7 +9,7 @@ use Rattle.can_id.specs.declared.Destination.{Destination}
 use Rattle.can_id.specs.declared.Destination.the-variants.{Nobody, To}
 
 -- a flag is any number but 0
-unfoldable pub isSet : ℕ → Bool
+abbrev pub isSet : ℕ → Bool
 isSet n = not (eqb n 0)
 
 -- A number is written only where the field that is read from it has changed: over `old`, from which `read` was read.

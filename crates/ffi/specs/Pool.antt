@@ -34,7 +34,7 @@ headAt n at =
       «last_seen_ms» = getD n (at + 7) 0;
     }
 
--- laid back, each number by the rule of `laidOn`; of a number that is as wide as its field nothing is lost by writing it
+-- a field laid over the number that it was read from, by the rule of `laidOn`
 unfoldable pub putFlag : List ℕ → ℕ → Bool → List ℕ
 putFlag n i x = set n i (flagOn (getD n i 0) x)
 
@@ -44,16 +44,21 @@ putByte n i x = set n i (byteOn (getD n i 0) x)
 unfoldable pub putWord : List ℕ → ℕ → ℕ → List ℕ
 putWord n i x = set n i (wordOn (getD n i 0) x)
 
-unfoldable pub headLaid : List ℕ → ℕ → Head → List ℕ
-headLaid n at h =
-    set (set (set (putWord (putByte (putByte (putByte (putFlag n at (h .«in_progress»))
+-- a head laid back: first flag, source, sequence, index and PGN
+unfoldable pub keyLaid : List ℕ → ℕ → Head → List ℕ
+keyLaid n at h =
+    putWord (putByte (putByte (putByte (putFlag n at (h .«in_progress»))
     (at + 1) (h .«source_address»))
     (at + 2) (h .«sequence_id»))
     (at + 3) (h .«last_frame_index»))
-    (at + 4) (h .pgn))
-    (at + 5) (h .«expected_size»))
-    (at + 6) (h .«current_size»))
-    (at + 7) (h .«last_seen_ms»)
+    (at + 4) (h .pgn)
+
+-- then the sizes and the time, which are as wide as their numbers
+unfoldable pub sizesLaid : List ℕ → ℕ → Head → List ℕ
+sizesLaid n at h = set (set (set n (at + 5) (h .«expected_size»)) (at + 6) (h .«current_size»)) (at + 7) (h .«last_seen_ms»)
+
+unfoldable pub headLaid : List ℕ → ℕ → Head → List ℕ
+headLaid n at h = sizesLaid (keyLaid n at h) at h
 
 -- eight heads are 64: head k stands at 8 * k
 unfoldable pub headsFrom : List ℕ → List Head

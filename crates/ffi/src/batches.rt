@@ -2,7 +2,6 @@
 ghost use mathlib.Core.Path.{_≡_};
 ghost use Rattle.batch.specs.Rows.{Rows, Left};
 ghost use Rattle.ffi.specs.Batches.{LeftPool, LeftBy, batchWith};
-use crate::numbers::wide_size;
 use crate::pool::counter_numbers;
 use crate::pool::counters_from;
 use crate::pool::pool_from;
@@ -27,7 +26,7 @@ fn leave_batch(
     *bytes = b;
     let after = r.counters;
     *counters = counter_numbers(after);
-    *counts = [wide_size(r.taken), wide_size(r.used)];
+    *counts = [r.taken as u64, r.used as u64];
     r.refused as u32
 }
 

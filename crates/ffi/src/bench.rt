@@ -9,8 +9,6 @@ ghost use Rattle.oracle.specs.Rows.{rowIn};
 ghost use Rattle.ffi.specs.Numbers.{codeOf, valueOf};
 ghost use Rattle.ffi.specs.inner.Fives.{oneNumber, twoNumbers, fiveNumbers, faultFive, reassembledFive, checkedFive};
 ghost use Rattle.ffi.specs.Bench.{fiveOf, Reassembles, Splits, reassembledIn, splitIn};
-use crate::numbers::wide;
-use crate::numbers::wide_size;
 use oracle::Reassembled;
 use oracle::check_tx_rows;
 use oracle::reassemble_rows;
@@ -25,37 +23,37 @@ use verdicts::Fault;
 fn one(n: usize) -> [u64; 5]
     ensures { λ r. ⌜ r ≡ oneNumber n ⌝ }
 {
-    [wide_size(n), 0, 0, 0, 0]
+    [n as u64, 0, 0, 0, 0]
 }
 
 fn with_size(n: usize, x: usize) -> [u64; 5]
     ensures { λ r. ⌜ r ≡ twoNumbers n x ⌝ }
 {
-    [wide_size(n), wide_size(x), 0, 0, 0]
+    [n as u64, x as u64, 0, 0, 0]
 }
 
 fn with_byte(n: usize, x: u8) -> [u64; 5]
     ensures { λ r. ⌜ r ≡ twoNumbers n x ⌝ }
 {
-    [wide_size(n), wide(x), 0, 0, 0]
+    [n as u64, x as u64, 0, 0, 0]
 }
 
 fn with_order(n: usize, sequence: u8, index: u8, wanted: u8, next: u8) -> [u64; 5]
     ensures { λ r. ⌜ r ≡ fiveNumbers n sequence index wanted next ⌝ }
 {
     [
-        wide_size(n),
-        wide(sequence),
-        wide(index),
-        wide(wanted),
-        wide(next),
+        n as u64,
+        sequence as u64,
+        index as u64,
+        wanted as u64,
+        next as u64,
     ]
 }
 
 fn just_byte(x: u8) -> [u64; 5]
     ensures { λ r. ⌜ r ≡ oneNumber x ⌝ }
 {
-    [wide(x), 0, 0, 0, 0]
+    [x as u64, 0, 0, 0, 0]
 }
 
 fn told_fault(fault: Fault, values: &mut [u64; 5]) -> u32

@@ -9,16 +9,8 @@ use crate::numbers::byte_on;
 use crate::numbers::carried;
 use crate::numbers::destination_from;
 use crate::numbers::flag;
-use crate::numbers::is_set;
-use crate::numbers::low_byte;
-use crate::numbers::low_word;
 use crate::numbers::number_of;
 use crate::numbers::refusal;
-use crate::numbers::size_from;
-use crate::numbers::wide;
-use crate::numbers::wide_half;
-use crate::numbers::wide_size;
-use crate::numbers::wide_word;
 use builder::FastPacketBuilder;
 use builder::FrameIterator;
 use builder::Item;
@@ -33,12 +25,12 @@ fn builder_from(n: &[u64; 6]) -> FastPacketBuilder
     ensures { λ r. ⌜ r ≡ builderFrom (now (n .entry)) ⌝ }
 {
     FastPacketBuilder {
-        pgn: low_word(n[0]),
-        source_address: low_byte(n[1]),
+        pgn: (n[0] % 0x1_0000_0000) as u32,
+        source_address: (n[1] % 0x100) as u8,
         destination: destination_from(n[2]),
-        priority: low_byte(n[3]),
-        sequence_id: low_byte(n[4]),
-        fast: is_set(n[5]),
+        priority: (n[3] % 0x100) as u8,
+        sequence_id: (n[4] % 0x100) as u8,
+        fast: n[5] != 0,
     }
 }
 
@@ -47,11 +39,11 @@ fn builder_numbers(b: FastPacketBuilder) -> [u64; 6]
 {
     let destination = b.destination;
     [
-        wide_word(b.pgn),
-        wide(b.source_address),
-        wide_half(number_of(destination)),
-        wide(b.priority),
-        wide(b.sequence_id),
+        b.pgn as u64,
+        b.source_address as u64,
+        number_of(destination) as u64,
+        b.priority as u64,
+        b.sequence_id as u64,
         flag(b.fast),
     ]
 }
@@ -80,7 +72,7 @@ pub extern "C" fn hf_builder_new(
     ensures { λ r. ⌜ (r ≡ heldAfter (madeWith pgn «source_address» destination (now (payload .entry)) (now (pgns .entry)) «sequence_id»))
         × (now (builder .exit) ≡ madeNumbers (madeWith pgn «source_address» destination (now (payload .entry)) (now (pgns .entry)) «sequence_id»)) ⌝ }
 {
-    let to = destination_from(wide_half(destination));
+    let to = destination_from(destination as u64);
     let made = FastPacketBuilder::new(pgn, source_address, to, payload, pgns, sequence_id);
     lay_made(made, builder)
 }
@@ -135,9 +127,9 @@ fn frame_numbers(frame: CanFrame, kind: NextKind) -> [u64; 3]
     ensures { λ r. ⌜ r ≡ (frame .id .0 ∷ frame .len ∷ kindCarries (kindOf kind) ∷ []) ⌝ }
 {
     [
-        wide_word(frame.id.0),
-        wide_size(frame.len),
-        wide_word(kind_carries(kind)),
+        frame.id.0 as u64,
+        frame.len as u64,
+        kind_carries(kind) as u64,
     ]
 }
 
@@ -155,7 +147,7 @@ fn told(next: Next, data: &mut [u8; 8], frame: &mut [u64; 3]) -> u32
 fn after_numbers(next: Next) -> [u64; 2]
     ensures { λ r. ⌜ r ≡ stepAfter (stepOf next) ⌝ }
 {
-    [wide(next.frame_index), wide_size(next.bytes_sent)]
+    [next.frame_index as u64, next.bytes_sent as u64]
 }
 
 // ---- the next frame, at any frame index and bytes sent
@@ -188,15 +180,15 @@ fn iterator_from(builder: &[u64; 6], place: &[u64; 2]) -> FrameIterator
     let b = builder_from(builder);
     FrameIterator {
         builder: b,
-        frame_index: low_byte(place[0]),
-        bytes_sent: size_from(place[1]),
+        frame_index: (place[0] % 0x100) as u8,
+        bytes_sent: place[1] as usize,
     }
 }
 
 fn place_numbers(t: FrameIterator) -> [u64; 2]
     ensures { λ r. ⌜ r ≡ placeNumbers t ⌝ }
 {
-    [wide(t.frame_index), wide_size(t.bytes_sent)]
+    [t.frame_index as u64, t.bytes_sent as u64]
 }
 
 // The place before the first frame.
@@ -227,10 +219,7 @@ fn step_in(item: Item) -> Next
 fn go_on(place: &mut [u64; 2], next: Next)
     ensures { λ _. ⌜ now (place .exit) ≡ placeLaid (now (place .entry)) (stepOf next) ⌝ }
 {
-    *place = [
-        byte_on(place[0], next.frame_index),
-        wide_size(next.bytes_sent),
-    ];
+    *place = [byte_on(place[0], next.frame_index), next.bytes_sent as u64];
 }
 
 // As `hf_next_frame`; the place goes on in the lent memory.

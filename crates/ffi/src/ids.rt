@@ -7,9 +7,6 @@ ghost use Rattle.ffi.specs.Ids.{readParts, partsOf, setPriority, setDest
 use crate::numbers::answered;
 use crate::numbers::destination_from;
 use crate::numbers::number_of;
-use crate::numbers::wide_half;
-use crate::numbers::word_of;
-use crate::numbers::word_of_half;
 use can_id::CanId;
 use can_id::CanIdBuilder;
 
@@ -49,10 +46,10 @@ pub extern "C" fn hf_can_id_parts(id: u32, parts: &mut [u32; 4])
 {
     let c = CanId(id);
     *parts = [
-        word_of(c.priority()),
+        c.priority() as u32,
         c.pgn(),
-        word_of(c.source_address()),
-        word_of_half(number_of(c.destination())),
+        c.source_address() as u32,
+        number_of(c.destination()) as u32,
     ];
 }
 
@@ -72,7 +69,7 @@ pub extern "C" fn hf_can_id_build(
         priority: priority,
         pgn: pgn,
         source_address: source_address,
-        destination: destination_from(wide_half(destination)),
+        destination: destination_from(destination as u64),
     };
     answered(b.build(), value)
 }

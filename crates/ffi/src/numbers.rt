@@ -1,48 +1,11 @@
 // Numbers for what C does not have: a destination that may be missing, and a refusal.
 ghost use mathlib.Core.Path.{_≡_};
-ghost use Prim.Native.Nat.{_%_};
 ghost use Rattle.base.specs.Pick.{pick};
 ghost use Rattle.can_id.specs.Build.{answerOf, numberOf, carriedOf};
-ghost use Rattle.ffi.specs.Numbers.{isSet, flagOn, byteOn, wordOn, toAddress, addressOf, codeOf, valueOf, carriesOf};
+ghost use Rattle.ffi.specs.Numbers.{flagOn, byteOn, wordOn, toAddress, addressOf, codeOf, valueOf, carriesOf};
 use can_id::Built;
 use can_id::CanIdBuildError;
 use can_id::Destination;
-
-pub(crate) fn wide(x: u8) -> u64
-    ensures { λ r. ⌜ r ≡ x ⌝ }
-{
-    x as u64
-}
-
-pub(crate) fn word_of(x: u8) -> u32
-    ensures { λ r. ⌜ r ≡ x ⌝ }
-{
-    x as u32
-}
-
-pub(crate) fn word_of_half(x: u16) -> u32
-    ensures { λ r. ⌜ r ≡ x ⌝ }
-{
-    x as u32
-}
-
-pub(crate) fn wide_half(x: u16) -> u64
-    ensures { λ r. ⌜ r ≡ x ⌝ }
-{
-    x as u64
-}
-
-pub(crate) fn wide_word(x: u32) -> u64
-    ensures { λ r. ⌜ r ≡ x ⌝ }
-{
-    x as u64
-}
-
-pub(crate) fn wide_size(x: usize) -> u64
-    ensures { λ r. ⌜ r ≡ x ⌝ }
-{
-    x as u64
-}
 
 pub(crate) fn flag(x: bool) -> u64
     ensures { λ r. ⌜ r ≡ pick x 1 0 ⌝ }
@@ -53,36 +16,12 @@ pub(crate) fn flag(x: bool) -> u64
     0
 }
 
-pub(crate) fn low_byte(x: u64) -> u8
-    ensures { λ r. ⌜ r ≡ x % 0x100 ⌝ }
-{
-    (x % 0x100) as u8
-}
-
-pub(crate) fn low_word(x: u64) -> u32
-    ensures { λ r. ⌜ r ≡ x % 0x1_0000_0000 ⌝ }
-{
-    (x % 0x1_0000_0000) as u32
-}
-
-pub(crate) fn size_from(x: u64) -> usize
-    ensures { λ r. ⌜ r ≡ x ⌝ }
-{
-    x as usize
-}
-
-pub(crate) fn is_set(x: u64) -> bool
-    ensures { λ r. ⌜ r ≡ isSet x ⌝ }
-{
-    x != 0
-}
-
 // ---- a number to be written over the one that was read: that one itself, where the field that was read from it is still right
 
 pub(crate) fn flag_on(old: u64, x: bool) -> u64
     ensures { λ r. ⌜ r ≡ flagOn old x ⌝ }
 {
-    if flag(is_set(old)) == flag(x) {
+    if flag(old != 0) == flag(x) {
         return old;
     }
     flag(x)
@@ -91,8 +30,8 @@ pub(crate) fn flag_on(old: u64, x: bool) -> u64
 pub(crate) fn byte_on(number: u64, x: u8) -> u64
     ensures { λ r. ⌜ r ≡ byteOn number x ⌝ }
 {
-    let new = wide(x);
-    if low_byte(number) == x {
+    let new = x as u64;
+    if (number % 0x100) as u8 == x {
         return number;
     }
     new
@@ -101,10 +40,10 @@ pub(crate) fn byte_on(number: u64, x: u8) -> u64
 pub(crate) fn word_on(old: u64, x: u32) -> u64
     ensures { λ r. ⌜ r ≡ wordOn old x ⌝ }
 {
-    if low_word(old) == x {
+    if (old % 0x1_0000_0000) as u32 == x {
         return old;
     }
-    wide_word(x)
+    x as u64
 }
 
 // An address, or none from 256 on.

@@ -1,18 +1,12 @@
 // The receive call: a pool as its size, 64 numbers for the heads of its slots and their bytes, the counters as five numbers.
 ghost use mathlib.Core.Path.{_≡_};
-ghost use Prim.Native.Nat.{_<_, _+_, _%_};
-ghost use lib.ListN.{getD, set};
+ghost use Prim.Native.Nat.{_<_, _%_};
+ghost use lib.ListN.{getD};
 ghost use Rattle.assembler.specs.View.{freshPool, madeOf};
 ghost use Rattle.fast_packet.specs.FastPacket.{listedIn};
-ghost use Rattle.ffi.specs.Numbers.{isSet};
-ghost use Rattle.ffi.specs.Pool.{headAt, putFlag, putByte, putWord, headLaid, headsFrom, laid, poolFrom, countersFrom, counterNumbers, heardOf, kindCode, deliveredOn, Left, calledWith, calledWithLength, blank, MadeAs, plainly};
+ghost use Rattle.ffi.specs.Pool.{headAt, putFlag, putByte, putWord, keyLaid, sizesLaid, headLaid, headsFrom, laid, poolFrom, countersFrom, counterNumbers, heardOf, kindCode, deliveredOn, Left, calledWith, calledWithLength, blank, MadeAs, plainly};
 use crate::numbers::byte_on;
 use crate::numbers::flag_on;
-use crate::numbers::is_set;
-use crate::numbers::low_byte;
-use crate::numbers::low_word;
-use crate::numbers::size_from;
-use crate::numbers::wide_size;
 use crate::numbers::word_on;
 use assembler::HeardWithLength;
 use assembler::Made;
@@ -32,39 +26,25 @@ use session::POOL_LIMIT;
 
 // ---- heads as numbers
 
-fn set_at(n: &[u64; 64], i: usize) -> bool
+fn number_at(n: &[u64; 64], i: usize) -> u64
     requires { ⌜ i < 64 ⌝ }
-    ensures { λ r. ⌜ r ≡ isSet (getD (now (n .entry)) i 0) ⌝ }
+    ensures { λ r. ⌜ r ≡ getD (now (n .entry)) i 0 ⌝ }
 {
-    is_set(n[i])
+    n[i]
 }
 
 fn byte_at(n: &[u64; 64], i: usize) -> u8
     requires { ⌜ i < 64 ⌝ }
     ensures { λ r. ⌜ r ≡ getD (now (n .entry)) i 0 % 0x100 ⌝ }
 {
-    low_byte(n[i])
+    (n[i] % 0x100) as u8
 }
 
 fn word_at(n: &[u64; 64], i: usize) -> u32
     requires { ⌜ i < 64 ⌝ }
     ensures { λ r. ⌜ r ≡ getD (now (n .entry)) i 0 % 0x1_0000_0000 ⌝ }
 {
-    low_word(n[i])
-}
-
-fn size_at(n: &[u64; 64], i: usize) -> usize
-    requires { ⌜ i < 64 ⌝ }
-    ensures { λ r. ⌜ r ≡ getD (now (n .entry)) i 0 ⌝ }
-{
-    size_from(n[i])
-}
-
-fn time_at(n: &[u64; 64], i: usize) -> u64
-    requires { ⌜ i < 64 ⌝ }
-    ensures { λ r. ⌜ r ≡ getD (now (n .entry)) i 0 ⌝ }
-{
-    n[i]
+    (n[i] % 0x1_0000_0000) as u32
 }
 
 fn head_at(n: &[u64; 64], at: usize) -> Head
@@ -72,14 +52,14 @@ fn head_at(n: &[u64; 64], at: usize) -> Head
     ensures { λ r. ⌜ r ≡ headAt (now (n .entry)) at ⌝ }
 {
     Head {
-        in_progress: set_at(n, at),
+        in_progress: number_at(n, at) != 0,
         source_address: byte_at(n, at + 1),
         sequence_id: byte_at(n, at + 2),
         last_frame_index: byte_at(n, at + 3),
         pgn: word_at(n, at + 4),
-        expected_size: size_at(n, at + 5),
-        current_size: size_at(n, at + 6),
-        last_seen_ms: time_at(n, at + 7),
+        expected_size: number_at(n, at + 5) as usize,
+        current_size: number_at(n, at + 6) as usize,
+        last_seen_ms: number_at(n, at + 7),
     }
 }
 
@@ -119,25 +99,32 @@ fn put_word(n: &mut [u64; 64], i: usize, x: u32)
     n[i] = word_on(n[i], x);
 }
 
-fn put_number(n: &mut [u64; 64], i: usize, x: u64)
-    requires { ⌜ i < 64 ⌝ }
-    ensures { λ _. ⌜ now (n .exit) ≡ set (now (n .entry)) i x ⌝ }
-{
-    n[i] = x;
-}
-
-fn put_head(n: &mut [u64; 64], at: usize, h: Head)
+fn put_key(n: &mut [u64; 64], at: usize, h: Head)
     requires { ⌜ at < 57 ⌝ }
-    ensures { λ _. ⌜ now (n .exit) ≡ headLaid (now (n .entry)) at h ⌝ }
+    ensures { λ _. ⌜ now (n .exit) ≡ keyLaid (now (n .entry)) at h ⌝ }
 {
     put_flag(n, at, h.in_progress);
     put_byte(n, at + 1, h.source_address);
     put_byte(n, at + 2, h.sequence_id);
     put_byte(n, at + 3, h.last_frame_index);
     put_word(n, at + 4, h.pgn);
-    put_number(n, at + 5, wide_size(h.expected_size));
-    put_number(n, at + 6, wide_size(h.current_size));
-    put_number(n, at + 7, h.last_seen_ms);
+}
+
+fn put_sizes(n: &mut [u64; 64], at: usize, h: Head)
+    requires { ⌜ at < 57 ⌝ }
+    ensures { λ _. ⌜ now (n .exit) ≡ sizesLaid (now (n .entry)) at h ⌝ }
+{
+    n[at + 5] = h.expected_size as u64;
+    n[at + 6] = h.current_size as u64;
+    n[at + 7] = h.last_seen_ms;
+}
+
+fn put_head(n: &mut [u64; 64], at: usize, h: Head)
+    requires { ⌜ at < 57 ⌝ }
+    ensures { λ _. ⌜ now (n .exit) ≡ headLaid (now (n .entry)) at h ⌝ }
+{
+    put_key(n, at, h);
+    put_sizes(n, at, h);
 }
 
 pub(crate) fn put_heads(n: &mut [u64; 64], heads: [Head; POOL_LIMIT])

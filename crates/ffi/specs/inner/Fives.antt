@@ -8,13 +8,13 @@ use Rattle.oracle.specs.declared.Reassembled.the-variants.{Messages, Refused, I
 use Rattle.verdicts.specs.declared.Checked.{Checked}
 use Rattle.verdicts.specs.declared.Checked.the-variants.{Good, NoCount, Over, NoClaim, Faulty, Open, Count, Size, Hours, Pattern, Sequence}
 
-unfoldable pub oneNumber : ℕ → List ℕ
+abbrev pub oneNumber : ℕ → List ℕ
 oneNumber a = a ∷ 0 ∷ 0 ∷ 0 ∷ 0 ∷ []
 
-unfoldable pub twoNumbers : ℕ → ℕ → List ℕ
+abbrev pub twoNumbers : ℕ → ℕ → List ℕ
 twoNumbers a b = a ∷ b ∷ 0 ∷ 0 ∷ 0 ∷ []
 
-unfoldable pub fiveNumbers : ℕ → ℕ → ℕ → ℕ → ℕ → List ℕ
+abbrev pub fiveNumbers : ℕ → ℕ → ℕ → ℕ → ℕ → List ℕ
 fiveNumbers a b c d e = a ∷ b ∷ c ∷ d ∷ e ∷ []
 
 abbrev pub faultFive : Fault → List ℕ

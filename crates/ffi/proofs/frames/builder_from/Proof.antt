@@ -1,5 +1,6 @@
--- `builder_from` meets its contract: each field as its call says. Assumes nothing.
+-- `builder_from` meets its contract: field by field. Assumes nothing.
 use borrow.Author.Needs.{needs}
+use mathlib.Core.Path.{refl}
 use Rattle.ffi.proofs.Laws.{builder-by}
 use Rattle.ffi.proofs.frames.builder_from.Statement.{statement}
 use Rattle.ffi.proofs.frames.builder_from.Tie as tie
@@ -9,15 +10,14 @@ builder-from-spec =
     tie.close
     (tie.spec
     (λ c. search needs)
-    (λ c κs. search needs)
+    (λ c. search needs)
+    (λ c. search needs)
+    (λ c. search needs)
     (λ c. search needs)
     (λ c κs. search needs)
     (λ c. search needs)
-    (λ c κs. search needs)
     (λ c. search needs)
-    (λ c κs. search needs)
     (λ c. search needs)
-    (λ c κs. search needs)
     (λ c. search needs)
-    (λ c κs. search needs)
-    (λ c. builder-by _ (c .before .before .before .before .before .before .before .before .before .before .low-word .ensures) (c .before .before .before .before .before .before .before .before .low-byte .ensures) (c .before .before .before .before .before .before .destination-from .ensures) (c .before .before .before .before .low-byte2 .ensures) (c .before .before .low-byte3 .ensures) (c .is-set .ensures)))
+    (λ c. search needs)
+    (λ c. builder-by _ refl refl (c .before .before .before .destination-from .ensures) refl refl refl))

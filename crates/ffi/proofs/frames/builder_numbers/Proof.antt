@@ -1,6 +1,6 @@
--- `builder_numbers` meets its contract: each number as its call says. Assumes nothing.
+-- `builder_numbers` meets its contract: field by field. Assumes nothing.
 use borrow.Author.Needs.{needs}
-use mathlib.Core.Path.{_∙_}
+use mathlib.Core.Path.{refl}
 use Rattle.ffi.specs.Frames.{builderNumbers}
 use Rattle.ffi.proofs.Rows.{row-6}
 use Rattle.ffi.proofs.frames.builder_numbers.Statement.{statement}
@@ -11,11 +11,11 @@ unfolding builderNumbers
 builder-numbers-spec =
     tie.close
     (tie.spec
+    (λ c. search needs)
+    (λ c. search needs)
     (λ c κs. search needs)
+    (λ c. search needs)
+    (λ c. search needs)
+    (λ c. search needs)
     (λ c κs. search needs)
-    (λ c κs. search needs)
-    (λ c κs. search needs)
-    (λ c κs. search needs)
-    (λ c κs. search needs)
-    (λ c κs. search needs)
-    (λ c. row-6 (c .before .before .before .before .before .before .wide-word .ensures) (c .before .before .before .before .before .wide .ensures) ((c .before .before .before .wide-half .ensures) ∙ (c .before .before .before .before .number-of .ensures)) (c .before .before .wide2 .ensures) (c .before .wide3 .ensures) (c .flag .ensures)))
+    (λ c. row-6 refl refl (c .before .before .before .number-of .ensures) refl refl (c .flag .ensures)))

@@ -1,5 +1,6 @@
--- `go_on` meets its contract: each number as its call says. Assumes nothing.
+-- `go_on` meets its contract: number by number. Assumes nothing.
 use borrow.Author.Needs.{needs}
+use mathlib.Core.Path.{refl}
 use Rattle.ffi.specs.Frames.{placeLaid}
 use Rattle.ffi.proofs.Rows.{row-2}
 use Rattle.ffi.proofs.frames.go_on.Statement.{statement}
@@ -12,5 +13,4 @@ go-on-spec =
     (tie.spec
     (λ c. search needs)
     (λ c κs. search needs)
-    (λ c κs. search needs)
-    (λ c. row-2 (c .before .before .byte-on .ensures) (c .before .wide-size .ensures)))
+    (λ c. row-2 (c .before .byte-on .ensures) refl))

@@ -11,5 +11,4 @@ hf-builder-new-spec =
     (λ c κs. search needs)
     (λ c κs. search needs)
     (λ c κs. search needs)
-    (λ c κs. search needs)
-    (λ c. begun-by _ _ _ _ _ _ (c .before .before .before .before .wide-half .ensures) (c .before .before .before .destination-from .ensures) (c .before .before .new .ensures) (c .lay-made .ensures)))
+    (λ c. begun-by _ _ _ _ _ _ (c .before .before .before .destination-from .ensures) (c .before .before .new .ensures) (c .lay-made .ensures)))

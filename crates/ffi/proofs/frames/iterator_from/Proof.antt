@@ -1,5 +1,6 @@
--- `iterator_from` meets its contract: each field as its call says. Assumes nothing.
+-- `iterator_from` meets its contract: field by field. Assumes nothing.
 use borrow.Author.Needs.{needs}
+use mathlib.Core.Path.{refl}
 use Rattle.ffi.proofs.Laws.{iterator-by}
 use Rattle.ffi.proofs.frames.iterator_from.Statement.{statement}
 use Rattle.ffi.proofs.frames.iterator_from.Tie as tie
@@ -10,7 +11,6 @@ iterator-from-spec =
     (tie.spec
     (λ c κs. search needs)
     (λ c. search needs)
-    (λ c κs. search needs)
     (λ c. search needs)
-    (λ c κs. search needs)
-    (λ c. iterator-by _ _ (c .before .before .before .before .builder-from .ensures) (c .before .before .low-byte .ensures) (c .size-from .ensures)))
+    (λ c. search needs)
+    (λ c. iterator-by _ _ (c .before .before .builder-from .ensures) refl refl))

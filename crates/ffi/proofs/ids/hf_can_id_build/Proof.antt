@@ -11,5 +11,4 @@ hf-can-id-build-spec =
     (λ c κs. search needs)
     (λ c κs. search needs)
     (λ c κs. search needs)
-    (λ c κs. search needs)
-    (λ c. answered-by (c .answered .ensures) (parts-by _ _ _ _ (c .before .before .before .before .wide-half .ensures) (c .before .before .before .destination-from .ensures) (c .before .before .build .ensures))))
+    (λ c. answered-by (c .answered .ensures) (parts-by _ _ _ _ (c .before .before .before .destination-from .ensures) (c .before .before .build .ensures))))

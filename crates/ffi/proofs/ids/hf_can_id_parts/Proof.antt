@@ -13,11 +13,11 @@ hf-can-id-parts-spec =
     tie.close
     (tie.spec
     (λ c κs. search needs)
+    (λ c. search needs)
     (λ c κs. search needs)
     (λ c κs. search needs)
+    (λ c. search needs)
     (λ c κs. search needs)
     (λ c κs. search needs)
-    (λ c κs. search needs)
-    (λ c κs. search needs)
-    (λ c κs. search needs)
-    (λ c. row-4 ((c .before .before .before .before .before .before .before .word-of .ensures) ∙ (c .before .before .before .before .before .before .before .before .priority .ensures)) (c .before .before .before .before .before .before .pgn .ensures) ((c .before .before .before .before .word-of2 .ensures) ∙ (c .before .before .before .before .before .source-address .ensures)) ((c .before .word-of-half .ensures) ∙ (c .before .before .number-of .ensures) ∙ ap addressOf (c .before .before .before .destination .ensures))))
+    (λ c. search needs)
+    (λ c. row-4 (c .before .before .before .before .before .priority .ensures) (c .before .before .before .before .pgn .ensures) (c .before .before .before .source-address .ensures) ((c .before .number-of .ensures) ∙ ap addressOf (c .before .before .destination .ensures))))

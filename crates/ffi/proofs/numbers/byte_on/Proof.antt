@@ -1,6 +1,6 @@
--- `numbers::byte_on` meets its contract: the facts on each way out pick the law of that case. Assumes nothing.
+-- `byte_on` meets its contract: the test picks the case. Assumes nothing.
 use borrow.Author.Needs.{needs}
-use Rattle.base.proofs.Cases.{said}
+use Rattle.base.proofs.Cases.{cases}
 use Rattle.ffi.specs.Numbers.{laidOn, byteOn}
 use Rattle.ffi.proofs.numbers.byte_on.Statement.{statement}
 use Rattle.ffi.proofs.numbers.byte_on.Tie as tie
@@ -10,7 +10,6 @@ unfolding laidOn byteOn
 byte-on-spec =
     tie.close
     (tie.spec
-    (λ c κs. search needs)
-    (λ c κs. search needs)
-    (λ c. search (needs, said))
-    (λ c. search (needs, said)))
+    (λ c. search needs)
+    (λ c. search (needs, cases))
+    (λ c. search (needs, cases)))
