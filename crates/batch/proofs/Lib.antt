@@ -4,6 +4,7 @@ pub mod WayLaws
 pub mod Mirrors
 pub mod Runs
 pub mod Sought
+pub mod Steps
 pub mod Unique
 pub mod Continues
 pub mod Told

@@ -6,7 +6,9 @@ use lib.Dec.{ltb}
 use native.Mathlib.Omega.{arith}
 use borrow.Author.Tests.{ltb-false, lt-ltb, le-ltb}
 use Rattle.base.proofs.Cases.{less?}
+use Rattle.base.specs.Pick.{pick}
 use Rattle.batch.specs.Rows.{tooShort}
+use Rattle.batch.specs.inner.Ways.{refusalOf}
 
 -- two tests of which one passes exactly where the other does
 pub same-test : (a b c d : ℕ) → (a < b → c < d) → (c < d → a < b) → ltb a b ≡ ltb c d
@@ -46,3 +48,18 @@ pub ruleset short-rules = (few-pgns, few-sources, few-bytes, few-kinds, few-leng
 -- a message that has room fits
 pub has-room : (room used n : ℕ) (b : Bool) → b ≡ ltb room (used + n) → b ≡ false → used + n ≤ room
 has-room room used n b eb y = ltb-false room (used + n) (sym eb ∙ y)
+
+-- the refusal, by what the code's two tests say
+module _ (bad short b : Bool) (eb : b ≡ bad) where
+  pub refused-bad : b ≡ true → 1 ≡ refusalOf bad short
+  unfolding refusalOf pick
+  refused-bad y = rw (← eb, y)
+
+  module _ (y : b ≡ false) (s : Bool) (es : s ≡ short) where
+    pub refused-short : s ≡ true → 27 ≡ refusalOf bad short
+    unfolding refusalOf pick
+    refused-short z = rw (← eb, y, ← es, z)
+
+    pub refused-none : s ≡ false → 0 ≡ refusalOf bad short
+    unfolding refusalOf pick
+    refused-none z = rw (← eb, y, ← es, z)

@@ -32,6 +32,7 @@ use Rattle.assembler.specs.View.{slotsFrom, slotsOf, receiveOf}
 use Rattle.assembler.proofs.Views.{Whole, any-view}
 use Rattle.assembler.proofs.Carries.{carried, Does, slot-long}
 use Rattle.batch.proofs.WayLaws.{shortPlan, runPlan}
+use Rattle.batch.specs.inner.Ways.{refusalOf}
 use Rattle.batch.specs.Rows.{Rows, frameAt, kindNumber, Run, start, took, answerTo, runFrom, runOf, Left, over, leaves, refusedBy, tooShort, batchOf}
 
 -- ---- the bytes of a message, in the arena and as the answer has them
@@ -328,25 +329,38 @@ module _ (R : Rules) (l : List ℕ) (w : Rows) (p : Pool) (k : Counters) (ks₀ 
           → record { answer = record { refused = 0; taken = i; used = used; counters = c; pool = q }; kinds = ks; lengths = ls; arena = ar } ≡ leaves (runOf R l w (length ar₀) p k) ks₀ ls₀ ar₀
       stops-by d does none b eb y = stops lt f ef d g does (d .whole) (rw none (sym (add-zero (d .whole)))) b eb y
 
--- ---- the call's three ways out
+-- ---- the call's ways out
 
-module _ (R : Rules) (l : List ℕ) (w : Rows) (p : Pool) (k : Counters) (ks ls ar : List ℕ) (bad : Bool) (eb : bad ≡ impossible R (slotsOf p)) where
-  pub gives-1 : bad ≡ true → refusedBy 1 p k ks ls ar ≡ batchOf R l w p k ks ls ar
-  unfolding batchOf pick
-  gives-1 y = rw (← eb, y)
+module _ (R : Rules) (l : List ℕ) (w : Rows) (p : Pool) (k : Counters) (ks ls ar : List ℕ) where
+  abbrev short : Bool
+  short = tooShort (length (w .times)) (length (w .pgns)) (length (w .sources)) (length (w .bytes)) (length ks) (length ls)
 
-  module _ (y : bad ≡ false) (short : Bool) (es : short ≡ tooShort (length (w .times)) (length (w .pgns)) (length (w .sources)) (length (w .bytes)) (length ks) (length ls)) where
-    pub gives-27 : short ≡ true → refusedBy 27 p k ks ls ar ≡ batchOf R l w p k ks ls ar
-    unfolding batchOf pick
-    gives-27 s = rw (← eb, y, ← es, s)
+  module _ (r : ℕ) (er : r ≡ refusalOf (impossible R (slotsOf p)) short) where
+    pub gives-refused : (r ≡ 0 → ⊥) → refusedBy r p k ks ls ar ≡ batchOf R l w p k ks ls ar
+    unfolding batchOf refusalOf pick
+    gives-refused n = go (impossible R (slotsOf p)) short er
+      where
+        go : (b s : Bool) → r ≡ refusalOf b s → refusedBy r p k ks ls ar ≡ pick b (refusedBy 1 p k ks ls ar) (pick s (refusedBy 27 p k ks ls ar) (leaves (runOf R l w (length ar) p k) ks ls ar))
+        go true s e = rw e
+        go false true e = rw e
+        go false false e = absurd (n e)
 
-    module _ (s : short ≡ false) where
+    module _ (z : r ≡ 0) where
+      unrefused : (b s : Bool) → r ≡ refusalOf b s → (b ≡ false) × (s ≡ false)
+      unfolding refusalOf pick
+      unrefused true s e = absurd (omega (arith, e, z))
+      unrefused false true e = absurd (omega (arith, e, z))
+      unrefused false false e = (refl, refl)
+
+      pub possible : impossible R (slotsOf p) ≡ false
+      possible = unrefused (impossible R (slotsOf p)) short er .0
+
       pub fits-all : Fitting (length (w .times)) w ks ls
-      fits-all = fitting (length (w .times)) w ks ls (sym es ∙ s)
+      fits-all = fitting (length (w .times)) w ks ls (unrefused (impossible R (slotsOf p)) short er .1)
 
-      pub gives-run : (r : Left) → r ≡ leaves (runOf R l w (length ar) p k) ks ls ar → r ≡ batchOf R l w p k ks ls ar
+      pub gives-run : (x : Left) → x ≡ leaves (runOf R l w (length ar) p k) ks ls ar → x ≡ batchOf R l w p k ks ls ar
       unfolding batchOf pick
-      gives-run r er = er ∙ rw (← eb, y, ← es, s)
+      gives-run x ex = ex ∙ rw (possible, unrefused (impossible R (slotsOf p)) short er .1)
 
 -- ---- a frame has eight bytes
 

@@ -1,22 +1,23 @@
 // The batch call.
 ghost use mathlib.Core.Path.{_≡_};
 ghost use Rattle.session.specs.Rules.{base};
-ghost use Rattle.batch.specs.Rows.{Left, batchOf};
+ghost use Rattle.session.specs.inner.Search.{seenIn};
+ghost use Rattle.batch.specs.Rows.{Left, batchOf, tooShort};
+ghost use Rattle.batch.specs.inner.Ways.{blankHeard, refusalOf};
 use crate::Batch;
-use crate::bytes::carry;
 use crate::bytes::deliver_short;
 use crate::bytes::keep;
 use crate::memory::PLACES;
 use crate::memory::looked_up;
 use crate::rows::frame_at;
 use crate::rows::no_room;
-use crate::rows::number_of;
 use crate::rows::too_short;
 use crate::search::key_of;
 use crate::search::key_of_frame;
 use crate::search::mirror_of;
 use crate::search::seek;
 use crate::search::walk;
+use crate::taking::take;
 use crate::ways::missed;
 use crate::ways::ran_on;
 use crate::ways::runs_on;
@@ -25,22 +26,47 @@ use assembler::Pool;
 use fast_packet::is_listed;
 use plan::decide;
 use session::Counters;
+use session::Head;
 use session::Heard;
 use session::POOL_LIMIT;
-use session::count;
 
 const IMPOSSIBLE_POOL: u8 = 1;
 
 const NO_ROOM: u8 = 27;
 
 // A blank frame: what the pool is looked at with, before the first.
-fn blank() -> Heard {
+fn blank() -> Heard
+    ensures { λ r. ⌜ r ≡ blankHeard ⌝ }
+{
     Heard {
         now_ms: 0,
         pgn: 0,
         source_address: 0,
         data: [0; 8],
     }
+}
+
+// The refusal's number, or 0: an impossible pool before a row that is too short for its n frames.
+fn refusal(
+    heads: [Head; POOL_LIMIT],
+    size: usize,
+    n: usize,
+    pgns: usize,
+    sources: usize,
+    bytes: usize,
+    kinds: usize,
+    lengths: usize,
+) -> u8
+    ensures { λ r. ⌜ r ≡ refusalOf (seenIn base blankHeard size heads .bad) (tooShort n pgns sources bytes kinds lengths) ⌝ }
+{
+    let before = walk(heads, size, blank());
+    if before.bad {
+        return IMPOSSIBLE_POOL;
+    }
+    if too_short(n, pgns, sources, bytes, kinds, lengths) {
+        return NO_ROOM;
+    }
+    0
 }
 
 // Takes frames one after the other, as long as the arena has room for their messages.
@@ -60,27 +86,20 @@ pub fn process_frames(
 {
     let mut q = pool;
     let heads = q.heads;
-    let before = walk(heads, q.size, blank());
-    if before.bad {
-        return Batch {
-            refused: IMPOSSIBLE_POOL,
-            taken: 0,
-            used: 0,
-            counters: counters,
-            pool: q,
-        };
-    }
     let n = times.len();
-    if too_short(
+    let refused = refusal(
+        heads,
+        q.size,
         n,
         frame_pgns.len(),
         sources.len(),
         data.len(),
         kinds.len(),
         lengths.len(),
-    ) {
+    );
+    if refused != 0 {
         return Batch {
-            refused: NO_ROOM,
+            refused: refused,
             taken: 0,
             used: 0,
             counters: counters,
@@ -141,7 +160,7 @@ pub fn process_frames(
             i += 1;
             continue;
         }
-        let d = decide(false, true, true, q.heads[g], heard);
+        let d = decide(false, true, true, h, heard);
         if no_room(arena.len(), used, d.whole) {
             return Batch {
                 refused: 0,
@@ -151,30 +170,17 @@ pub fn process_frames(
                 pool: q,
             };
         }
-        let mark = d.mark;
-        c = count(c, mark);
-        let kind = d.kind;
-        kinds[i] = number_of(kind);
-        lengths[i] = d.whole as u8;
-        let at = used;
+        let t = take(&mut q.bytes, arena, g, used, d, c, frame);
+        c = t.counters;
+        kinds[i] = t.number;
+        lengths[i] = t.length;
         used += d.whole;
         i += 1;
-        let t = d.head;
-        q.heads[g] = t;
-        keys[g] = key_of(t);
-        owners[g] = t.source_address;
-        lasts[g] = t.last_seen_ms;
-        carry(
-            &mut q.bytes,
-            arena,
-            g,
-            at,
-            frame,
-            d.at,
-            d.from,
-            d.count,
-            d.whole,
-        );
+        let after = d.head;
+        q.heads[g] = after;
+        keys[g] = key_of(after);
+        owners[g] = after.source_address;
+        lasts[g] = after.last_seen_ms;
     }
     Batch {
         refused: 0,

@@ -5,6 +5,7 @@ mod bytes;
 mod memory;
 mod rows;
 mod search;
+mod taking;
 mod ways;
 
 use assembler::Pool;

@@ -2,6 +2,7 @@
 use mathlib.Core.Bool.{Bool, _&&_}
 use Prim.Native.Nat.{ℕ, _-_}
 use lib.Dec.{eqb, ltb, leb}
+use lib.ListN.{replicate}
 use Rattle.base.specs.Pick.{pick}
 use Rattle.session.specs.declared.Head.{Head}
 use Rattle.session.specs.declared.Heard.{Heard}
@@ -21,3 +22,11 @@ missMark listed f = pick listed (pick (eqb (indexOf f) 0) (pick (badSize f) Reje
 -- the session's next frame, and more than its seven bytes are missing
 unfoldable pub runsOn : Heard → Head → Bool
 runsOn f h = inTurn f h && ltb 7 (h .«expected_size» - h .«current_size»)
+
+-- what the pool is looked at with, before the first frame
+unfoldable pub blankHeard : Heard
+blankHeard = record { «now_ms» = 0; pgn = 0; «source_address» = 0; «data» = replicate 8 0 }
+
+-- the refusal's number, or 0: of an impossible pool, then of a row too short
+unfoldable pub refusalOf : Bool → Bool → ℕ
+refusalOf bad short = pick bad 1 (pick short 27 0)
