@@ -335,7 +335,10 @@ module _ (R : Rules) (l : List ℕ) (w : Rows) (p : Pool) (k : Counters) (ks ls 
   abbrev short : Bool
   short = tooShort (length (w .times)) (length (w .pgns)) (length (w .sources)) (length (w .bytes)) (length ks) (length ls)
 
-  module _ (r : ℕ) (er : r ≡ refusalOf (impossible R (slotsOf p)) short) where
+  module _ (limit : R .limit ≡ poolLimit) (f : Heard) (r : ℕ) (said : r ≡ refusalOf (seenIn R f (p .size) (p .heads) .bad) short) where
+    er : r ≡ refusalOf (impossible R (slotsOf p)) short
+    er = said ∙ rw (looked-at R f p limit)
+
     pub gives-refused : (r ≡ 0 → ⊥) → refusedBy r p k ks ls ar ≡ batchOf R l w p k ks ls ar
     unfolding batchOf refusalOf pick
     gives-refused n = go (impossible R (slotsOf p)) short er

@@ -13,7 +13,7 @@ use Rattle.batch.specs.inner.Ways.{blankHeard}
 use Rattle.batch.proofs.RowLaws.{has-room}
 use Rattle.batch.proofs.WayLaws.{run-missing}
 use Rattle.batch.proofs.Mirrors.{remembers-none}
-use Rattle.batch.proofs.Runs.{begins, ends, looked-at, gives-refused, gives-run, possible, fits-all}
+use Rattle.batch.proofs.Runs.{begins, ends, gives-refused, gives-run, possible, fits-all}
 use Rattle.batch.proofs.Sought.{small-of}
 use Rattle.batch.proofs.Steps.{Stands, step-missed, stop-short, step-short, runs-fit, step-running, plan-fits, stop-by, step-by}
 use Rattle.batch.proofs.batching.process_frames.Statement.{statement}
@@ -35,7 +35,7 @@ returns : tie.Need-returns Inv-loop μ-loop
 unfolding refusedBy
 returns c =
     let a = c .before .before .before .before .before .before .before .before .before .before .before .args in
-    gives-refused base (a .pgns .now) (record { times = a .times .now; pgns = a .frame-pgns .now; sources = a .sources .now; bytes = a .«data» .now }) (a .pool) (a .counters) (a .kinds .now) (a .lengths .now) (a .arena .now) _ (c .before .refusal .ensures ∙ rw (looked-at base blankHeard (a .pool) limit)) (c .if1 .taken)
+    gives-refused base (a .pgns .now) (record { times = a .times .now; pgns = a .frame-pgns .now; sources = a .sources .now; bytes = a .«data» .now }) (a .pool) (a .counters) (a .kinds .now) (a .lengths .now) (a .arena .now) limit blankHeard _ (c .before .refusal .ensures) (c .if1 .taken)
 
 loop-holds : tie.Need-loop-holds Inv-loop μ-loop
 loop-holds c =
@@ -44,8 +44,8 @@ loop-holds c =
     let heads-good = good .0 .1 in
     let bytes-good = good .0 .1 .1 in
     let whole : Whole (a .pool) = record { heads = search (needs, length-unmap); bytes = search needs } in
-    let fit = fits-all base (a .pgns .now) (record { times = a .times .now; pgns = a .frame-pgns .now; sources = a .sources .now; bytes = a .«data» .now }) (a .pool) (a .counters) (a .kinds .now) (a .lengths .now) (a .arena .now) _ (c .before .before .before .before .before .before .refusal .ensures ∙ rw (looked-at base blankHeard (a .pool) limit)) (c .before .before .before .before .before .if1 .left) in
-    (record { run = begins base (a .pgns .now) (record { times = a .times .now; pgns = a .frame-pgns .now; sources = a .sources .now; bytes = a .«data» .now }) (a .pool) (a .counters) (a .kinds .now) (a .lengths .now) (a .arena .now) whole fit; possible = possible base (a .pgns .now) (record { times = a .times .now; pgns = a .frame-pgns .now; sources = a .sources .now; bytes = a .«data» .now }) (a .pool) (a .counters) (a .kinds .now) (a .lengths .now) (a .arena .now) _ (c .before .before .before .before .before .before .refusal .ensures ∙ rw (looked-at base blankHeard (a .pool) limit)) (c .before .before .before .before .before .if1 .left); mirrors = c .before .before .before .before .mirror-of .ensures }, remembers-none (a .pgns .now) _ (c .is-listed .ensures))
+    let fit = fits-all base (a .pgns .now) (record { times = a .times .now; pgns = a .frame-pgns .now; sources = a .sources .now; bytes = a .«data» .now }) (a .pool) (a .counters) (a .kinds .now) (a .lengths .now) (a .arena .now) limit blankHeard _ (c .before .before .before .before .before .before .refusal .ensures) (c .before .before .before .before .before .if1 .left) in
+    (record { run = begins base (a .pgns .now) (record { times = a .times .now; pgns = a .frame-pgns .now; sources = a .sources .now; bytes = a .«data» .now }) (a .pool) (a .counters) (a .kinds .now) (a .lengths .now) (a .arena .now) whole fit; possible = possible base (a .pgns .now) (record { times = a .times .now; pgns = a .frame-pgns .now; sources = a .sources .now; bytes = a .«data» .now }) (a .pool) (a .counters) (a .kinds .now) (a .lengths .now) (a .arena .now) limit blankHeard _ (c .before .before .before .before .before .before .refusal .ensures) (c .before .before .before .before .before .if1 .left); mirrors = c .before .before .before .before .mirror-of .ensures }, remembers-none (a .pgns .now) _ (c .is-listed .ensures))
 
 frame-at-requires : tie.Need-frame-at-requires Inv-loop μ-loop
 frame-at-requires c κs =
@@ -91,7 +91,7 @@ same-length-3 c = search (needs, c .before .before .before .before .before .befo
 returns-2 : tie.Need-returns-2 Inv-loop μ-loop
 returns-2 c =
     let a = c .before .before .before .before .before .before .before .before .before .before .before .before .before .before .before .before .before .before .before .before .before .before .before .before .before .before .before .before .before .before .before .before .before .args in
-    gives-run base (a .pgns .now) (record { times = a .times .now; pgns = a .frame-pgns .now; sources = a .sources .now; bytes = a .«data» .now }) (a .pool) (a .counters) (a .kinds .now) (a .lengths .now) (a .arena .now) _ (c .before .before .before .before .before .before .before .before .before .before .before .before .before .before .before .before .before .before .before .before .before .before .before .refusal .ensures ∙ rw (looked-at base blankHeard (a .pool) limit)) (c .before .before .before .before .before .before .before .before .before .before .before .before .before .before .before .before .before .before .before .before .before .before .if1 .left) _
+    gives-run base (a .pgns .now) (record { times = a .times .now; pgns = a .frame-pgns .now; sources = a .sources .now; bytes = a .«data» .now }) (a .pool) (a .counters) (a .kinds .now) (a .lengths .now) (a .arena .now) limit blankHeard _ (c .before .before .before .before .before .before .before .before .before .before .before .before .before .before .before .before .before .before .before .before .before .before .before .refusal .ensures) (c .before .before .before .before .before .before .before .before .before .before .before .before .before .before .before .before .before .before .before .before .before .before .if1 .left) _
     (stop-short _ _ _ _ _ _ _ _ _ _ _ _ _ _ _ _ _ (c .before .before .before .before .before .before .before .before .before .before .before .before .before .before .before .before .loop .inv .0) (c .before .before .before .before .before .before .before .before .before .before .before .before .before .before .before .loop-test .taken) _ (c .before .before .before .before .before .before .before .before .before .before .before .before .before .before .frame-at .ensures) _ (c .before .before .before .before .before .before .before .before .before .before .before .looked-up .ensures .0) _ (c .before .before .before .before .before .before .before .before .before .before .key-of-frame .ensures) _ (c .before .before .before .before .before .before .seek .ensures) (c .before .before .before .before .if2 .taken) _ (c .before .before .before .short-in .ensures .0) (c .before .before .if3 .left) _ (c .before .no-room .ensures) (c .if4 .taken))
 
 deliver-short-requires : tie.Need-deliver-short-requires Inv-loop μ-loop
@@ -156,7 +156,7 @@ same-length-6 c = search (needs, c .before .before .before .before .before .befo
 returns-3 : tie.Need-returns-3 Inv-loop μ-loop
 returns-3 c =
     let a = c .before .before .before .before .before .before .before .before .before .before .before .before .before .before .before .before .before .before .before .before .before .before .before .before .before .before .before .before .before .before .before .before .before .before .before .args in
-    gives-run base (a .pgns .now) (record { times = a .times .now; pgns = a .frame-pgns .now; sources = a .sources .now; bytes = a .«data» .now }) (a .pool) (a .counters) (a .kinds .now) (a .lengths .now) (a .arena .now) _ (c .before .before .before .before .before .before .before .before .before .before .before .before .before .before .before .before .before .before .before .before .before .before .before .before .before .refusal .ensures ∙ rw (looked-at base blankHeard (a .pool) limit)) (c .before .before .before .before .before .before .before .before .before .before .before .before .before .before .before .before .before .before .before .before .before .before .before .before .if1 .left) _
+    gives-run base (a .pgns .now) (record { times = a .times .now; pgns = a .frame-pgns .now; sources = a .sources .now; bytes = a .«data» .now }) (a .pool) (a .counters) (a .kinds .now) (a .lengths .now) (a .arena .now) limit blankHeard _ (c .before .before .before .before .before .before .before .before .before .before .before .before .before .before .before .before .before .before .before .before .before .before .before .before .before .refusal .ensures) (c .before .before .before .before .before .before .before .before .before .before .before .before .before .before .before .before .before .before .before .before .before .before .before .before .if1 .left) _
     (stop-by _ _ _ _ _ _ _ _ _ _ _ _ _ _ _ _ _ (c .before .before .before .before .before .before .before .before .before .before .before .before .before .before .before .before .before .before .loop .inv .0) (c .before .before .before .before .before .before .before .before .before .before .before .before .before .before .before .before .before .loop-test .taken) _ (c .before .before .before .before .before .before .before .before .before .before .before .before .before .before .before .before .frame-at .ensures) _ (c .before .before .before .before .before .before .before .before .before .before .before .before .before .looked-up .ensures .0) _ (c .before .before .before .before .before .before .before .before .before .before .before .before .key-of-frame .ensures) _ (c .before .before .before .before .before .before .before .before .seek .ensures) (c .before .before .before .before .before .before .if2 .left) _ _ (c .before .before .decide .ensures) _ (c .before .no-room2 .ensures) (c .if6 .taken))
 
 take-requires : tie.Need-take-requires Inv-loop μ-loop
@@ -200,7 +200,7 @@ same-length-9 c = search (needs, c .before .loop .inv .0 .run .arena)
 returns-4 : tie.Need-returns-4 Inv-loop μ-loop
 returns-4 c =
     let a = c .before .before .before .before .before .before .before .before .before .before .before .before .before .before .before .before .before .before .args in
-    gives-run base (a .pgns .now) (record { times = a .times .now; pgns = a .frame-pgns .now; sources = a .sources .now; bytes = a .«data» .now }) (a .pool) (a .counters) (a .kinds .now) (a .lengths .now) (a .arena .now) _ (c .before .before .before .before .before .before .before .before .refusal .ensures ∙ rw (looked-at base blankHeard (a .pool) limit)) (c .before .before .before .before .before .before .before .if1 .left) _
+    gives-run base (a .pgns .now) (record { times = a .times .now; pgns = a .frame-pgns .now; sources = a .sources .now; bytes = a .«data» .now }) (a .pool) (a .counters) (a .kinds .now) (a .lengths .now) (a .arena .now) limit blankHeard _ (c .before .before .before .before .before .before .before .before .refusal .ensures) (c .before .before .before .before .before .before .before .if1 .left) _
     (ends base _ _ _ _ _ _ _ _ _ _ _ _ _ _ (c .before .loop .inv .0 .run) (c .loop-test .left))
 
 pub process-frames-spec : {M : Type 1} → statement M

@@ -7,7 +7,7 @@ use Rattle.batch.proofs.rows.frame_at.Tie as tie
 
 returns : tie.Need-returns
 unfolding frameAt
-returns c = cc
+returns c = rw (c .before .before .before .eight .ensures)
 
 pub frame-at-spec : {M : Type 1} → statement M
 frame-at-spec =
