@@ -19,30 +19,21 @@ fn show_fault(fault: Fault) {
         Fault::Restarted(n) => say::refusal_with(21, n as u64),
         Fault::Announced(n, size) => say::refusal_with_two(22, n as u64, size as u64),
         Fault::Stray(n) => say::refusal_with(23, n as u64),
-        Fault::Order(n, sequence, index, wanted, next) => {
-            say::text(b"refusal 24: ");
-            say::number(n as u64);
-            say::text(b" ");
-            say::number(sequence as u64);
-            say::text(b" ");
-            say::number(index as u64);
-            say::text(b" ");
-            say::number(wanted as u64);
-            say::text(b" ");
-            say::number(next as u64);
-            say::text(b"\n");
-        }
+        Fault::Order(n, sequence, index, wanted, next) => say::refusal_with_five(
+            24,
+            n as u64,
+            sequence as u64,
+            index as u64,
+            wanted as u64,
+            next as u64,
+        ),
         Fault::Padding(n, byte) => say::refusal_with_two(25, n as u64, byte as u64),
     }
 }
 
 fn show_reassembled(r: Reassembled) {
     match r {
-        Reassembled::Messages(n) => {
-            say::text(b"messages ");
-            say::number(n as u64);
-            say::text(b"\n");
-        }
+        Reassembled::Messages(n) => say::counted(b"messages ", n as u64),
         Reassembled::Refused(fault) => show_fault(fault),
         Reassembled::Incomplete(size) => say::refusal_with(26, size as u64),
         Reassembled::NoRoom => say::refusal(27),
@@ -50,9 +41,10 @@ fn show_reassembled(r: Reassembled) {
 }
 
 // A row of frames of PGN 127489 from source 35, into a list for one message and an arena of 16 bytes.
-fn judge(bytes: &[u8], lens: &[usize]) {
+fn judge(words: &[u8], bytes: &[u8], lens: &[usize]) {
     let mut list = [0usize; 3];
     let mut arena = [0u8; 16];
+    say::text(words);
     show_reassembled(reassemble_rows(
         &[ENGINE, ENGINE],
         bytes,
@@ -66,49 +58,73 @@ fn judge(bytes: &[u8], lens: &[usize]) {
 
 fn show_split(s: Split) {
     match s {
-        Split::Frames(n) => {
-            say::text(b"frames ");
-            say::number(n as u64);
-            say::text(b"\n");
-        }
+        Split::Frames(n) => say::counted(b"frames ", n as u64),
         Split::BadSplit => say::refusal(28),
         Split::Short => say::refusal(27),
     }
 }
 
-pub(crate) fn refusals() {
-    say::text(b"length 7: ");
-    judge(b"\x00\x06\x01\x02\x03\x04\x05\x06", &[7]);
-    say::text(b"a first frame while open: ");
-    judge(
-        b"\x00\x07\x01\x02\x03\x04\x05\x06\x00\x07\x01\x02\x03\x04\x05\x06",
-        &[8, 8],
-    );
-    say::text(b"announced 0: ");
-    judge(b"\x00\x00\x01\x02\x03\x04\x05\x06", &[8]);
-    say::text(b"a continuation without open: ");
-    judge(b"\x01\x01\x02\x03\x04\x05\x06\x07", &[8]);
-    say::text(b"index 2 where 1 is expected: ");
-    judge(
-        b"\x20\x07\x01\x02\x03\x04\x05\x06\x22\x07\xFF\xFF\xFF\xFF\xFF\xFF",
-        &[8, 8],
-    );
-    say::text(b"padding 00: ");
-    judge(b"\x00\x05\x01\x02\x03\x04\x05\x00", &[8]);
-    say::text(b"still open: ");
-    judge(b"\x00\x07\x01\x02\x03\x04\x05\x06", &[8]);
-    say::text(b"two messages for a list of one: ");
-    judge(
-        b"\x00\x06\x01\x02\x03\x04\x05\x06\x20\x06\x01\x02\x03\x04\x05\x06",
-        &[8, 8],
-    );
+// Into room for one frame.
+fn split(words: &[u8], payload: &[u8]) {
     let mut ids = [0u32; 1];
     let mut bytes = [0u8; 8];
     let mut lens = [0usize; 1];
-    say::text(b"splitting nothing: ");
-    show_split(fast_packet_rows(ENGINE, 0, b"", &mut ids, &mut bytes, &mut lens));
-    say::text(b"splitting seven bytes into one frame: ");
-    show_split(fast_packet_rows(ENGINE, 0, b"1234567", &mut ids, &mut bytes, &mut lens));
+    say::text(words);
+    show_split(fast_packet_rows(ENGINE, 0, payload, &mut ids, &mut bytes, &mut lens));
+}
+
+// Each of the following gives a few refusals: a long function takes the prover longer than its parts.
+fn one_frame(words: &[u8], bytes: &[u8]) {
+    judge(words, bytes, &[8]);
+}
+
+fn two_frames(words: &[u8], bytes: &[u8]) {
+    judge(words, bytes, &[8, 8]);
+}
+
+fn single_frames() {
+    judge(b"length 7: ", b"\x00\x06\x01\x02\x03\x04\x05\x06", &[7]);
+    two_frames(
+        b"a first frame while open: ",
+        b"\x00\x07\x01\x02\x03\x04\x05\x06\x00\x07\x01\x02\x03\x04\x05\x06",
+    );
+}
+
+fn sizes_and_strays() {
+    one_frame(b"announced 0: ", b"\x00\x00\x01\x02\x03\x04\x05\x06");
+    one_frame(
+        b"a continuation without open: ",
+        b"\x01\x01\x02\x03\x04\x05\x06\x07",
+    );
+}
+
+fn order_and_padding() {
+    two_frames(
+        b"index 2 where 1 is expected: ",
+        b"\x20\x07\x01\x02\x03\x04\x05\x06\x22\x07\xFF\xFF\xFF\xFF\xFF\xFF",
+    );
+    one_frame(b"padding 00: ", b"\x00\x05\x01\x02\x03\x04\x05\x00");
+}
+
+fn open_and_no_room() {
+    one_frame(b"still open: ", b"\x00\x07\x01\x02\x03\x04\x05\x06");
+    two_frames(
+        b"two messages for a list of one: ",
+        b"\x00\x06\x01\x02\x03\x04\x05\x06\x20\x06\x01\x02\x03\x04\x05\x06",
+    );
+}
+
+fn splits() {
+    split(b"splitting nothing: ", b"");
+    split(b"splitting seven bytes into one frame: ", b"1234567");
+}
+
+pub(crate) fn refusals() {
+    single_frames();
+    sizes_and_strays();
+    order_and_padding();
+    open_and_no_room();
+    splits();
 }
 
 fn show_checked(c: Checked) {
@@ -181,48 +197,59 @@ fn check_rows(
     show_checked(check_tx_rows(&ids[..], &bytes[..], &lens[..], 35, expected, base));
 }
 
-// A claim, then two records of four frames each.
-fn check_two(first: [u8; 26], sequence: u8, second: [u8; 26], expected: usize, base: u32) {
+// A claim, then two records of four frames each: hours 7 with this odd byte, and these hours with this sequence.
+fn check_two(words: &[u8], odd: u8, sequence: u8, hours: u8, expected: usize, base: u32) {
     let mut ids = [CLAIM; 9];
     let mut bytes = [0xFFu8; 72];
     let mut lens = [8usize; 9];
+    say::text(words);
     check_rows(
         &mut ids,
         &mut bytes,
         &mut lens,
-        first,
+        record(7, odd),
         sequence,
-        second,
+        record(hours, 0),
         expected,
         base,
     );
 }
 
-pub(crate) fn transmit_refusals() {
+fn check_one(words: &[u8], ids: &[u32], bytes: &[u8], lens: &[usize]) {
+    say::text(words);
+    show_checked(check_tx_rows(ids, bytes, lens, 35, 1, 0));
+}
+
+fn counts() {
+    check_two(b"two records as they should be: ", 0, 1, 8, 2, 7);
+    check_two(b"count 0: ", 0, 1, 8, 0, 7);
+    check_two(b"base 4294967295, count 2: ", 0, 1, 8, 2, 4294967295);
+}
+
+fn claims() {
     let claim = b"\xFF\xFF\xFF\xFF\xFF\xFF\xFF\xFF";
-    say::text(b"two records as they should be: ");
-    check_two(record(7, 0), 1, record(8, 0), 2, 7);
-    say::text(b"count 0: ");
-    check_two(record(7, 0), 1, record(8, 0), 0, 7);
-    say::text(b"base 4294967295, count 2: ");
-    check_two(record(7, 0), 1, record(8, 0), 2, 4294967295);
-    say::text(b"no claim: ");
-    show_checked(check_tx_rows(&[ENGINE], claim, &[8], 35, 1, 0));
-    say::text(b"a claim alone: ");
-    show_checked(check_tx_rows(&[CLAIM], claim, &[8], 35, 1, 0));
-    say::text(b"a message of one byte: ");
-    show_checked(check_tx_rows(
+    check_one(b"no claim: ", &[ENGINE], claim, &[8]);
+    check_one(b"a claim alone: ", &[CLAIM], claim, &[8]);
+}
+
+fn one_byte() {
+    check_one(
+        b"a message of one byte: ",
         &[CLAIM, ENGINE],
         b"\xFF\xFF\xFF\xFF\xFF\xFF\xFF\xFF\x00\x01\x00\xFF\xFF\xFF\xFF\xFF",
         &[8, 8],
-        35,
-        1,
-        0,
-    ));
-    say::text(b"hours 9 where 8 is expected: ");
-    check_two(record(7, 0), 1, record(9, 0), 2, 7);
-    say::text(b"a byte off the pattern: ");
-    check_two(record(7, 1), 1, record(8, 0), 2, 7);
-    say::text(b"the same sequence twice: ");
-    check_two(record(7, 0), 0, record(8, 0), 2, 7);
+    );
+}
+
+fn contents() {
+    check_two(b"hours 9 where 8 is expected: ", 0, 1, 9, 2, 7);
+    check_two(b"a byte off the pattern: ", 1, 1, 8, 2, 7);
+    check_two(b"the same sequence twice: ", 0, 0, 8, 2, 7);
+}
+
+pub(crate) fn transmit_refusals() {
+    counts();
+    claims();
+    one_byte();
+    contents();
 }

@@ -16,11 +16,7 @@ fn show(error: CanIdBuildError) {
     }
 }
 
-fn first_answer(pgn: u32, destination: Destination, payload: &[u8]) {
-    let made = FastPacketBuilder::new(pgn, 35, destination, payload, &[127489], 0);
-    let b = made.builder;
-    let next = b.next_frame(0, 0, payload);
-    let kind = next.kind;
+fn show_kind(kind: NextKind) {
     match kind {
         NextKind::Frame => say::text(b"a frame\n"),
         NextKind::End => say::text(b"End\n"),
@@ -28,15 +24,31 @@ fn first_answer(pgn: u32, destination: Destination, payload: &[u8]) {
     }
 }
 
+fn first_answer(words: &[u8], pgn: u32, destination: Destination, payload: &[u8]) {
+    say::text(words);
+    let made = FastPacketBuilder::new(pgn, 35, destination, payload, &[127489], 0);
+    let b = made.builder;
+    let next = b.next_frame(0, 0, payload);
+    let kind = next.kind;
+    show_kind(kind);
+}
+
+fn to_nobody(words: &[u8], pgn: u32, payload: &[u8]) {
+    first_answer(words, pgn, Destination::Nobody, payload);
+}
+
+fn directed(words: &[u8], pgn: u32, address: u8) {
+    first_answer(words, pgn, Destination::To(address), b"1");
+}
+
+fn identifiers() {
+    to_nobody(b"PGN 0x40000: ", 0x4_0000, b"1");
+    to_nobody(b"PGN 60928 to nobody: ", 60928, b"1");
+    directed(b"PGN 127489 to 16: ", 127489, 16);
+    directed(b"PGN 60929 to 255: ", 60929, 255);
+}
+
 pub(crate) fn refusals() {
-    say::text(b"PGN 0x40000: ");
-    first_answer(0x4_0000, Destination::Nobody, b"1");
-    say::text(b"PGN 60928 to nobody: ");
-    first_answer(60928, Destination::Nobody, b"1");
-    say::text(b"PGN 127489 to 16: ");
-    first_answer(127489, Destination::To(16), b"1");
-    say::text(b"PGN 60929 to 255: ");
-    first_answer(60929, Destination::To(255), b"1");
-    say::text(b"an empty payload: ");
-    first_answer(127489, Destination::Nobody, b"");
+    identifiers();
+    to_nobody(b"an empty payload: ", 127489, b"");
 }

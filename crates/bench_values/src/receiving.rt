@@ -29,49 +29,62 @@ fn first_frame(now_ms: u64, source_address: u8) -> Heard {
     }
 }
 
-fn show(r: Received) {
-    let kind = r.kind;
+fn show_kind(kind: Kind) {
     match kind {
         Kind::Refused(number) => say::refusal(number as u64),
         Kind::Ignored => say::text(b"Ignored\n"),
         Kind::FragmentConsumed => say::text(b"FragmentConsumed\n"),
         Kind::MessageComplete => say::text(b"MessageComplete\n"),
     }
-    let c = r.counters;
-    say::text(b"pool_exhausted ");
-    say::number(c.pool_exhausted as u64);
-    say::text(b" expired_sessions ");
-    say::number(c.expired_sessions as u64);
-    say::text(b"\n");
 }
 
-fn second_source_at(now_ms: u64) {
+fn show_counts(c: Counters) {
+    say::text(b"pool_exhausted ");
+    say::number(c.pool_exhausted as u64);
+    say::counted(b" expired_sessions ", c.expired_sessions as u64);
+}
+
+fn show(pool: Pool, counters: Counters, heard: Heard) {
+    let r = receive(pool, counters, &[PGN], heard);
+    let kind = r.kind;
+    let c = r.counters;
+    show_kind(kind);
+    show_counts(c);
+}
+
+// A pool of one slot, which source 35 has taken at 0.
+fn taken() -> Received {
     let made = Pool::new(1);
     let pool = made.pool;
-    let r = receive(pool, no_counts(), &[PGN], first_frame(0, 35));
-    let left = r.pool;
-    let raised = r.counters;
-    show(receive(left, raised, &[PGN], first_frame(now_ms, 36)));
+    receive(pool, no_counts(), &[PGN], first_frame(0, 35))
+}
+
+fn second_source_at(words: &[u8], now_ms: u64) {
+    say::text(words);
+    let r = taken();
+    let pool = r.pool;
+    let counters = r.counters;
+    show(pool, counters, first_frame(now_ms, 36));
 }
 
 // One slot, another key's message silent 500, and 501.
 pub(crate) fn one_slot() {
-    say::text(b"one slot, silent 500: ");
-    second_source_at(500);
-    say::text(b"one slot, silent 501: ");
-    second_source_at(501);
+    second_source_at(b"one slot, silent 500: ", 500);
+    second_source_at(b"one slot, silent 501: ", 501);
+}
+
+fn show_made(refused: u8, size: usize) {
+    say::text(b"a pool of nine: ");
+    say::refusal(refused as u64);
+    say::counted(b"its size: ", size as u64);
 }
 
 // A pool of nine, and a frame for a pool whose size is over eight.
 pub(crate) fn refusals() {
     let made = Pool::new(9);
-    say::text(b"a pool of nine: ");
-    say::refusal(made.refused as u64);
     let mut pool = made.pool;
-    say::text(b"its size: ");
-    say::number(pool.size as u64);
-    say::text(b"\n");
+    show_made(made.refused, pool.size);
     pool.size = 9;
     say::text(b"a frame for a pool of size nine: ");
-    show(receive(pool, no_counts(), &[PGN], first_frame(0, 35)));
+    show(pool, no_counts(), first_frame(0, 35));
 }

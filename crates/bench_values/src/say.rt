@@ -9,27 +9,57 @@ pub(crate) fn number(n: u64) {
     io::print_decimal(STDOUT_FILENO, n);
 }
 
+pub(crate) fn line() {
+    text(b"\n");
+}
+
+// Words, a number and the end of the line.
+pub(crate) fn counted(words: &[u8], n: u64) {
+    text(words);
+    number(n);
+    line();
+}
+
 // A refusal's number, and what it carries.
-pub(crate) fn refusal(n: u64) {
+fn numbered(n: u64) {
     text(b"refusal ");
     number(n);
-    text(b"\n");
+}
+
+fn carried(a: u64) {
+    text(b": ");
+    number(a);
+}
+
+fn also(a: u64) {
+    text(b" ");
+    number(a);
+}
+
+pub(crate) fn refusal(n: u64) {
+    numbered(n);
+    line();
 }
 
 pub(crate) fn refusal_with(n: u64, a: u64) {
-    text(b"refusal ");
-    number(n);
-    text(b": ");
-    number(a);
-    text(b"\n");
+    numbered(n);
+    carried(a);
+    line();
 }
 
 pub(crate) fn refusal_with_two(n: u64, a: u64, b: u64) {
-    text(b"refusal ");
-    number(n);
-    text(b": ");
-    number(a);
-    text(b" ");
-    number(b);
-    text(b"\n");
+    numbered(n);
+    carried(a);
+    also(b);
+    line();
+}
+
+pub(crate) fn refusal_with_five(n: u64, a: u64, b: u64, c: u64, d: u64, e: u64) {
+    numbered(n);
+    carried(a);
+    also(b);
+    also(c);
+    also(d);
+    also(e);
+    line();
 }
