@@ -9,22 +9,16 @@ use can_id::Destination;
 fn show_destination(destination: Destination) {
     match destination {
         Destination::Nobody => say::text(b"to everybody"),
-        Destination::To(address) => {
-            say::text(b"to ");
-            say::number(address as u64);
-        }
+        Destination::To(address) => say::told(b"to ", address as u64),
     }
 }
 
 fn show_parts(id: CanId) {
     say::text(b"  ");
     say::identifier(id.0);
-    say::text(b"  priority ");
-    say::number(id.priority() as u64);
-    say::text(b", PGN ");
-    say::number(id.pgn() as u64);
-    say::text(b", from ");
-    say::number(id.source_address() as u64);
+    say::told(b"  priority ", id.priority() as u64);
+    say::told(b", PGN ", id.pgn() as u64);
+    say::told(b", from ", id.source_address() as u64);
     say::text(b" ");
     show_destination(id.destination());
     say::text(b"\n");
@@ -32,39 +26,45 @@ fn show_parts(id: CanId) {
 
 fn show_refusal(error: CanIdBuildError) {
     match error {
-        CanIdBuildError::InvalidData => say::text(b"refusal 2"),
-        CanIdBuildError::InvalidDestination => say::text(b"refusal 3"),
-        CanIdBuildError::InvalidForBroadcast => say::text(b"refusal 4"),
+        CanIdBuildError::InvalidData => say::refusal(2),
+        CanIdBuildError::InvalidDestination => say::refusal(3),
+        CanIdBuildError::InvalidForBroadcast => say::refusal(4),
         CanIdBuildError::InvalidForFocusedMessage { pgn } => {
-            say::text(b"refusal 5, PF ");
-            say::number(pgn as u64);
+            say::refusal(5);
+            say::told(b", PF ", pgn as u64);
         }
-        CanIdBuildError::PsFocusMessageMustBeNull => say::text(b"refusal 6"),
-        CanIdBuildError::EmptyPayload => say::text(b"refusal 7"),
+        CanIdBuildError::PsFocusMessageMustBeNull => say::refusal(6),
+        CanIdBuildError::EmptyPayload => say::refusal(7),
     }
 }
 
-fn show_built(builder: CanIdBuilder) {
-    say::text(b"  PGN ");
-    say::number(builder.pgn as u64);
-    say::text(b" from ");
-    say::number(builder.source_address as u64);
-    say::text(b" ");
-    let destination = builder.destination;
-    show_destination(destination);
+fn show_result(built: Built) {
     say::text(b": ");
-    match builder.build() {
+    match built {
         Built::Id(id) => say::identifier(id.0),
         Built::Refused(error) => show_refusal(error),
     }
     say::text(b"\n");
 }
 
-pub(crate) fn show() {
+fn show_built(builder: CanIdBuilder) {
+    say::told(b"  PGN ", builder.pgn as u64);
+    say::told(b" from ", builder.source_address as u64);
+    say::text(b" ");
+    let destination = builder.destination;
+    show_destination(destination);
+    show_result(builder.build());
+}
+
+fn show_read() {
     say::text(b"Identifiers taken apart\n");
     show_parts(CanId(0x19F2_0123));
     show_parts(CanId(0x18EE_FF23));
     show_parts(CanId(0x0DED_1023));
+}
+
+pub(crate) fn show() {
+    show_read();
     say::text(b"Identifiers built\n");
     show_built(CanId::builder(127489, 35));
     show_built(CanId::builder(60928, 35).to_destination(255));

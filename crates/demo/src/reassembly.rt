@@ -29,51 +29,61 @@ fn started(size: usize) -> Gateway {
     }
 }
 
+fn show_message(r: Received) {
+    let payload = r.payload;
+    say::text(b"MessageComplete: ");
+    say::hours(engine::hours(payload));
+}
+
 fn show_answer(r: Received) {
     let kind = r.kind;
     match kind {
-        Kind::Refused(number) => {
-            say::text(b"refusal ");
-            say::number(number as u64);
-        }
+        Kind::Refused(number) => say::refusal(number as u64),
         Kind::Ignored => say::text(b"Ignored"),
         Kind::FragmentConsumed => say::text(b"FragmentConsumed"),
-        Kind::MessageComplete => {
-            let payload = r.payload;
-            say::text(b"MessageComplete: ");
-            say::hours(engine::hours(payload));
-        }
+        Kind::MessageComplete => show_message(r),
     }
     say::text(b"\n");
 }
 
-// One frame of an engine record is heard.
-fn hear(g: Gateway, now_ms: u64, source: u8, sequence: u8, index: u8, hours: u32) -> Gateway {
-    say::text(b"  at ");
-    say::number(now_ms);
-    say::text(b" ms from ");
-    say::number(source as u64);
-    say::text(b", message ");
-    say::number(sequence as u64);
-    say::text(b", frame ");
-    say::number(index as u64);
+fn show_frame(now_ms: u64, source: u8, sequence: u8, index: u8) {
+    say::told(b"  at ", now_ms);
+    say::told(b" ms from ", source as u64);
+    say::told(b", message ", sequence as u64);
+    say::told(b", frame ", index as u64);
     say::text(b": ");
-    let heard = Heard {
+}
+
+fn heard_frame(now_ms: u64, source: u8, sequence: u8, index: u8, hours: u32) -> Heard {
+    Heard {
         now_ms: now_ms,
         pgn: engine::PGN,
         source_address: source,
         data: engine::frame(hours, source, sequence, index),
-    };
+    }
+}
+
+fn received(g: Gateway, heard: Heard) -> Received {
     let pool = g.pool;
     let counters = g.counters;
-    let r = receive(pool, counters, &[engine::PGN], heard);
-    show_answer(r);
-    let left = r.pool;
-    let raised = r.counters;
+    receive(pool, counters, &[engine::PGN], heard)
+}
+
+fn after(r: Received) -> Gateway {
+    let pool = r.pool;
+    let counters = r.counters;
     Gateway {
-        pool: left,
-        counters: raised,
+        pool: pool,
+        counters: counters,
     }
+}
+
+// One frame of an engine record is heard.
+fn hear(g: Gateway, now_ms: u64, source: u8, sequence: u8, index: u8, hours: u32) -> Gateway {
+    show_frame(now_ms, source, sequence, index);
+    let r = received(g, heard_frame(now_ms, source, sequence, index, hours));
+    show_answer(r);
+    after(r)
 }
 
 // The last two frames of a record, ten milliseconds apart.
@@ -99,26 +109,31 @@ fn later(now_ms: u64) -> u64 {
 
 fn show_counters(g: Gateway) {
     let c = g.counters;
-    say::text(b"  expired_sessions ");
-    say::number(c.expired_sessions as u64);
-    say::text(b", pool_exhausted ");
-    say::number(c.pool_exhausted as u64);
-    say::text(b", lost_fragments ");
-    say::number(c.lost_fragments as u64);
+    say::told(b"  expired_sessions ", c.expired_sessions as u64);
+    say::told(b", pool_exhausted ", c.pool_exhausted as u64);
+    say::told(b", lost_fragments ", c.lost_fragments as u64);
     say::text(b"\n");
 }
 
-fn show_old_half() {
+fn say_old_half() {
     say::text(b"Half of a message is left open at ");
     say::hours(0x12_FFF0);
     say::text(b"; of the next with its number only the tail arrives\n");
+}
+
+fn say_joined() {
+    say::text(b"  (joined, the two would have read ");
+    say::hours(0x13_FFF0);
+    say::text(b")\n");
+}
+
+fn show_old_half() {
+    say_old_half();
     let mut g = started(4);
     g = hear(g, 0, 35, 5, 0, 0x12_FFF0);
     g = hear(g, 10, 35, 5, 1, 0x12_FFF0);
     g = hear_tail(g, 4020, 35, 5, 0x13_0000);
-    say::text(b"  (joined, the two would have read ");
-    say::hours(0x13_FFF0);
-    say::text(b")\n");
+    say_joined();
     g = hear_whole(g, 4500, 35, 6, 0x13_0001);
     g = hear_whole(g, 8000, 35, 5, 0x13_0004);
     show_counters(g);

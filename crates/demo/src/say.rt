@@ -9,6 +9,16 @@ pub(crate) fn number(n: u64) {
     io::print_decimal(STDOUT_FILENO, n);
 }
 
+// Words and then a number.
+pub(crate) fn told(words: &[u8], n: u64) {
+    text(words);
+    number(n);
+}
+
+pub(crate) fn refusal(n: u64) {
+    told(b"refusal ", n);
+}
+
 // Eight hex digits.
 pub(crate) fn identifier(id: u32) {
     text(b"0x");
@@ -17,12 +27,10 @@ pub(crate) fn identifier(id: u32) {
 
 // Seconds, and the same as hours and minutes.
 pub(crate) fn hours(seconds: u64) {
-    number(seconds);
-    text(b" s, ");
-    number(seconds / 3600);
-    text(b":");
     let minutes = seconds / 60 % 60;
-    number(minutes / 10);
+    number(seconds);
+    told(b" s, ", seconds / 3600);
+    told(b":", minutes / 10);
     number(minutes % 10);
     text(b" h");
 }
