@@ -176,7 +176,10 @@ impl CanIdBuilder {
     pub fn build(self) -> Built
         ensures { λ r. ⌜ answerOf r ≡ buildOf self ⌝ }
     {
-        if self.pgn > CanId::MAX_PGN || self.priority > CanId::MAX_PRIORITY {
+        if self.pgn > CanId::MAX_PGN {
+            return Built::Refused(CanIdBuildError::InvalidData);
+        }
+        if self.priority > CanId::MAX_PRIORITY {
             return Built::Refused(CanIdBuildError::InvalidData);
         }
         let pf = ((self.pgn >> 8) % 0x100) as u8;
@@ -187,7 +190,7 @@ impl CanIdBuilder {
                 if pf < 240 {
                     return Built::Refused(CanIdBuildError::InvalidForBroadcast);
                 }
-                Built::Id(self.compose(ps))
+                return Built::Id(self.compose(ps));
             }
             Destination::To(da) => {
                 if pf >= 240 {
@@ -196,7 +199,7 @@ impl CanIdBuilder {
                 if ps != 0 {
                     return Built::Refused(CanIdBuildError::PsFocusMessageMustBeNull);
                 }
-                Built::Id(self.compose(da))
+                return Built::Id(self.compose(da));
             }
         }
     }
