@@ -48,6 +48,7 @@ void hf_fill_short(uint8_t data[8], size_t len);
 /* Returns the number that the caller holds from now on. */
 uint8_t hf_builder_new(uint32_t pgn, uint8_t source_address, uint16_t destination, const uint8_t *payload, size_t payload_len,
                        const uint32_t *pgns, size_t pgns_len, uint8_t sequence_id, uint64_t builder[6]);
+/* The setters refuse nothing and write all six numbers, each in the width of its field. */
 void hf_builder_with_sequence_id(uint64_t builder[6], uint8_t sequence_id);
 void hf_builder_with_priority(uint64_t builder[6], uint8_t priority);
 void hf_builder_to_destination(uint64_t builder[6], uint8_t destination);
