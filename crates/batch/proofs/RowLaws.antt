@@ -7,6 +7,7 @@ use native.Mathlib.Omega.{arith}
 use borrow.Author.Tests.{ltb-false, lt-ltb, le-ltb}
 use Rattle.base.proofs.Cases.{less?}
 use Rattle.base.specs.Pick.{pick}
+use Rattle.session.specs.Rules.{poolLimit}
 use Rattle.batch.specs.Rows.{tooShort}
 use Rattle.batch.specs.inner.Ways.{refusalOf}
 
@@ -63,3 +64,18 @@ module _ (bad short b : Bool) (eb : b ≡ bad) where
     pub refused-none : s ≡ false → 0 ≡ refusalOf bad short
     unfolding refusalOf pick
     refused-none z = rw (← eb, y, ← es, z)
+
+-- where a place stands in memory
+pub head-place : (g : ℕ) → g < poolLimit → g * 32 < 18446744073709551616
+head-place g low = omega arith
+
+pub number-place : (g : ℕ) → g < poolLimit → g * 8 < 18446744073709551616
+number-place g low = omega arith
+
+-- the loop's end comes nearer
+pub nearer : (n i : ℕ) → i < n → n - (i + 1) < n - i
+nearer n i turn = omega arith
+
+-- a row that was long enough still is
+pub still-long : (i n m m₀ : ℕ) → i < n → m ≡ m₀ → n ≤ m₀ → i < m
+still-long i n m m₀ turn same long = omega arith

@@ -10,7 +10,7 @@ use Rattle.assembler.proofs.Views.{Whole}
 use Rattle.batch.specs.Rows.{refusedBy}
 use Rattle.batch.specs.inner.Memory.{Remembers}
 use Rattle.batch.specs.inner.Ways.{blankHeard}
-use Rattle.batch.proofs.RowLaws.{has-room}
+use Rattle.batch.proofs.RowLaws.{has-room, head-place, number-place, nearer, still-long}
 use Rattle.batch.proofs.WayLaws.{run-missing}
 use Rattle.batch.proofs.Mirrors.{remembers-none}
 use Rattle.batch.proofs.Runs.{begins, ends, gives-refused, gives-run, possible, fits-all}
@@ -62,16 +62,16 @@ seek-requires c κs =
     (s .mirrors .keys, s .mirrors .owners, s .mirrors .lasts, small-of (c .before .before .before .before .before .before .before .before .before .loop .q) (s .possible))
 
 slice-write-kinds : tie.Need-slice-write-kinds Inv-loop μ-loop
-slice-write-kinds c = omega (arith, c .before .before .before .before .before .before .before .before .before .before .before .before .before .before .loop-test .taken, c .before .before .before .before .before .before .before .before .before .before .before .before .before .before .before .loop .inv .0 .run .kinds, c .before .before .before .before .before .before .before .before .before .before .before .before .before .before .before .loop .inv .0 .run .fit .kinds)
+slice-write-kinds c = still-long _ _ _ _ (c .before .before .before .before .before .before .before .before .before .before .before .before .before .before .loop-test .taken) (c .before .before .before .before .before .before .before .before .before .before .before .before .before .before .before .loop .inv .0 .run .kinds) (c .before .before .before .before .before .before .before .before .before .before .before .before .before .before .before .loop .inv .0 .run .fit .kinds)
 
 slice-write-lengths : tie.Need-slice-write-lengths Inv-loop μ-loop
-slice-write-lengths c = omega (arith, c .before .before .before .before .before .before .before .before .before .before .before .before .before .before .loop-test .taken, c .before .before .before .before .before .before .before .before .before .before .before .before .before .before .before .loop .inv .0 .run .lengths, c .before .before .before .before .before .before .before .before .before .before .before .before .before .before .before .loop .inv .0 .run .fit .lengths)
+slice-write-lengths c = still-long _ _ _ _ (c .before .before .before .before .before .before .before .before .before .before .before .before .before .before .loop-test .taken) (c .before .before .before .before .before .before .before .before .before .before .before .before .before .before .before .loop .inv .0 .run .lengths) (c .before .before .before .before .before .before .before .before .before .before .before .before .before .before .before .loop .inv .0 .run .fit .lengths)
 
 add-i : tie.Need-add-i Inv-loop μ-loop
 add-i c = omega (arith, c .before .before .before .before .before .before .before .before .before .before .before .before .before .before .loop-test .taken, c .before .before .before .before .before .before .before .before .before .before .before .before .before .before .before .before .before .before .before .before .before .before .before .before .before .before .before .before .before .before .before .before .good .1 .1 .1 .0)
 
 loop-less : tie.Need-loop-less Inv-loop μ-loop
-loop-less c = omega (arith, c .before .before .before .before .before .before .before .before .before .before .before .before .before .before .loop-test .taken)
+loop-less c = nearer _ _ (c .before .before .before .before .before .before .before .before .before .before .before .before .before .before .loop-test .taken)
 
 loop-again : tie.Need-loop-again Inv-loop μ-loop
 loop-again c = (step-missed _ _ _ _ _ _ _ _ _ _ _ _ _ _ _ _ _ (c .before .before .before .before .before .before .before .before .before .before .before .before .before .before .before .loop .inv .0) (c .before .before .before .before .before .before .before .before .before .before .before .before .before .before .loop-test .taken) _ (c .before .before .before .before .before .before .before .before .before .before .before .before .before .frame-at .ensures) _ (c .before .before .before .before .before .before .before .before .before .before .looked-up .ensures .0) _ (c .before .before .before .before .before .before .before .before .before .key-of-frame .ensures) _ (c .before .before .before .before .before .seek .ensures) (c .before .before .before .if2 .taken) _ (c .before .before .short-in .ensures .0) (c .before .if3 .taken) _ (c .missed .ensures), c .before .before .before .before .before .before .before .before .before .before .looked-up .ensures .1)
@@ -98,13 +98,13 @@ deliver-short-requires : tie.Need-deliver-short-requires Inv-loop μ-loop
 deliver-short-requires c κs = (has-room _ (c .before .before .before .before .before .before .before .before .before .before .before .before .before .before .before .before .before .loop .used) _ _ (c .before .before .no-room .ensures) (c .before .if4 .left), c .before .before .before .before .short-in .ensures .1)
 
 slice-write-kinds-2 : tie.Need-slice-write-kinds-2 Inv-loop μ-loop
-slice-write-kinds-2 c = omega (arith, c .before .before .before .before .before .before .before .before .before .before .before .before .before .before .before .before .before .before .before .loop-test .taken, c .before .before .before .before .before .before .before .before .before .before .before .before .before .before .before .before .before .before .before .before .loop .inv .0 .run .kinds, c .before .before .before .before .before .before .before .before .before .before .before .before .before .before .before .before .before .before .before .before .loop .inv .0 .run .fit .kinds)
+slice-write-kinds-2 c = still-long _ _ _ _ (c .before .before .before .before .before .before .before .before .before .before .before .before .before .before .before .before .before .before .before .loop-test .taken) (c .before .before .before .before .before .before .before .before .before .before .before .before .before .before .before .before .before .before .before .before .loop .inv .0 .run .kinds) (c .before .before .before .before .before .before .before .before .before .before .before .before .before .before .before .before .before .before .before .before .loop .inv .0 .run .fit .kinds)
 
 cast-lengths : tie.Need-cast-lengths Inv-loop μ-loop
 cast-lengths c = omega (arith, c .before .before .before .before .before .before .before .short-in .ensures .1)
 
 slice-write-lengths-2 : tie.Need-slice-write-lengths-2 Inv-loop μ-loop
-slice-write-lengths-2 c = omega (arith, c .before .before .before .before .before .before .before .before .before .before .before .before .before .before .before .before .before .before .before .loop-test .taken, c .before .before .before .before .before .before .before .before .before .before .before .before .before .before .before .before .before .before .before .before .loop .inv .0 .run .lengths, c .before .before .before .before .before .before .before .before .before .before .before .before .before .before .before .before .before .before .before .before .loop .inv .0 .run .fit .lengths)
+slice-write-lengths-2 c = still-long _ _ _ _ (c .before .before .before .before .before .before .before .before .before .before .before .before .before .before .before .before .before .before .before .loop-test .taken) (c .before .before .before .before .before .before .before .before .before .before .before .before .before .before .before .before .before .before .before .before .loop .inv .0 .run .lengths) (c .before .before .before .before .before .before .before .before .before .before .before .before .before .before .before .before .before .before .before .before .loop .inv .0 .run .fit .lengths)
 
 add-used : tie.Need-add-used Inv-loop μ-loop
 add-used c =
@@ -115,7 +115,7 @@ add-i-2 : tie.Need-add-i-2 Inv-loop μ-loop
 add-i-2 c = omega (arith, c .before .before .before .before .before .before .before .before .before .before .before .before .before .before .before .before .before .before .before .loop-test .taken, c .before .before .before .before .before .before .before .before .before .before .before .before .before .before .before .before .before .before .before .before .before .before .before .before .before .before .before .before .before .before .before .before .before .before .before .before .before .good .1 .1 .1 .0)
 
 loop-less-2 : tie.Need-loop-less-2 Inv-loop μ-loop
-loop-less-2 c = omega (arith, c .before .before .before .before .before .before .before .before .before .before .before .before .before .before .before .before .before .before .before .loop-test .taken)
+loop-less-2 c = nearer _ _ (c .before .before .before .before .before .before .before .before .before .before .before .before .before .before .before .before .before .before .before .loop-test .taken)
 
 loop-again-2 : tie.Need-loop-again-2 Inv-loop μ-loop
 loop-again-2 c = (step-short _ _ _ _ _ _ _ _ _ _ _ _ _ _ _ _ _ (c .before .before .before .before .before .before .before .before .before .before .before .before .before .before .before .before .before .before .before .before .loop .inv .0) (c .before .before .before .before .before .before .before .before .before .before .before .before .before .before .before .before .before .before .before .loop-test .taken) _ (c .before .before .before .before .before .before .before .before .before .before .before .before .before .before .before .before .before .before .frame-at .ensures) _ (c .before .before .before .before .before .before .before .before .before .before .before .before .before .before .before .looked-up .ensures .0) _ (c .before .before .before .before .before .before .before .before .before .before .before .before .before .before .key-of-frame .ensures) _ (c .before .before .before .before .before .before .before .before .before .before .seek .ensures) (c .before .before .before .before .before .before .before .before .if2 .taken) _ (c .before .before .before .before .before .before .before .short-in .ensures .0) (c .before .before .before .before .before .before .if3 .left) _ (c .before .before .before .before .before .no-room .ensures) (c .before .before .before .before .if4 .left) _ (c .before .before .deliver-short .ensures), c .before .before .before .before .before .before .before .before .before .before .before .before .before .before .before .looked-up .ensures .1)
@@ -127,16 +127,16 @@ keep-requires : tie.Need-keep-requires Inv-loop μ-loop
 keep-requires c κs = (c .before .before .before .before .before .before .before .before .before .before .before .before .before .before .before .before .before .loop .inv .0 .run .whole .bytes, c .before .before .before .before .before .if2 .left, runs-fit _ _ _ _ _ _ _ _ _ _ _ _ _ _ _ _ _ (c .before .before .before .before .before .before .before .before .before .before .before .before .before .before .before .before .before .loop .inv .0) (c .before .before .before .before .before .before .before .before .before .before .before .before .before .before .before .before .loop-test .taken) _ (c .before .before .before .before .before .before .before .before .before .before .before .before .before .before .before .frame-at .ensures) _ (c .before .before .before .before .before .before .before .before .before .before .before .before .looked-up .ensures .0) _ (c .before .before .before .before .before .before .before .before .before .before .before .key-of-frame .ensures) _ (c .before .before .before .before .before .before .before .seek .ensures) (c .before .before .before .before .before .if2 .left) _ _ (c .before .before .before .runs-on .ensures) (c .before .before .if5 .taken))
 
 slice-write-kinds-3 : tie.Need-slice-write-kinds-3 Inv-loop μ-loop
-slice-write-kinds-3 c = omega (arith, c .before .before .before .before .before .before .before .before .before .before .before .before .before .before .before .before .before .loop-test .taken, c .before .before .before .before .before .before .before .before .before .before .before .before .before .before .before .before .before .before .loop .inv .0 .run .kinds, c .before .before .before .before .before .before .before .before .before .before .before .before .before .before .before .before .before .before .loop .inv .0 .run .fit .kinds)
+slice-write-kinds-3 c = still-long _ _ _ _ (c .before .before .before .before .before .before .before .before .before .before .before .before .before .before .before .before .before .loop-test .taken) (c .before .before .before .before .before .before .before .before .before .before .before .before .before .before .before .before .before .before .loop .inv .0 .run .kinds) (c .before .before .before .before .before .before .before .before .before .before .before .before .before .before .before .before .before .before .loop .inv .0 .run .fit .kinds)
 
 slice-write-lengths-3 : tie.Need-slice-write-lengths-3 Inv-loop μ-loop
-slice-write-lengths-3 c = omega (arith, c .before .before .before .before .before .before .before .before .before .before .before .before .before .before .before .before .before .loop-test .taken, c .before .before .before .before .before .before .before .before .before .before .before .before .before .before .before .before .before .before .loop .inv .0 .run .lengths, c .before .before .before .before .before .before .before .before .before .before .before .before .before .before .before .before .before .before .loop .inv .0 .run .fit .lengths)
+slice-write-lengths-3 c = still-long _ _ _ _ (c .before .before .before .before .before .before .before .before .before .before .before .before .before .before .before .before .before .loop-test .taken) (c .before .before .before .before .before .before .before .before .before .before .before .before .before .before .before .before .before .before .loop .inv .0 .run .lengths) (c .before .before .before .before .before .before .before .before .before .before .before .before .before .before .before .before .before .before .loop .inv .0 .run .fit .lengths)
 
 add-i-3 : tie.Need-add-i-3 Inv-loop μ-loop
 add-i-3 c = omega (arith, c .before .before .before .before .before .before .before .before .before .before .before .before .before .before .before .before .before .loop-test .taken, c .before .before .before .before .before .before .before .before .before .before .before .before .before .before .before .before .before .before .before .before .before .before .before .before .before .before .before .before .before .before .before .before .before .before .before .good .1 .1 .1 .0)
 
 loop-less-3 : tie.Need-loop-less-3 Inv-loop μ-loop
-loop-less-3 c = omega (arith, c .before .before .before .before .before .before .before .before .before .before .before .before .before .before .before .before .before .loop-test .taken)
+loop-less-3 c = nearer _ _ (c .before .before .before .before .before .before .before .before .before .before .before .before .before .before .before .before .before .loop-test .taken)
 
 loop-again-3 : tie.Need-loop-again-3 Inv-loop μ-loop
 loop-again-3 c = (step-running _ _ _ _ _ _ _ _ _ _ _ _ _ _ _ _ _ (c .before .before .before .before .before .before .before .before .before .before .before .before .before .before .before .before .before .before .loop .inv .0) (c .before .before .before .before .before .before .before .before .before .before .before .before .before .before .before .before .before .loop-test .taken) _ (c .before .before .before .before .before .before .before .before .before .before .before .before .before .before .before .before .frame-at .ensures) _ (c .before .before .before .before .before .before .before .before .before .before .before .before .before .looked-up .ensures .0) _ (c .before .before .before .before .before .before .before .before .before .before .before .before .key-of-frame .ensures) _ (c .before .before .before .before .before .before .before .before .seek .ensures) (c .before .before .before .before .before .before .if2 .left) _ _ (c .before .before .before .before .runs-on .ensures) (c .before .before .before .if5 .taken) _ (c .before .before .ran-on .ensures) _ (c .keep .ensures), c .before .before .before .before .before .before .before .before .before .before .before .before .before .looked-up .ensures .1)
@@ -165,10 +165,10 @@ take-requires c κs =
     (c .before .before .before .before .before .before .before .before .before .before .before .before .before .before .before .before .before .before .before .before .loop .inv .0 .run .whole .bytes, c .before .before .before .before .before .before .before .before .if2 .left, fits .room, fits .there, fits .whole, has-room _ (c .before .before .before .before .before .before .before .before .before .before .before .before .before .before .before .before .before .before .before .before .loop .used) _ _ (c .before .before .before .no-room2 .ensures) (c .before .before .if6 .left))
 
 slice-write-kinds-4 : tie.Need-slice-write-kinds-4 Inv-loop μ-loop
-slice-write-kinds-4 c = omega (arith, c .before .before .before .before .before .before .before .before .before .before .before .before .before .before .before .before .before .before .before .before .before .before .before .loop-test .taken, c .before .before .before .before .before .before .before .before .before .before .before .before .before .before .before .before .before .before .before .before .before .before .before .before .loop .inv .0 .run .kinds, c .before .before .before .before .before .before .before .before .before .before .before .before .before .before .before .before .before .before .before .before .before .before .before .before .loop .inv .0 .run .fit .kinds)
+slice-write-kinds-4 c = still-long _ _ _ _ (c .before .before .before .before .before .before .before .before .before .before .before .before .before .before .before .before .before .before .before .before .before .before .before .loop-test .taken) (c .before .before .before .before .before .before .before .before .before .before .before .before .before .before .before .before .before .before .before .before .before .before .before .before .loop .inv .0 .run .kinds) (c .before .before .before .before .before .before .before .before .before .before .before .before .before .before .before .before .before .before .before .before .before .before .before .before .loop .inv .0 .run .fit .kinds)
 
 slice-write-lengths-4 : tie.Need-slice-write-lengths-4 Inv-loop μ-loop
-slice-write-lengths-4 c = omega (arith, c .before .before .before .before .before .before .before .before .before .before .before .before .before .before .before .before .before .before .before .before .before .before .before .loop-test .taken, c .before .before .before .before .before .before .before .before .before .before .before .before .before .before .before .before .before .before .before .before .before .before .before .before .loop .inv .0 .run .lengths, c .before .before .before .before .before .before .before .before .before .before .before .before .before .before .before .before .before .before .before .before .before .before .before .before .loop .inv .0 .run .fit .lengths)
+slice-write-lengths-4 c = still-long _ _ _ _ (c .before .before .before .before .before .before .before .before .before .before .before .before .before .before .before .before .before .before .before .before .before .before .before .loop-test .taken) (c .before .before .before .before .before .before .before .before .before .before .before .before .before .before .before .before .before .before .before .before .before .before .before .before .loop .inv .0 .run .lengths) (c .before .before .before .before .before .before .before .before .before .before .before .before .before .before .before .before .before .before .before .before .before .before .before .before .loop .inv .0 .run .fit .lengths)
 
 add-used-2 : tie.Need-add-used-2 Inv-loop μ-loop
 add-used-2 c =
@@ -179,7 +179,7 @@ add-i-4 : tie.Need-add-i-4 Inv-loop μ-loop
 add-i-4 c = omega (arith, c .before .before .before .before .before .before .before .before .before .before .before .before .before .before .before .before .before .before .before .before .before .before .before .before .loop-test .taken, c .before .before .before .before .before .before .before .before .before .before .before .before .before .before .before .before .before .before .before .before .before .before .before .before .before .before .before .before .before .before .before .before .before .before .before .before .before .before .before .before .before .before .good .1 .1 .1 .0)
 
 loop-less-4 : tie.Need-loop-less-4 Inv-loop μ-loop
-loop-less-4 c = omega (arith, c .before .before .before .before .before .before .before .before .before .before .before .before .before .before .before .before .before .before .before .before .before .before .before .before .before .before .loop-test .taken)
+loop-less-4 c = nearer _ _ (c .before .before .before .before .before .before .before .before .before .before .before .before .before .before .before .before .before .before .before .before .before .before .before .before .before .before .loop-test .taken)
 
 loop-again-4 : tie.Need-loop-again-4 Inv-loop μ-loop
 loop-again-4 c =
@@ -238,14 +238,14 @@ process-frames-spec =
     add-i-2
     loop-less-2
     loop-again-2
-    (λ c. omega (arith, c .if2 .left))
-    (λ c. omega (arith, c .if2 .left))
+    (λ c. record { fits = head-place _ (c .if2 .left) })
+    (λ c. c .if2 .left)
     (λ c κs. search needs)
     ran-on-requires
-    (λ c. omega (arith, c .before .before .before .before .if2 .left))
-    (λ c. omega (arith, c .before .before .before .before .if2 .left))
-    (λ c. omega (arith, c .before .before .before .before .if2 .left))
-    (λ c. omega (arith, c .before .before .before .before .if2 .left))
+    (λ c. record { fits = head-place _ (c .before .before .before .before .if2 .left) })
+    (λ c. c .before .before .before .before .if2 .left)
+    (λ c. record { fits = number-place _ (c .before .before .before .before .if2 .left) })
+    (λ c. c .before .before .before .before .if2 .left)
     keep-requires
     slice-write-kinds-3
     slice-write-lengths-3
@@ -263,14 +263,14 @@ process-frames-spec =
     slice-write-lengths-4
     add-used-2
     add-i-4
-    (λ c. omega (arith, c .before .before .before .before .before .before .before .before .before .before .before .before .before .before .if2 .left))
-    (λ c. omega (arith, c .before .before .before .before .before .before .before .before .before .before .before .before .before .before .if2 .left))
+    (λ c. record { fits = head-place _ (c .before .before .before .before .before .before .before .before .before .before .before .before .before .before .if2 .left) })
+    (λ c. c .before .before .before .before .before .before .before .before .before .before .before .before .before .before .if2 .left)
     (λ c κs. search needs)
-    (λ c. omega (arith, c .before .before .before .before .before .before .before .before .before .before .before .before .before .before .before .if2 .left))
-    (λ c. omega (arith, c .before .before .before .before .before .before .before .before .before .before .before .before .before .before .before .if2 .left))
-    (λ c. omega (arith, c .before .before .before .before .before .before .before .before .before .before .before .before .before .before .before .if2 .left))
-    (λ c. omega (arith, c .before .before .before .before .before .before .before .before .before .before .before .before .before .before .before .if2 .left))
-    (λ c. omega (arith, c .before .before .before .before .before .before .before .before .before .before .before .before .before .before .before .if2 .left))
+    (λ c. record { fits = number-place _ (c .before .before .before .before .before .before .before .before .before .before .before .before .before .before .before .if2 .left) })
+    (λ c. c .before .before .before .before .before .before .before .before .before .before .before .before .before .before .before .if2 .left)
+    (λ c. c .before .before .before .before .before .before .before .before .before .before .before .before .before .before .before .if2 .left)
+    (λ c. record { fits = number-place _ (c .before .before .before .before .before .before .before .before .before .before .before .before .before .before .before .if2 .left) })
+    (λ c. c .before .before .before .before .before .before .before .before .before .before .before .before .before .before .before .if2 .left)
     loop-less-4
     loop-again-4
     same-length-7
