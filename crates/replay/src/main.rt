@@ -10,7 +10,6 @@ use assembler::process_frame_through;
 use builder::FastPacketBuilder;
 use builder::Next;
 use builder::NextKind;
-use can_id::CanFrame;
 use can_id::CanIdBuildError;
 use can_id::Destination;
 use fast_packet::MAX_FAST_PACKET_PAYLOAD;
@@ -93,12 +92,8 @@ fn write_byte(x: u8) {
     io::write_all(STDOUT_FILENO, &[digit(x / 16), digit(x)]);
 }
 
-fn write_text(words: &[u8]) {
-    io::write_all(STDOUT_FILENO, words);
-}
-
 fn write_number(n: u64) {
-    write_text(b" ");
+    io::write_all(STDOUT_FILENO, b" ");
     io::print_decimal(STDOUT_FILENO, n);
 }
 
@@ -127,18 +122,16 @@ fn write_frame(data: [u8; 8]) {
 fn write_kind(kind: Kind) {
     match kind {
         Kind::Refused(number) => write_number(number as u64),
-        Kind::Ignored => write_text(b"Ignored"),
-        Kind::FragmentConsumed => write_text(b"FragmentConsumed"),
-        Kind::MessageComplete => write_text(b"MessageComplete"),
+        Kind::Ignored => {
+            io::write_all(STDOUT_FILENO, b"Ignored");
+        }
+        Kind::FragmentConsumed => {
+            io::write_all(STDOUT_FILENO, b"FragmentConsumed");
+        }
+        Kind::MessageComplete => {
+            io::write_all(STDOUT_FILENO, b"MessageComplete");
+        }
     }
-}
-
-fn write_counters(c: Counters) {
-    write_number(c.expired_sessions as u64);
-    write_number(c.pool_exhausted as u64);
-    write_number(c.rejected_frames as u64);
-    write_number(c.lost_fragments as u64);
-    write_number(c.unknown_pgn as u64);
 }
 
 fn write_answer(r: Received) {
@@ -146,9 +139,13 @@ fn write_answer(r: Received) {
     let c = r.counters;
     let payload = r.payload;
     write_kind(kind);
-    write_counters(c);
+    write_number(c.expired_sessions as u64);
+    write_number(c.pool_exhausted as u64);
+    write_number(c.rejected_frames as u64);
+    write_number(c.lost_fragments as u64);
+    write_number(c.unknown_pgn as u64);
     write_payload(payload, r.length);
-    write_text(b"\n");
+    io::write_all(STDOUT_FILENO, b"\n");
 }
 
 struct State {
@@ -174,8 +171,8 @@ fn fresh(size: usize) -> State {
     }
 }
 
-fn data_in(line: &[u8; 44]) -> [u8; 8] {
-    [
+fn heard_in(line: &[u8; 44]) -> Heard {
+    let data = [
         byte(line, 27),
         byte(line, 29),
         byte(line, 31),
@@ -184,38 +181,27 @@ fn data_in(line: &[u8; 44]) -> [u8; 8] {
         byte(line, 37),
         byte(line, 39),
         byte(line, 41),
-    ]
-}
-
-fn heard_in(line: &[u8; 44]) -> Heard {
+    ];
     Heard {
         now_ms: long(line, 1),
         pgn: word(line, 17),
         source_address: byte(line, 25),
-        data: data_in(line),
-    }
-}
-
-fn received(s: State, heard: Heard) -> Received {
-    let pool = s.pool;
-    let counters = s.counters;
-    process_frame_through(pool, counters, &[127489, 129029], heard)
-}
-
-fn after(r: Received) -> State {
-    let pool = r.pool;
-    let counters = r.counters;
-    State {
-        more: true,
-        pool: pool,
-        counters: counters,
+        data: data,
     }
 }
 
 fn hear(s: State, line: &[u8; 44]) -> State {
-    let r = received(s, heard_in(line));
+    let pool = s.pool;
+    let counters = s.counters;
+    let r = process_frame_through(pool, counters, &[127489, 129029], heard_in(line));
     write_answer(r);
-    after(r)
+    let after = r.pool;
+    let counted = r.counters;
+    State {
+        more: true,
+        pool: after,
+        counters: counted,
+    }
 }
 
 // ---- frames built
@@ -239,32 +225,28 @@ fn refusal(error: CanIdBuildError) -> u64 {
     }
 }
 
-fn write_found(kind: NextKind) {
-    match kind {
-        NextKind::Frame => write_text(b"Frame"),
-        NextKind::End => write_text(b"End"),
-        NextKind::Refused(error) => {
-            write_text(b"Refused");
-            write_number(refusal(error));
-        }
-    }
-}
-
-fn write_built(frame: CanFrame) {
-    let data = frame.data;
-    write_number(frame.id.0 as u64);
-    write_frame(data);
-    write_number(frame.len as u64);
-}
-
 fn write_next(next: Next) {
     let kind = next.kind;
     let frame = next.frame;
-    write_found(kind);
-    write_built(frame);
+    let data = frame.data;
+    match kind {
+        NextKind::Frame => {
+            io::write_all(STDOUT_FILENO, b"Frame");
+        }
+        NextKind::End => {
+            io::write_all(STDOUT_FILENO, b"End");
+        }
+        NextKind::Refused(error) => {
+            io::write_all(STDOUT_FILENO, b"Refused");
+            write_number(refusal(error));
+        }
+    }
+    write_number(frame.id.0 as u64);
+    write_frame(data);
+    write_number(frame.len as u64);
     write_number(next.frame_index as u64);
     write_number(next.bytes_sent as u64);
-    write_text(b"\n");
+    io::write_all(STDOUT_FILENO, b"\n");
 }
 
 fn payload() -> [u8; 300]
@@ -310,30 +292,22 @@ fn build(line: &[u8; 44]) {
 
 // ---- the list
 
-fn ended(s: State) -> State {
-    let mut end = s;
-    end.more = false;
-    end
-}
-
-fn answer(s: State, first: u8, line: &[u8; 44]) -> State {
-    if first == b'B' {
-        build(line);
-        return s;
-    }
-    if first == b'.' {
-        return hear(s, line);
-    }
-    hear(fresh((first % 16) as usize), line)
-}
-
 fn turn(s: State) -> State {
     let mut line = [0u8; 44];
     let got = io::read_full(STDIN_FILENO, &mut line);
     if got < LINE {
-        return ended(s);
+        let mut end = s;
+        end.more = false;
+        return end;
     }
-    answer(s, line[0], &line)
+    if line[0] == b'B' {
+        build(&line);
+        return s;
+    }
+    if line[0] == b'.' {
+        return hear(s, &line);
+    }
+    hear(fresh((line[0] % 16) as usize), &line)
 }
 
 fn main() {
