@@ -9,7 +9,7 @@ use session::Kind;
 
 const PGN: u32 = 127489;
 
-fn no_counts() -> Counters {
+pub(crate) fn no_counts() -> Counters {
     Counters {
         expired_sessions: 0,
         pool_exhausted: 0,
