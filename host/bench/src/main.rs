@@ -148,6 +148,10 @@ fn pgn_one(id: u32) -> u32 {
     CanId(id).pgn()
 }
 #[inline(never)]
+fn parts_one(id: u32) -> (u8, u32, Option<u8>, u8) {
+    (CanId(id).priority(), CanId(id).pgn(), CanId(id).destination(), CanId(id).source_address())
+}
+#[inline(never)]
 fn build_one(priority: u8, pgn: u32, source: u8, destination: Option<u8>) -> Result<CanId, CanIdBuildError> {
     CanIdBuilder { priority, pgn, source_address: source, destination }.build()
 }
@@ -161,8 +165,15 @@ fn identifiers(reps: usize, n: usize) {
         ("original", &mut || { black_box(black_box(&ids).iter().fold(0, |s, &id| s ^ pgn_one(id))); }),
         ("port", &mut || { black_box(black_box(&ids).iter().fold(0, |s, &id| s ^ port::can_id::CanId(id).pgn())); }),
     ]);
-    compare("reading all four parts", n, reps, &mut [
+    compare("reading all four parts, one by one", n, reps, &mut [
         ("original", &mut || for &id in black_box(&ids) { black_box((priority_one(id), pgn_one(id), destination_one(id), source_one(id))); }),
+        ("port", &mut || for &id in black_box(&ids) {
+            let id = port::can_id::CanId(id);
+            black_box((id.priority(), id.pgn(), id.destination(), id.source_address()));
+        }),
+    ]);
+    compare("reading all four parts in one call", n, reps, &mut [
+        ("original", &mut || for &id in black_box(&ids) { black_box(parts_one(id)); }),
         ("port", &mut || for &id in black_box(&ids) { black_box(port::can_id::CanId(id).parts()); }),
     ]);
     // priority and destination are numbers that neither compiler knows, since the archive cannot be made for one of them
