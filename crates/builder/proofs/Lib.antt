@@ -2,6 +2,4 @@ pub mod Copies
 pub mod NextLaws
 pub mod Unique
 pub mod NoThree
-pub mod FrameCounts
-pub mod Message
 pub mod Refusals

@@ -1,4 +1,3 @@
 pub mod Builder
 pub mod Next
 pub mod Frames
-pub mod Message

@@ -15,12 +15,12 @@ use Rattle.base.proofs.Cases.{less?}
 use Rattle.can_id.specs.Build.{buildOf}
 use Rattle.can_id.specs.declared.Destination.{Destination}
 use Rattle.fast_packet.specs.FastPacket.{maxPayload, listedIn}
 use Rattle.builder.specs.Builder.{fastOf, madeOf, idBuilder}
 use Rattle.builder.specs.Next.{Step, headerOf, frameOf, nextOf, sentStep, endStep, framedStep, rawStep}
 use Rattle.builder.specs.Frames.{started, nextTurn}
-use Rattle.builder.specs.Message.{iteratorOf, after, answerAt, framesOf, sentBefore, bytesAt, fastAnswer, rawAnswer, messageAnswer}
+use Rattle.send_laws.specs.Message.{iteratorOf, after, answerAt, framesOf, sentBefore, bytesAt, fastAnswer, rawAnswer, messageAnswer}
 use Rattle.builder.specs.declared.FastPacketBuilder.{FastPacketBuilder}
 use Rattle.builder.specs.declared.FrameIterator.{FrameIterator}
 
 -- "Marked not fast with over 8 bytes, which no new builder is"
 pub new-raw-short : (pgn : ℕ) (pgns : List ℕ) (n : ℕ) → fastOf pgn pgns n ≡ false → n ≤ 8

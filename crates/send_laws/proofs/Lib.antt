@@ -1,0 +1,3 @@
+pub mod RoundTrip
+pub mod FrameCounts
+pub mod Message
