@@ -1,15 +1,18 @@
 -- The cases of the search, as the code meets them: `search (needs, choices)` finds the case. Assumes nothing.
 use Prim.Native.Nat.{ℕ, _%_, _≤_, _<_}
 use mathlib.Core.Path.{_≡_, refl, _∙_}
-use mathlib.Core.Bool.{Bool, true, false}
+use mathlib.Core.Bool.{Bool, true, false, not, _&&_, _||_}
 use lib.ListN.{getD}
+use lib.Dec.{eqb}
 use borrow.Author.Tests.{lt-ltb, le-ltb, eq-eqb, ne-eqb}
 use Rattle.base.specs.Pick.{pick}
+use Rattle.session.specs.declared.Head.{Head}
 use Rattle.session.specs.declared.Heard.{Heard}
 use Rattle.session.specs.declared.Found.{Found}
-use Rattle.session.specs.Rules.{poolLimit}
+use Rattle.session.specs.Rules.{poolLimit, silence, base}
 use Rattle.session.specs.Frames.{indexOf}
-use Rattle.session.specs.inner.Search.{firstOf, placeOf, withinLimit}
+use Rattle.session.specs.Heads.{impossibleHead, hasKey, isSilent, isFree, isFreeOfSource, hasLiveKey}
+use Rattle.session.specs.inner.Search.{looked, firstOf, placeOf, withinLimit}
 
 pub either-yes : (b : Bool) (x y : ℕ) → b ≡ true → x ≡ pick b x y
 unfolding pick
@@ -44,3 +47,16 @@ unfolding placeOf indexOf pick
 place-next f s z = rw (ne-eqb (getD (f .«data») 0 0 % 32) 0 z)
 
 pub ruleset choices = (either-yes, either-no, first-here, first-there, limit-low, limit-high, place-first, place-next)
+
+-- ---- one head: what each of the calls gave, put together
+pub look-is : (f : Heard) (h : Head) (s : Found) (i : ℕ) (silent keyed bad : Bool) (key live own free : ℕ)
+    → silent ≡ silence (f .«now_ms») (h .«last_seen_ms»)
+    → keyed ≡ hasKey base f h
+    → bad ≡ impossibleHead base h
+    → key ≡ pick keyed i (s .key)
+    → live ≡ pick (keyed && not silent) i (s .live)
+    → own ≡ pick ((not (h .«in_progress») || silent) && eqb (h .«source_address») (f .«source_address»)) i (s .own)
+    → free ≡ pick (not (h .«in_progress») || silent) i (s .free)
+    → record { bad = bad || s .bad; key = key; live = live; own = own; free = free } ≡ looked base f i h s
+unfolding looked isFree isFreeOfSource hasLiveKey isSilent base
+look-is f h s i silent keyed bad key live own free es ek eb e1 e2 e3 e4 = rw (e1, e2, e3, e4, es, ek, eb)

@@ -1,15 +1,21 @@
--- `heads::look` meets its contract. Assumes nothing.
+-- `heads::look` meets its contract: what the seven calls gave is put together by one law. Assumes nothing.
 use borrow.Author.Needs.{needs}
-use mathlib.Core.Path.{refl, _∙_}
-use Rattle.session.specs.Rules.{base}
-use Rattle.session.specs.Heads.{isSilent, isFree, isFreeOfSource, hasLiveKey}
-use Rattle.session.specs.inner.Search.{looked}
+use Rattle.slot_search.proofs.Laws.{look-is}
 use Rattle.slot_search.proofs.heads.look.Statement.{statement}
 use Rattle.slot_search.proofs.heads.look.Tie as tie
 
 returns : tie.Need-returns
-unfolding looked isFree isFreeOfSource hasLiveKey isSilent base
-returns c = cc
+returns c =
+    let e = c .before .before .before .before .before in
+    let k = e .before .before in
+    look-is _ _ _ _ _ _ _ _ _ _ _
+    (k .before .before .before .is-silent .ensures)
+    (k .before .before .has-key .ensures)
+    (k .is-impossible .ensures)
+    (e .either .ensures)
+    (c .before .before .before .before .either2 .ensures)
+    (c .before .either3 .ensures)
+    (c .either4 .ensures)
 
 pub look-spec : {M : Type 1} → statement M
 look-spec =
