@@ -1,3 +1,4 @@
+pub mod BuildLaws
 pub mod RoundTrip
 pub mod FrameCounts
 pub mod Message
