@@ -1,12 +1,9 @@
 -- What an entry passes on: from what its calls say to what it says. Assumes nothing.
-use Prim.Native.Nat.{ℕ, _+_, _*_, _%_}
+use Prim.Native.Nat.{ℕ, _%_}
 use mathlib.Core.Bool.{Bool}
 use mathlib.Core.List.{List}
-use mathlib.Core.Path.{_≡_, refl, sym, ap, subst, _∙_}
-use lib.ListN.{getD, set}
-use native.Mathlib.Numerals.{add-one}
-use Rattle.base.specs.Pick.{pick}
-use Rattle.base.proofs.Cases.{when-eq, when-ne}
+use mathlib.Core.Path.{_≡_, refl, ap, subst, _∙_}
+use lib.ListN.{getD}
 use Rattle.base.specs.Answer.{Answer}
 use Rattle.can_id.specs.Build.{fresh, buildOf, withPriority as idPriority, withDestination as idDestination}
 use Rattle.can_id.specs.declared.CanIdBuilder.{CanIdBuilder}
@@ -17,8 +14,6 @@ use Rattle.builder.specs.Next.{Step, nextOf}
 use Rattle.builder.specs.Frames.{Turn, nextTurn}
 use Rattle.builder.specs.declared.FrameIterator.{FrameIterator}
 use Rattle.builder.specs.declared.FastPacketBuilder.{FastPacketBuilder}
-use Rattle.session.specs.Heads.{freshHead}
-use Rattle.session.specs.declared.Head.{Head}
 use Rattle.session.specs.declared.Heard.{Heard}
 use Rattle.assembler.specs.View.{receiveOf, receiveWithLengthOf}
 use Rattle.assembler.specs.declared.Received.{Received}
@@ -30,8 +25,8 @@ use Rattle.batch.specs.Rows.{Rows, batchOf, Left as Rowed}
 use Rattle.batch.specs.declared.Batch.{Batch}
 use Rattle.ffi.specs.Batches.{LeftPool, LeftBy, batchWith}
 use Rattle.ffi.specs.Ids.{partsOf, setPriority, setDestination, setOf, bothOf}
-use Rattle.ffi.specs.Numbers.{isSet, laidOn, flagOn, byteOn, wordOn, toAddress, codeOf, valueOf}
-use Rattle.ffi.specs.Pool.{headAt, headsFrom, putFlag, putByte, putWord, keyLaid, sizesLaid, headLaid, laid, poolFrom, countersFrom, calledWith, calledWithLength, Left, MadeAs}
+use Rattle.numbers.specs.Numbers.{isSet, toAddress, codeOf, valueOf}
+use Rattle.pool_numbers.specs.Pool.{poolFrom, countersFrom, calledWith, calledWithLength, Left, MadeAs}
 use Rattle.ffi.specs.Frames.{builderFrom, builderNumbers, iteratorFrom, placeLaid, turnStep, nextWith, turnWith, madeWith, heldAfter, madeNumbers, Told}
 
 -- ---- the setters of an identifier's builder, one after the other
@@ -99,66 +94,6 @@ parts-by priority pgn source d f g =
 pub set-by : (pgn source priority d : ℕ) {b c e : CanIdBuilder} → b ≡ fresh pgn source → c ≡ setPriority priority b → e ≡ setDestination d c → e ≡ setOf pgn source priority d
 unfolding setOf
 set-by pgn source priority d f g h = h ∙ ap (setDestination d) (g ∙ ap (setPriority priority) f)
-
--- ---- a flag over a number: by the two flags as numbers
-module _ (old : ℕ) (x : Bool) {a b : ℕ} (f : a ≡ pick (isSet old) 1 0) (g : b ≡ pick x 1 0) where
-  pub flag-kept : a ≡ b → old ≡ flagOn old x
-  unfolding flagOn laidOn
-  flag-kept h = when-eq old (pick x 1 0) (sym f ∙ h ∙ g) refl
-
-  pub flag-laid : {r : ℕ} → (a ≡ b → ⊥) → r ≡ pick x 1 0 → r ≡ flagOn old x
-  unfolding flagOn laidOn
-  flag-laid h k = when-ne old (pick x 1 0) (λ p. h (f ∙ p ∙ sym g)) k
-
-pub ruleset flags = (flag-kept, flag-laid)
-
--- ---- a head and a pool read field by field
-pub head-by : (n : List ℕ) (at : ℕ) {b c d e w f g h : ℕ}
-    → w ≡ getD n at 0 → b ≡ getD n (at + 1) 0 % 0x100 → c ≡ getD n (at + 2) 0 % 0x100 → d ≡ getD n (at + 3) 0 % 0x100 → e ≡ getD n (at + 4) 0 % 0x1_0000_0000
-    → f ≡ getD n (at + 5) 0 → g ≡ getD n (at + 6) 0 → h ≡ getD n (at + 7) 0
-    → record { «in_progress» = isSet w; «source_address» = b; «sequence_id» = c; «last_frame_index» = d; pgn = e; «expected_size» = f; «current_size» = g; «last_seen_ms» = h } ≡ headAt n at
-unfolding headAt
-head-by n at w b c d e f g h = rw (w, b, c, d, e, f, g, h) refl
-
-pub pool-by : (size : ℕ) (heads bytes : List ℕ) {h : List Head} → h ≡ headsFrom heads → record { size = size; heads = h; bytes = bytes } ≡ poolFrom size heads bytes
-unfolding poolFrom
-pool-by size heads bytes h = rw h refl
-
--- ---- a number laid
-pub flag-put : (n : List ℕ) (i : ℕ) (x : Bool) {y : ℕ} → y ≡ flagOn (getD n i 0) x → set n i y ≡ putFlag n i x
-unfolding putFlag
-flag-put n i x e = ap (set n i) e
-
-pub byte-put : (n : List ℕ) (i : ℕ) (x : ℕ) {y : ℕ} → y ≡ byteOn (getD n i 0) x → set n i y ≡ putByte n i x
-unfolding putByte
-byte-put n i x e = ap (set n i) e
-
-pub word-put : (n : List ℕ) (i : ℕ) (x : ℕ) {y : ℕ} → y ≡ wordOn (getD n i 0) x → set n i y ≡ putWord n i x
-unfolding putWord
-word-put n i x e = ap (set n i) e
-
--- ---- a head laid number by number
-pub key-laid : (n : List ℕ) (at : ℕ) (h : Head) {a b c d r : List ℕ}
-    → a ≡ putFlag n at (h .«in_progress») → b ≡ putByte a (at + 1) (h .«source_address») → c ≡ putByte b (at + 2) (h .«sequence_id») → d ≡ putByte c (at + 3) (h .«last_frame_index»)
-    → r ≡ putWord d (at + 4) (h .pgn) → r ≡ keyLaid n at h
-unfolding keyLaid
-key-laid n at h A B C D R = rw (R, D, C, B, A) refl
-
-pub head-laid : (n : List ℕ) (at : ℕ) (h : Head) {a r : List ℕ} → a ≡ keyLaid n at h → r ≡ sizesLaid a at h → r ≡ headLaid n at h
-unfolding headLaid
-head-laid n at h A R = rw (R, A) refl
-
--- ---- heads laid one after the other
-pub laid-none : (heads : List Head) (n : List ℕ) → n ≡ laid 0 heads n
-unfolding laid
-laid-none heads n = refl
-
-pub laid-turn : (heads : List Head) (k : ℕ) (n₀ : List ℕ) {n m : List ℕ} → n ≡ laid k heads n₀ → m ≡ headLaid n (8 * k) (getD heads k freshHead) → m ≡ laid (k + 1) heads n₀
-unfolding laid
-laid-turn heads k n₀ e f = f ∙ ap (λ (x : List ℕ). headLaid x (8 * k) (getD heads k freshHead)) e ∙ ap (λ (j : ℕ). laid j heads n₀) (sym (add-one k))
-
-pub laid-done : (heads : List Head) (k : ℕ) (n₀ : List ℕ) {n : List ℕ} → k ≡ 8 → n ≡ laid k heads n₀ → n ≡ laid 8 heads n₀
-laid-done heads k n₀ h e = e ∙ ap (λ (j : ℕ). laid j heads n₀) h
 
 -- ---- what an answer leaves, by what the answer is
 module _ {old was heads bytes : List ℕ} {code : ℕ} where

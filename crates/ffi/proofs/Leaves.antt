@@ -24,8 +24,8 @@ use Rattle.assembler.specs.declared.Made.{Made}
 use Rattle.assembler.specs.declared.Received.{Received}
 use Rattle.assembler.proofs.Views.{view-back}
 use Rattle.batch.specs.Rows.{Rows, Run, batchOf, leaves, refusedBy, Left as Rowed}
-use Rattle.ffi.specs.Numbers.{isSet, laidOn, flagOn, byteOn, wordOn}
-use Rattle.ffi.specs.Pool.{headAt, putFlag, putByte, putWord, keyLaid, sizesLaid, headLaid, headsFrom, laid, poolFrom, countersFrom, counterNumbers, kindCode, Left, calledWith, calledWithLength, MadeAs}
+use Rattle.numbers.specs.Numbers.{isSet, laidOn, flagOn, byteOn, wordOn}
+use Rattle.pool_numbers.specs.Pool.{headAt, putFlag, putByte, putWord, keyLaid, sizesLaid, headLaid, headsFrom, laid, poolFrom, countersFrom, counterNumbers, kindCode, Left, calledWith, calledWithLength, MadeAs}
 use Rattle.ffi.specs.Batches.{LeftPool, LeftBy, batchWith}
 
 -- ---- what was read from a number leaves it

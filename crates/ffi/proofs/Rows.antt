@@ -10,6 +10,3 @@ row-4 p0 p1 p2 p3 = rw (p0, p1, p2, p3) refl
 
 pub row-6 : {A : Type 0} {a b c d e f a′ b′ c′ d′ e′ f′ : A} → a ≡ a′ → b ≡ b′ → c ≡ c′ → d ≡ d′ → e ≡ e′ → f ≡ f′ → a ∷ b ∷ c ∷ d ∷ e ∷ f ∷ [] ≡ a′ ∷ b′ ∷ c′ ∷ d′ ∷ e′ ∷ f′ ∷ []
 row-6 p0 p1 p2 p3 p4 p5 = rw (p0, p1, p2, p3, p4, p5) refl
-
-pub row-8 : {A : Type 0} {a b c d e f g h a′ b′ c′ d′ e′ f′ g′ h′ : A} → a ≡ a′ → b ≡ b′ → c ≡ c′ → d ≡ d′ → e ≡ e′ → f ≡ f′ → g ≡ g′ → h ≡ h′ → a ∷ b ∷ c ∷ d ∷ e ∷ f ∷ g ∷ h ∷ [] ≡ a′ ∷ b′ ∷ c′ ∷ d′ ∷ e′ ∷ f′ ∷ g′ ∷ h′ ∷ []
-row-8 p0 p1 p2 p3 p4 p5 p6 p7 = rw (p0, p1, p2, p3, p4, p5, p6, p7) refl

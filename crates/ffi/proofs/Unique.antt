@@ -21,9 +21,9 @@ use Rattle.splitter.specs.Frames.{countIn}
 use Rattle.splitter.specs.declared.Frame.{Frame}
 use Rattle.ffi.specs.Batches.{LeftBy}
 use Rattle.ffi.specs.Bench.{fiveOf, Reassembles, Splits}
-use Rattle.ffi.specs.Pool.{Left, MadeAs}
+use Rattle.pool_numbers.specs.Pool.{Left, MadeAs}
 use Rattle.ffi.specs.Ids.{readParts}
-use Rattle.ffi.specs.Numbers.{addressOf, codeOf, valueOf}
+use Rattle.numbers.specs.Numbers.{addressOf, codeOf, valueOf}
 use Rattle.ffi.specs.Frames.{builderNumbers, heldAfter, madeNumbers, placeNumbers, Told}
 
 -- a number returned, and memory lent out

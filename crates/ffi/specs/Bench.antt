@@ -9,7 +9,7 @@ use Rattle.oracle.specs.Rows.{rowIn}
 use Rattle.splitter.specs.Frames.{countIn}
 use Rattle.splitter.specs.Split.{splitOf, idsWith, bytesWith, lensWith}
 use Rattle.splitter.specs.declared.Frame.{Frame}
-use Rattle.ffi.specs.Numbers.{codeOf, valueOf}
+use Rattle.numbers.specs.Numbers.{codeOf, valueOf}
 
 -- what a refusal carries, and zeros up to five numbers
 unfoldable pub five : List ℕ → List ℕ

@@ -6,7 +6,7 @@ use Rattle.base.specs.Pick.{pick}
 use Rattle.can_id.specs.Layout.{priorityOf, pgnOf, sourceOf, destinationOf}
 use Rattle.can_id.specs.Build.{fresh, withPriority, withDestination}
 use Rattle.can_id.specs.declared.CanIdBuilder.{CanIdBuilder}
-use Rattle.ffi.specs.Numbers.{toAddress, addressOf}
+use Rattle.numbers.specs.Numbers.{toAddress, addressOf}
 
 -- what an identifier reads as: priority, PGN, source, and destination or 256
 unfoldable pub readParts : ℕ → List ℕ

@@ -2,13 +2,13 @@
 ghost use mathlib.Core.Path.{_≡_};
 ghost use Rattle.batch.specs.Rows.{Rows, Left};
 ghost use Rattle.ffi.specs.Batches.{LeftPool, LeftBy, batchWith};
-use crate::pool::counter_numbers;
-use crate::pool::counters_from;
-use crate::pool::pool_from;
-use crate::pool::put_heads;
 use assembler::POOL_BYTES;
 use batch::Batch;
 use batch::process_frames;
+use pool_numbers::counter_numbers;
+use pool_numbers::counters_from;
+use pool_numbers::pool_from;
+use pool_numbers::put_heads;
 
 fn leave_batch(
     r: Batch,

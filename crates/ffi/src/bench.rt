@@ -6,7 +6,7 @@ ghost use Rattle.splitter.specs.Split.{ofSplit};
 ghost use Rattle.splitter.specs.Frames.{countIn};
 ghost use Rattle.oracle.specs.Check.{checkTxOf};
 ghost use Rattle.oracle.specs.Rows.{rowIn};
-ghost use Rattle.ffi.specs.Numbers.{codeOf, valueOf};
+ghost use Rattle.numbers.specs.Numbers.{codeOf, valueOf};
 ghost use Rattle.ffi.specs.inner.Fives.{oneNumber, twoNumbers, fiveNumbers, faultFive, reassembledFive, checkedFive};
 ghost use Rattle.ffi.specs.Bench.{fiveOf, Reassembles, Splits, reassembledIn, splitIn};
 use oracle::Reassembled;

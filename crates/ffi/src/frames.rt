@@ -5,12 +5,6 @@ ghost use Rattle.builder.specs.Builder.{withSequence, withPriority, withDestina
 ghost use Rattle.builder.specs.Next.{kindOf, stepOf};
 ghost use Rattle.builder.specs.Frames.{turnOf, started};
 ghost use Rattle.ffi.specs.Frames.{builderFrom, builderNumbers, madeWith, heldAfter, madeNumbers, iteratorFrom, placeNumbers, kindNumber, kindCarries, Told, stepAfter, placeLaid, turnStep, nextWith, turnWith};
-use crate::numbers::byte_on;
-use crate::numbers::carried;
-use crate::numbers::destination_from;
-use crate::numbers::flag;
-use crate::numbers::number_of;
-use crate::numbers::refusal;
 use builder::FastPacketBuilder;
 use builder::FrameIterator;
 use builder::Item;
@@ -18,6 +12,12 @@ use builder::Made;
 use builder::Next;
 use builder::NextKind;
 use can_id::CanFrame;
+use numbers::byte_on;
+use numbers::carried;
+use numbers::destination_from;
+use numbers::flag;
+use numbers::number_of;
+use numbers::refusal;
 
 // ---- a builder as numbers
 

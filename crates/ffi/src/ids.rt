@@ -2,13 +2,13 @@
 ghost use mathlib.Core.Path.{_≡_};
 ghost use Rattle.can_id.specs.Layout.{priorityOf, pgnOf, destinationOf, sourceOf};
 ghost use Rattle.can_id.specs.Build.{buildOf};
-ghost use Rattle.ffi.specs.Numbers.{addressOf, codeOf, valueOf};
+ghost use Rattle.numbers.specs.Numbers.{addressOf, codeOf, valueOf};
 ghost use Rattle.ffi.specs.Ids.{readParts, partsOf, setPriority, setDestination, setOf, bothOf};
-use crate::numbers::answered;
-use crate::numbers::destination_from;
-use crate::numbers::number_of;
 use can_id::CanId;
 use can_id::CanIdBuilder;
+use numbers::answered;
+use numbers::destination_from;
+use numbers::number_of;
 
 #[no_mangle]
 pub extern "C" fn hf_can_id_priority(id: u32) -> u8

@@ -5,5 +5,4 @@ mod bench;
 mod frames;
 mod ids;
 mod listed;
-mod numbers;
 mod pool;

@@ -1,7 +1,7 @@
 -- `hf_check_tx` meets its contract: it passes on what its calls say. Assumes nothing.
 use borrow.Author.Needs.{needs}
 use mathlib.Core.Path.{ap, _∙_}
-use Rattle.ffi.specs.Numbers.{codeOf}
+use Rattle.numbers.specs.Numbers.{codeOf}
 use Rattle.ffi.proofs.Fives.{checked-five}
 use Rattle.ffi.proofs.bench.hf_check_tx.Statement.{statement}
 use Rattle.ffi.proofs.bench.hf_check_tx.Tie as tie

@@ -1,7 +1,7 @@
 -- `hf_fast_packet_frames` meets its contract: it passes on what its calls say. Assumes nothing.
 use borrow.Author.Needs.{needs}
 use mathlib.Core.Path.{ap, _∙_}
-use Rattle.ffi.specs.Numbers.{codeOf, valueOf}
+use Rattle.numbers.specs.Numbers.{codeOf, valueOf}
 use Rattle.ffi.specs.Bench.{splitIn}
 use Rattle.ffi.proofs.bench.hf_fast_packet_frames.Statement.{statement}
 use Rattle.ffi.proofs.bench.hf_fast_packet_frames.Tie as tie

@@ -1,7 +1,7 @@
 -- `hf_reassemble` meets its contract: it passes on what its calls say. Assumes nothing.
 use borrow.Author.Needs.{needs}
 use mathlib.Core.Path.{ap, _∙_}
-use Rattle.ffi.specs.Numbers.{codeOf}
+use Rattle.numbers.specs.Numbers.{codeOf}
 use Rattle.ffi.specs.Bench.{reassembledIn}
 use Rattle.ffi.proofs.Fives.{reassembled-five}
 use Rattle.ffi.proofs.bench.hf_reassemble.Statement.{statement}

@@ -3,7 +3,7 @@ use borrow.Author.Needs.{needs}
 use mathlib.Core.Path.{refl}
 use Rattle.verdicts.specs.Numbers.{ofChecked}
 use Rattle.verdicts.specs.declared.Checked.{Checked}
-use Rattle.ffi.specs.Numbers.{codeOf}
+use Rattle.numbers.specs.Numbers.{codeOf}
 use Rattle.ffi.specs.inner.Fives.{checkedFive}
 use Rattle.ffi.proofs.Fives.{case-by}
 use Rattle.ffi.proofs.bench.told_checked.Statement.{statement}

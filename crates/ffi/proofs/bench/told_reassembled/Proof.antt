@@ -3,7 +3,7 @@ use borrow.Author.Needs.{needs}
 use mathlib.Core.Path.{refl}
 use Rattle.oracle.specs.Numbers.{ofReassembled}
 use Rattle.oracle.specs.declared.Reassembled.{Reassembled}
-use Rattle.ffi.specs.Numbers.{codeOf}
+use Rattle.numbers.specs.Numbers.{codeOf}
 use Rattle.ffi.specs.inner.Fives.{reassembledFive}
 use Rattle.ffi.proofs.Fives.{case-by}
 use Rattle.ffi.proofs.bench.told_reassembled.Statement.{statement}

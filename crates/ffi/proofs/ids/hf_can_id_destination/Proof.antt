@@ -1,7 +1,7 @@
 -- `hf_can_id_destination` meets its contract: it passes on what its calls say. Assumes nothing.
 use borrow.Author.Needs.{needs}
 use mathlib.Core.Path.{ap, _∙_}
-use Rattle.ffi.specs.Numbers.{addressOf}
+use Rattle.numbers.specs.Numbers.{addressOf}
 use Rattle.ffi.proofs.ids.hf_can_id_destination.Statement.{statement}
 use Rattle.ffi.proofs.ids.hf_can_id_destination.Tie as tie
 

@@ -2,7 +2,7 @@
 use borrow.Author.Needs.{needs}
 use mathlib.Core.Path.{ap, _∙_}
 use Rattle.ffi.specs.Ids.{readParts}
-use Rattle.ffi.specs.Numbers.{addressOf}
+use Rattle.numbers.specs.Numbers.{addressOf}
 use Rattle.ffi.proofs.Rows.{row-4}
 use Rattle.ffi.proofs.ids.hf_can_id_parts.Statement.{statement}
 use Rattle.ffi.proofs.ids.hf_can_id_parts.Tie as tie

@@ -1,0 +1,12 @@
+// The numbers that stand for what C does not have. The entries are the crate `ffi`'s.
+mod numbers;
+
+pub use numbers::answered;
+pub use numbers::byte_on;
+pub use numbers::carried;
+pub use numbers::destination_from;
+pub use numbers::flag;
+pub use numbers::flag_on;
+pub use numbers::number_of;
+pub use numbers::refusal;
+pub use numbers::word_on;

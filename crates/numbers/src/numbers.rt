@@ -1,0 +1,109 @@
+// Numbers for what C does not have: a destination that may be missing, and a refusal.
+ghost use mathlib.Core.Path.{_≡_};
+ghost use Rattle.base.specs.Pick.{pick};
+ghost use Rattle.can_id.specs.Build.{answerOf, numberOf, carriedOf};
+ghost use Rattle.numbers.specs.Numbers.{flagOn, byteOn, wordOn, toAddress, addressOf, codeOf, valueOf, carriesOf};
+use can_id::Built;
+use can_id::CanIdBuildError;
+use can_id::Destination;
+
+pub fn flag(x: bool) -> u64
+    ensures { λ r. ⌜ r ≡ pick x 1 0 ⌝ }
+{
+    if x {
+        return 1;
+    }
+    0
+}
+
+// ---- a number to be written over the one that was read: that one itself, where the field that was read from it is still right
+
+pub fn flag_on(old: u64, x: bool) -> u64
+    ensures { λ r. ⌜ r ≡ flagOn old x ⌝ }
+{
+    if flag(old != 0) == flag(x) {
+        return old;
+    }
+    flag(x)
+}
+
+pub fn byte_on(number: u64, x: u8) -> u64
+    ensures { λ r. ⌜ r ≡ byteOn number x ⌝ }
+{
+    let new = x as u64;
+    if (number % 0x100) as u8 == x {
+        return number;
+    }
+    new
+}
+
+pub fn word_on(old: u64, x: u32) -> u64
+    ensures { λ r. ⌜ r ≡ wordOn old x ⌝ }
+{
+    if (old % 0x1_0000_0000) as u32 == x {
+        return old;
+    }
+    x as u64
+}
+
+// An address, or none from 256 on.
+pub fn destination_from(n: u64) -> Destination
+    ensures { λ r. ⌜ r ≡ toAddress n ⌝ }
+{
+    if n < 256 {
+        Destination::To(n as u8)
+    } else {
+        Destination::Nobody
+    }
+}
+
+pub fn number_of(destination: Destination) -> u16
+    ensures { λ r. ⌜ r ≡ addressOf destination ⌝ }
+{
+    match destination {
+        Destination::Nobody => 256,
+        Destination::To(address) => address as u16,
+    }
+}
+
+pub fn refusal(error: CanIdBuildError) -> u32
+    ensures { λ r. ⌜ r ≡ numberOf error ⌝ }
+{
+    match error {
+        CanIdBuildError::InvalidData => 2,
+        CanIdBuildError::InvalidDestination => 3,
+        CanIdBuildError::InvalidForBroadcast => 4,
+        CanIdBuildError::InvalidForFocusedMessage { pgn: _ } => 5,
+        CanIdBuildError::PsFocusMessageMustBeNull => 6,
+        CanIdBuildError::EmptyPayload => 7,
+    }
+}
+
+pub fn carried(error: CanIdBuildError) -> u32
+    ensures { λ r. ⌜ r ≡ carriesOf (carriedOf error) ⌝ }
+{
+    match error {
+        CanIdBuildError::InvalidData => 0,
+        CanIdBuildError::InvalidDestination => 0,
+        CanIdBuildError::InvalidForBroadcast => 0,
+        CanIdBuildError::InvalidForFocusedMessage { pgn } => pgn as u32,
+        CanIdBuildError::PsFocusMessageMustBeNull => 0,
+        CanIdBuildError::EmptyPayload => 0,
+    }
+}
+
+// The refusal's number or 0; in `value` the identifier, or what the refusal carries.
+pub fn answered(built: Built, value: &mut u32) -> u32
+    ensures { λ r. ⌜ (r ≡ codeOf (answerOf built)) × (now (value .exit) ≡ valueOf (answerOf built)) ⌝ }
+{
+    match built {
+        Built::Id(id) => {
+            *value = id.0;
+            0
+        }
+        Built::Refused(error) => {
+            *value = carried(error);
+            refusal(error)
+        }
+    }
+}
