@@ -1,9 +1,7 @@
 -- What an entry passes on: from what its calls say to what it says. Assumes nothing.
-use Prim.Native.Nat.{ℕ, _%_}
-use mathlib.Core.Bool.{Bool}
+use Prim.Native.Nat.{ℕ}
 use mathlib.Core.List.{List}
 use mathlib.Core.Path.{_≡_, refl, ap, subst, _∙_}
-use lib.ListN.{getD}
 use Rattle.base.specs.Answer.{Answer}
 use Rattle.can_id.specs.Build.{fresh, buildOf, withPriority as idPriority, withDestination as idDestination}
 use Rattle.can_id.specs.declared.CanIdBuilder.{CanIdBuilder}
@@ -25,9 +23,9 @@ use Rattle.batch.specs.Rows.{Rows, batchOf, Left as Rowed}
 use Rattle.batch.specs.declared.Batch.{Batch}
 use Rattle.ffi.specs.Batches.{LeftPool, LeftBy, batchWith}
 use Rattle.ffi.specs.Ids.{partsOf, setPriority, setDestination, setOf, bothOf}
-use Rattle.numbers.specs.Numbers.{isSet, toAddress, codeOf, valueOf}
+use Rattle.numbers.specs.Numbers.{toAddress, codeOf, valueOf}
 use Rattle.pool_numbers.specs.Pool.{poolFrom, countersFrom, calledWith, calledWithLength, Left, MadeAs}
-use Rattle.ffi.specs.Frames.{builderFrom, builderNumbers, iteratorFrom, placeLaid, turnStep, nextWith, turnWith, madeWith, heldAfter, madeNumbers, Told}
+use Rattle.frame_numbers.specs.Frames.{builderFrom, builderNumbers, iteratorFrom, placeLaid, turnStep, nextWith, turnWith, madeWith, heldAfter, madeNumbers, Told}
 
 -- ---- the setters of an identifier's builder, one after the other
 pub both-set : (pgn source p d : ℕ) {a b c : CanIdBuilder} → a ≡ fresh pgn source → b ≡ idPriority a p → c ≡ idDestination b d → c ≡ bothOf pgn source p d
@@ -44,18 +42,6 @@ module _ (x : ℕ) (n : List ℕ) {r : List ℕ} {b c : FastPacketBuilder} (read
 
   pub destination-set : c ≡ withDestination b x → r ≡ builderNumbers c → r ≡ builderNumbers (withDestination (builderFrom n) x)
   destination-set g h = h ∙ ap builderNumbers (g ∙ ap (λ (y : FastPacketBuilder). withDestination y x) read)
-
--- ---- a builder and an iterator read field by field
-pub builder-by : (n : List ℕ) {g s p q : ℕ} {d : Destination} {f : Bool}
-    → g ≡ getD n 0 0 % 0x1_0000_0000 → s ≡ getD n 1 0 % 0x100 → d ≡ toAddress (getD n 2 0) → p ≡ getD n 3 0 % 0x100 → q ≡ getD n 4 0 % 0x100 → f ≡ isSet (getD n 5 0)
-    → record { pgn = g; «source_address» = s; destination = d; priority = p; «sequence_id» = q; fast = f } ≡ builderFrom n
-unfolding builderFrom
-builder-by n g s d p q f = rw (g, s, d, p, q, f) refl
-
-pub iterator-by : (n place : List ℕ) {b : FastPacketBuilder} {i k : ℕ} → b ≡ builderFrom n → i ≡ getD place 0 0 % 0x100 → k ≡ getD place 1 0
-    → record { builder = b; «frame_index» = i; «bytes_sent» = k } ≡ iteratorFrom n place
-unfolding iteratorFrom
-iterator-by n place b i k = rw (b, i, k) refl
 
 -- ---- what asking for a frame leaves, by what the step is
 module _ {code : ℕ} {bytes frame : List ℕ} where

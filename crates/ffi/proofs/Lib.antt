@@ -1,5 +1,4 @@
 pub mod Rows
 pub mod Laws
 pub mod Leaves
-pub mod Fives
 pub mod Unique

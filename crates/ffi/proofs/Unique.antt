@@ -20,11 +20,12 @@ use Rattle.oracle.specs.Strict.{Message}
 use Rattle.splitter.specs.Frames.{countIn}
 use Rattle.splitter.specs.declared.Frame.{Frame}
 use Rattle.ffi.specs.Batches.{LeftBy}
-use Rattle.ffi.specs.Bench.{fiveOf, Reassembles, Splits}
+use Rattle.bench_numbers.specs.Fives.{fiveOf}
+use Rattle.ffi.specs.Bench.{Reassembles, Splits}
 use Rattle.pool_numbers.specs.Pool.{Left, MadeAs}
 use Rattle.ffi.specs.Ids.{readParts}
 use Rattle.numbers.specs.Numbers.{addressOf, codeOf, valueOf}
-use Rattle.ffi.specs.Frames.{builderNumbers, heldAfter, madeNumbers, placeNumbers, Told}
+use Rattle.frame_numbers.specs.Frames.{builderNumbers, heldAfter, madeNumbers, placeNumbers, Told}
 
 -- a number returned, and memory lent out
 both : {A B : Type 0} {x r s : A} {y v w : B} → (r ≡ x) × (v ≡ y) → (s ≡ x) × (w ≡ y) → (r ≡ s) × (v ≡ w)

@@ -1,29 +1,16 @@
 -- The answers of the bench as numbers: the refusal's number or 0, and five numbers lent out.
 use Prim.Native.Nat.{ℕ}
-use mathlib.Core.List.{List, [], _∷_}
+use mathlib.Core.List.{List}
 use mathlib.Core.Path.{_≡_}
 use lib.ListN.{length}
-use Rattle.base.specs.Answer.{Answer, gives, refuses, counted}
+use Rattle.base.specs.Answer.{Answer, counted}
 use Rattle.oracle.specs.Strict.{Message, deliveredTo, listWith, arenaWith}
 use Rattle.oracle.specs.Rows.{rowIn}
 use Rattle.splitter.specs.Frames.{countIn}
 use Rattle.splitter.specs.Split.{splitOf, idsWith, bytesWith, lensWith}
 use Rattle.splitter.specs.declared.Frame.{Frame}
 use Rattle.numbers.specs.Numbers.{codeOf, valueOf}
-
--- what a refusal carries, and zeros up to five numbers
-unfoldable pub five : List ℕ → List ℕ
-five [] = 0 ∷ 0 ∷ 0 ∷ 0 ∷ 0 ∷ []
-five (a ∷ []) = a ∷ 0 ∷ 0 ∷ 0 ∷ 0 ∷ []
-five (a ∷ b ∷ []) = a ∷ b ∷ 0 ∷ 0 ∷ 0 ∷ []
-five (a ∷ b ∷ c ∷ []) = a ∷ b ∷ c ∷ 0 ∷ 0 ∷ []
-five (a ∷ b ∷ c ∷ d ∷ []) = a ∷ b ∷ c ∷ d ∷ 0 ∷ []
-five (a ∷ b ∷ c ∷ d ∷ e ∷ l) = a ∷ b ∷ c ∷ d ∷ e ∷ []
-
--- what is given, or what the refusal carries
-unfoldable pub fiveOf : Answer ℕ → List ℕ
-fiveOf (gives x) = five (x ∷ [])
-fiveOf (refuses n l) = five l
+use Rattle.bench_numbers.specs.Fives.{fiveOf}
 
 -- what strict reassembly leaves: what is returned, the five numbers, the list and the arena
 pub record Reassembles (a : Answer (List Message)) (code : ℕ) (values list list₀ arena arena₀ : List ℕ) : Type 0 where

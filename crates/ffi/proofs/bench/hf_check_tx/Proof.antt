@@ -2,7 +2,7 @@
 use borrow.Author.Needs.{needs}
 use mathlib.Core.Path.{ap, _∙_}
 use Rattle.numbers.specs.Numbers.{codeOf}
-use Rattle.ffi.proofs.Fives.{checked-five}
+use Rattle.bench_numbers.specs.Fives.{fiveOf}
 use Rattle.ffi.proofs.bench.hf_check_tx.Statement.{statement}
 use Rattle.ffi.proofs.bench.hf_check_tx.Tie as tie
 
@@ -12,4 +12,4 @@ hf-check-tx-spec =
     (tie.spec
     (λ c κs. search needs)
     (λ c κs. search needs)
-    (λ c. (c .told-checked .ensures .0 ∙ ap codeOf (c .before .before .check-tx-rows .ensures), checked-five _ (c .before .before .check-tx-rows .ensures) (c .told-checked .ensures .1))))
+    (λ c. (c .told-checked .ensures .0 ∙ ap codeOf (c .before .before .check-tx-rows .ensures), c .told-checked .ensures .1 ∙ ap fiveOf (c .before .before .check-tx-rows .ensures))))

@@ -2,8 +2,8 @@
 use borrow.Author.Needs.{needs}
 use mathlib.Core.Path.{ap, _∙_}
 use Rattle.numbers.specs.Numbers.{codeOf}
+use Rattle.bench_numbers.specs.Fives.{fiveOf}
 use Rattle.ffi.specs.Bench.{reassembledIn}
-use Rattle.ffi.proofs.Fives.{reassembled-five}
 use Rattle.ffi.proofs.bench.hf_reassemble.Statement.{statement}
 use Rattle.ffi.proofs.bench.hf_reassemble.Tie as tie
 
@@ -16,4 +16,4 @@ hf-reassemble-spec =
     (λ c κs. search needs)
     (λ c. search needs)
     (λ c. search needs)
-    (λ c. record { told = c .told-reassembled .ensures .0 ∙ ap codeOf (c .before .before .before .before .before .before .reassemble-rows .ensures .0); carried = reassembled-five _ (c .before .before .before .before .before .before .reassemble-rows .ensures .0) (c .told-reassembled .ensures .1); listed = c .before .before .before .before .before .before .reassemble-rows .ensures .1; laid = c .before .before .before .before .before .before .reassemble-rows .ensures .2 }))
+    (λ c. record { told = c .told-reassembled .ensures .0 ∙ ap codeOf (c .before .before .before .before .before .before .reassemble-rows .ensures .0); carried = c .told-reassembled .ensures .1 ∙ ap fiveOf (c .before .before .before .before .before .before .reassemble-rows .ensures .0); listed = c .before .before .before .before .before .before .reassemble-rows .ensures .1; laid = c .before .before .before .before .before .before .reassemble-rows .ensures .2 }))

@@ -1,0 +1,33 @@
+-- `told_fault` meets its contract: case by case. Assumes nothing.
+use borrow.Author.Needs.{needs}
+use mathlib.Core.Path.{refl}
+use Rattle.verdicts.specs.Numbers.{numberOf, valuesOf}
+use Rattle.verdicts.specs.declared.Fault.{Fault}
+use Rattle.bench_numbers.specs.Fives.{five}
+use Rattle.bench_numbers.proofs.Cases.{case-by}
+use Rattle.bench_numbers.proofs.bench.told_fault.Statement.{statement}
+use Rattle.bench_numbers.proofs.bench.told_fault.Tie as tie
+
+pub told-fault-spec : {M : Type 1} → statement M
+unfolding numberOf valuesOf five
+told-fault-spec =
+    tie.close
+    (tie.spec
+    (λ c. search needs)
+    (λ c κs. search needs)
+    (λ c. search needs)
+    (λ c κs. search needs)
+    (λ c. search needs)
+    (λ c κs. search needs)
+    (λ c. search needs)
+    (λ c κs. search needs)
+    (λ c. search needs)
+    (λ c κs. search needs)
+    (λ c. search needs)
+    (λ c κs. search needs)
+    (λ c. case-by numberOf (λ (x : Fault). five (valuesOf x)) (c .before .before .fault .given .1) refl (c .with-size .ensures))
+    (λ c. case-by numberOf (λ (x : Fault). five (valuesOf x)) (c .before .before .fault2 .given .1) refl (c .one .ensures))
+    (λ c. case-by numberOf (λ (x : Fault). five (valuesOf x)) (c .before .before .fault3 .given .1) refl (c .with-byte .ensures))
+    (λ c. case-by numberOf (λ (x : Fault). five (valuesOf x)) (c .before .before .fault4 .given .1) refl (c .one2 .ensures))
+    (λ c. case-by numberOf (λ (x : Fault). five (valuesOf x)) (c .before .before .fault5 .given .1) refl (c .with-order .ensures))
+    (λ c. case-by numberOf (λ (x : Fault). five (valuesOf x)) (c .before .before .fault6 .given .1) refl (c .with-byte2 .ensures)))

@@ -1,0 +1,14 @@
+-- `lay_made` meets its contract: it passes on what its calls say. Assumes nothing.
+use borrow.Author.Needs.{needs}
+use mathlib.Core.Path.{refl}
+use Rattle.frame_numbers.specs.Frames.{heldAfter, madeNumbers}
+use Rattle.frame_numbers.proofs.frames.lay_made.Statement.{statement}
+use Rattle.frame_numbers.proofs.frames.lay_made.Tie as tie
+
+pub lay-made-spec : {M : Type 1} → statement M
+unfolding heldAfter madeNumbers
+lay-made-spec =
+    tie.close
+    (tie.spec
+    (λ c κs. search needs)
+    (λ c. (refl, (c .builder-numbers .ensures))))
