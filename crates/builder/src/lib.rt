@@ -277,7 +277,7 @@ impl FastPacketBuilder {
         ensures { λ r. ⌜ stepOf r ≡ framedStep (id .0) self «frame_index» «bytes_sent» (now (payload .entry)) ⌝ }
     {
         let total_len = payload.len();
-        if total_len > MAX_FAST_PACKET_PAYLOAD {
+        if (total_len > MAX_FAST_PACKET_PAYLOAD) | (!self.fast & (total_len > 8)) {
             return Next::refused(CanIdBuildError::InvalidData, frame_index, total_len);
         }
         if self.fast {
@@ -285,9 +285,6 @@ impl FastPacketBuilder {
                 return first(id, self.sequence_id, frame_index, payload);
             }
             return later(id, self.sequence_id, frame_index, bytes_sent, payload);
-        }
-        if total_len > 8 {
-            return Next::refused(CanIdBuildError::InvalidData, frame_index, total_len);
         }
         raw(id, frame_index, payload)
     }
@@ -297,12 +294,9 @@ impl FastPacketBuilder {
         ensures { λ r. ⌜ stepOf r ≡ nextOf self «frame_index» «bytes_sent» (now (payload .entry)) ⌝ }
     {
         let total_len = payload.len();
-        if total_len == 0 {
-            // An empty payload has nothing to send: say so once instead of ending as if every frame had gone out.
-            if frame_index == 0 {
-                return Next::refused(CanIdBuildError::EmptyPayload, 1, bytes_sent);
-            }
-            return Next::end(frame_index, bytes_sent);
+        // An empty payload has nothing to send: say so once instead of ending as if every frame had gone out.
+        if (total_len == 0) & (frame_index == 0) {
+            return Next::refused(CanIdBuildError::EmptyPayload, 1, bytes_sent);
         }
         if bytes_sent >= total_len {
             return Next::end(frame_index, bytes_sent);

@@ -1,4 +1,4 @@
--- `first` meets its contract: the facts on each way out pick the law of that case. Assumes nothing.
+-- `first` meets its contract: what the calls gave is put together by one law. Assumes nothing.
 use borrow.Author.Needs.{needs}
 use Rattle.builder.proofs.NextLaws.{first-is}
 use Rattle.builder.proofs.first.Statement.{statement}
@@ -14,4 +14,7 @@ first-spec =
     (λ c κs. search needs)
     (λ c κs. search needs)
     (λ c κs. search needs)
-    (λ c. search (needs, first-is)))
+    (λ c.
+    let f = c .before .before in
+    let h = f .before .before .before in
+    first-is _ _ _ _ _ _ _ _ _ (h .header .ensures) (c .before .index-after .ensures) _ (c .sent .ensures) (f .filled .ensures) (f .before .before .length-byte .ensures) (f .before .least .ensures)))

@@ -1,4 +1,4 @@
--- `later` meets its contract: the facts on each way out pick the law of that case. Assumes nothing.
+-- `later` meets its contract: what the calls gave is put together by one law. Assumes nothing.
 use borrow.Author.Needs.{needs}
 use Rattle.builder.proofs.NextLaws.{later-is}
 use Rattle.builder.proofs.later.Statement.{statement}
@@ -15,4 +15,6 @@ later-spec =
     (λ c κs. search needs)
     (λ c. search needs)
     (λ c κs. search needs)
-    (λ c. search (needs, later-is)))
+    (λ c.
+    let f = c .before .before in
+    later-is _ _ _ _ _ _ _ _ _ (f .before .before .header .ensures) (c .before .index-after .ensures) _ (c .sent .ensures) (f .filled .ensures) (f .before .least .ensures)))

@@ -1,4 +1,4 @@
--- `raw` meets its contract: the facts on each way out pick the law of that case. Assumes nothing.
+-- `raw` meets its contract: what the calls gave is put together by one law. Assumes nothing.
 use borrow.Author.Needs.{needs}
 use Rattle.builder.proofs.NextLaws.{raw-is}
 use Rattle.builder.proofs.raw.Statement.{statement}
@@ -10,4 +10,4 @@ raw-spec =
     (tie.spec
     (λ c κs. search needs)
     (λ c κs. search needs)
-    (λ c. search (needs, raw-is)))
+    (λ c. raw-is _ _ _ _ _ (c .sent .ensures) (c .before .filled .ensures)))
