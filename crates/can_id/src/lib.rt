@@ -2,8 +2,7 @@
 ghost use mathlib.Core.Path.{_≡_};
 ghost use Prim.Native.Nat.{_<_};
 ghost use Rattle.can_id.specs.Layout.{priorityOf, pgnOf, destinationOf, sourceOf};
-ghost use Rattle.can_id.specs.declared.Destination.the-variants.{Nobody, To};
-ghost use Rattle.can_id.specs.Build.{answerOf, buildTo, buildOf, fresh, withPriority, withDestination, idFrom};
+ghost use Rattle.can_id.specs.Build.{answerOf, buildOf, fresh, withPriority, withDestination, idFrom};
 
 // ---- the identifier
 
@@ -173,34 +172,6 @@ impl CanIdBuilder {
         CanId(high + ps as u32 * 0x100 + self.source_address as u32)
     }
 
-    // Without a destination: PF is 240 or more, and PS is the PGN's low byte.
-    fn build_broadcast(self) -> Built
-        requires { ⌜ (self .pgn < 0x4_0000) × (self .priority < 8) ⌝ }
-        ensures { λ r. ⌜ answerOf r ≡ buildTo Nobody self ⌝ }
-    {
-        let ps = (self.pgn % 0x100) as u8;
-        if (self.pgn >> 8) % 0x100 < 240 {
-            return Built::Refused(CanIdBuildError::InvalidForBroadcast);
-        }
-        Built::Id(self.compose(ps))
-    }
-
-    // To an address: PF is below 240, and the PGN's low byte is 0.
-    fn build_focused(self, da: u8) -> Built
-        requires { ⌜ (self .pgn < 0x4_0000) × (self .priority < 8) ⌝ }
-        ensures { λ r. ⌜ answerOf r ≡ buildTo (To da) self ⌝ }
-    {
-        let pf = ((self.pgn >> 8) % 0x100) as u8;
-        let ps = (self.pgn % 0x100) as u8;
-        if pf >= 240 {
-            return Built::Refused(CanIdBuildError::InvalidForFocusedMessage { pgn: pf });
-        }
-        if ps != 0 {
-            return Built::Refused(CanIdBuildError::PsFocusMessageMustBeNull);
-        }
-        Built::Id(self.compose(da))
-    }
-
     // Builds the identifier, or says why these parts make none.
     pub fn build(self) -> Built
         ensures { λ r. ⌜ answerOf r ≡ buildOf self ⌝ }
@@ -208,10 +179,25 @@ impl CanIdBuilder {
         if (self.pgn > CanId::MAX_PGN) | (self.priority > CanId::MAX_PRIORITY) {
             return Built::Refused(CanIdBuildError::InvalidData);
         }
+        let pf = ((self.pgn >> 8) % 0x100) as u8;
+        let ps = (self.pgn % 0x100) as u8;
         let destination = self.destination;
         match destination {
-            Destination::Nobody => return self.build_broadcast(),
-            Destination::To(da) => return self.build_focused(da),
+            Destination::Nobody => {
+                if pf < 240 {
+                    return Built::Refused(CanIdBuildError::InvalidForBroadcast);
+                }
+                return Built::Id(self.compose(ps));
+            }
+            Destination::To(da) => {
+                if pf >= 240 {
+                    return Built::Refused(CanIdBuildError::InvalidForFocusedMessage { pgn: pf });
+                }
+                if ps != 0 {
+                    return Built::Refused(CanIdBuildError::PsFocusMessageMustBeNull);
+                }
+                return Built::Id(self.compose(da));
+            }
         }
     }
 }
