@@ -1,6 +1,6 @@
 -- The rows beside the heads, and the memory of the list, after a store. Assumes nothing.
-use Prim.Native.Nat.{ℕ, zero, suc, _+_, _<_}
-use mathlib.Core.Path.{_≡_, refl, _∙_}
+use Prim.Native.Nat.{ℕ, zero, suc, _+_, _%_, _<_}
+use mathlib.Core.Path.{_≡_, refl, sym, subst, _∙_}
 use mathlib.Core.Bool.{Bool, false}
 use mathlib.Core.List.{List, [], _∷_}
 use lib.ListN.{length, getD, set, replicate, length-set, length-replicate, getD-replicate}
@@ -13,6 +13,8 @@ use Rattle.session.specs.declared.Head.{Head}
 use Rattle.session.specs.declared.Heard.{Heard}
 use Rattle.session.specs.Rules.{poolLimit}
 use Rattle.session.specs.Heads.{copiedHead}
+use Rattle.list_memory.specs.Memory.{Looked, recalled, learnt, lookedOf}
+use Rattle.list_memory.proofs.Laws.{looked-known, looked-new}
 use Rattle.batch.specs.inner.Mirror.{keyNumber, Shows, Mirrors}
 use Rattle.batch.specs.inner.Memory.{places, Remembers}
 
@@ -86,3 +88,18 @@ module _ (list ps : List ℕ) (bs : List Bool) (m : Remembers list ps bs) (i : �
             (λ q. rw (q, getD-set-same ps i p 0 (omega (arith, m .asked)), getD-set-same bs i b false (omega (arith, m .known))) e)
             (λ q. rw (getD-set-other ps i k p 0 q, getD-set-other bs i k b false q) (m .right k h));
       }
+
+-- a memory that is right answers as the list does, and is right after it
+module _ (list ps : List ℕ) (bs : List Bool) (m : Remembers list ps bs) (p : ℕ) where
+  abbrev Right : Looked → Type 0
+  Right x = (x .answer ≡ listedIn p list) × Remembers list (x .asked) (x .known)
+
+  right-looked : Right (lookedOf list ps bs p)
+  unfolding recalled learnt
+  right-looked =
+      same? (getD ps (p % 64) 0) p
+      (λ e. subst Right (looked-known list ps bs p e) (remembered list ps bs m (p % 64) (omega arith) p e, m))
+      (λ n. subst Right (looked-new list ps bs p n) (refl, remembers-turn list ps bs m (p % 64) (omega arith) p (listedIn p list) refl))
+
+  pub looked-right : (r : Bool) (ps′ : List ℕ) (bs′ : List Bool) → record { answer = r; asked = ps′; known = bs′ } ≡ lookedOf list ps bs p → (r ≡ listedIn p list) × Remembers list ps′ bs′
+  looked-right r ps′ bs′ e = subst Right (sym e) right-looked

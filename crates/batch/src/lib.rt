@@ -2,7 +2,6 @@
 // call does, frame by frame (specs/Rows).
 mod batching;
 mod bytes;
-mod memory;
 mod rows;
 mod search;
 mod taking;

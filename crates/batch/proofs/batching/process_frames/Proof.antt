@@ -12,7 +12,7 @@ use Rattle.batch.specs.inner.Memory.{Remembers}
 use Rattle.batch.specs.inner.Ways.{blankHeard}
 use Rattle.batch.proofs.RowLaws.{has-room, head-place, number-place, nearer, still-long}
 use Rattle.batch.proofs.WayLaws.{run-missing}
-use Rattle.batch.proofs.Mirrors.{remembers-none}
+use Rattle.batch.proofs.Mirrors.{remembers-none, looked-right}
 use Rattle.batch.proofs.Runs.{begins, ends, gives-refused, gives-run, possible, fits-all}
 use Rattle.batch.proofs.Sought.{small-of}
 use Rattle.batch.proofs.Steps.{Stands, step-missed, stop-short, step-short, runs-fit, step-running, plan-fits, stop-by, step-by}
@@ -53,9 +53,6 @@ frame-at-requires c κs =
     let turn = c .loop-test .taken in
     (turn, omega (arith, turn, run .fit .pgns), omega (arith, turn, run .fit .sources), omega (arith, turn, run .fit .bytes))
 
-looked-up-requires : tie.Need-looked-up-requires Inv-loop μ-loop
-looked-up-requires c κs = c .before .before .before .before .loop .inv .1
-
 seek-requires : tie.Need-seek-requires Inv-loop μ-loop
 seek-requires c κs =
     let s = c .before .before .before .before .before .before .before .before .before .loop .inv .0 in
@@ -74,7 +71,7 @@ loop-less : tie.Need-loop-less Inv-loop μ-loop
 loop-less c = nearer _ _ (c .before .before .before .before .before .before .before .before .before .before .before .before .before .before .loop-test .taken)
 
 loop-again : tie.Need-loop-again Inv-loop μ-loop
-loop-again c = (step-missed _ _ _ _ _ _ _ _ _ _ _ _ _ _ _ _ _ (c .before .before .before .before .before .before .before .before .before .before .before .before .before .before .before .loop .inv .0) (c .before .before .before .before .before .before .before .before .before .before .before .before .before .before .loop-test .taken) _ (c .before .before .before .before .before .before .before .before .before .before .before .before .before .frame-at .ensures) _ (c .before .before .before .before .before .before .before .before .before .before .looked-up .ensures .0) _ (c .before .before .before .before .before .before .before .before .before .key-of-frame .ensures) _ (c .before .before .before .before .before .seek .ensures) (c .before .before .before .if2 .taken) _ (c .before .before .short-in .ensures .0) (c .before .if3 .taken) _ (c .missed .ensures), c .before .before .before .before .before .before .before .before .before .before .looked-up .ensures .1)
+loop-again c = (step-missed _ _ _ _ _ _ _ _ _ _ _ _ _ _ _ _ _ (c .before .before .before .before .before .before .before .before .before .before .before .before .before .before .before .loop .inv .0) (c .before .before .before .before .before .before .before .before .before .before .before .before .before .before .loop-test .taken) _ (c .before .before .before .before .before .before .before .before .before .before .before .before .before .frame-at .ensures) _ (looked-right _ _ _ (c .before .before .before .before .before .before .before .before .before .before .before .before .before .before .before .loop .inv .1) _ _ _ _ (c .before .before .before .before .before .before .before .before .before .before .looked-up .ensures) .0) _ (c .before .before .before .before .before .before .before .before .before .key-of-frame .ensures) _ (c .before .before .before .before .before .seek .ensures) (c .before .before .before .if2 .taken) _ (c .before .before .short-in .ensures .0) (c .before .if3 .taken) _ (c .missed .ensures), looked-right _ _ _ (c .before .before .before .before .before .before .before .before .before .before .before .before .before .before .before .loop .inv .1) _ _ _ _ (c .before .before .before .before .before .before .before .before .before .before .looked-up .ensures) .1)
 
 no-room-requires : tie.Need-no-room-requires Inv-loop μ-loop
 no-room-requires c κs = c .before .before .before .before .before .before .before .before .before .before .before .before .before .before .loop .inv .0 .run .room
@@ -92,7 +89,7 @@ returns-2 : tie.Need-returns-2 Inv-loop μ-loop
 returns-2 c =
     let a = c .before .before .before .before .before .before .before .before .before .before .before .before .before .before .before .before .before .before .before .before .before .before .before .before .before .before .before .before .before .before .before .before .before .args in
     gives-run base (a .pgns .now) (record { times = a .times .now; pgns = a .frame-pgns .now; sources = a .sources .now; bytes = a .«data» .now }) (a .pool) (a .counters) (a .kinds .now) (a .lengths .now) (a .arena .now) limit blankHeard _ (c .before .before .before .before .before .before .before .before .before .before .before .before .before .before .before .before .before .before .before .before .before .before .before .refusal .ensures) (c .before .before .before .before .before .before .before .before .before .before .before .before .before .before .before .before .before .before .before .before .before .before .if1 .left) _
-    (stop-short _ _ _ _ _ _ _ _ _ _ _ _ _ _ _ _ _ (c .before .before .before .before .before .before .before .before .before .before .before .before .before .before .before .before .loop .inv .0) (c .before .before .before .before .before .before .before .before .before .before .before .before .before .before .before .loop-test .taken) _ (c .before .before .before .before .before .before .before .before .before .before .before .before .before .before .frame-at .ensures) _ (c .before .before .before .before .before .before .before .before .before .before .before .looked-up .ensures .0) _ (c .before .before .before .before .before .before .before .before .before .before .key-of-frame .ensures) _ (c .before .before .before .before .before .before .seek .ensures) (c .before .before .before .before .if2 .taken) _ (c .before .before .before .short-in .ensures .0) (c .before .before .if3 .left) _ (c .before .no-room .ensures) (c .if4 .taken))
+    (stop-short _ _ _ _ _ _ _ _ _ _ _ _ _ _ _ _ _ (c .before .before .before .before .before .before .before .before .before .before .before .before .before .before .before .before .loop .inv .0) (c .before .before .before .before .before .before .before .before .before .before .before .before .before .before .before .loop-test .taken) _ (c .before .before .before .before .before .before .before .before .before .before .before .before .before .before .frame-at .ensures) _ (looked-right _ _ _ (c .before .before .before .before .before .before .before .before .before .before .before .before .before .before .before .before .loop .inv .1) _ _ _ _ (c .before .before .before .before .before .before .before .before .before .before .before .looked-up .ensures) .0) _ (c .before .before .before .before .before .before .before .before .before .before .key-of-frame .ensures) _ (c .before .before .before .before .before .before .seek .ensures) (c .before .before .before .before .if2 .taken) _ (c .before .before .before .short-in .ensures .0) (c .before .before .if3 .left) _ (c .before .no-room .ensures) (c .if4 .taken))
 
 deliver-short-requires : tie.Need-deliver-short-requires Inv-loop μ-loop
 deliver-short-requires c κs = (has-room _ (c .before .before .before .before .before .before .before .before .before .before .before .before .before .before .before .before .before .loop .used) _ _ (c .before .before .no-room .ensures) (c .before .if4 .left), c .before .before .before .before .short-in .ensures .1)
@@ -118,13 +115,13 @@ loop-less-2 : tie.Need-loop-less-2 Inv-loop μ-loop
 loop-less-2 c = nearer _ _ (c .before .before .before .before .before .before .before .before .before .before .before .before .before .before .before .before .before .before .before .loop-test .taken)
 
 loop-again-2 : tie.Need-loop-again-2 Inv-loop μ-loop
-loop-again-2 c = (step-short _ _ _ _ _ _ _ _ _ _ _ _ _ _ _ _ _ (c .before .before .before .before .before .before .before .before .before .before .before .before .before .before .before .before .before .before .before .before .loop .inv .0) (c .before .before .before .before .before .before .before .before .before .before .before .before .before .before .before .before .before .before .before .loop-test .taken) _ (c .before .before .before .before .before .before .before .before .before .before .before .before .before .before .before .before .before .before .frame-at .ensures) _ (c .before .before .before .before .before .before .before .before .before .before .before .before .before .before .before .looked-up .ensures .0) _ (c .before .before .before .before .before .before .before .before .before .before .before .before .before .before .key-of-frame .ensures) _ (c .before .before .before .before .before .before .before .before .before .before .seek .ensures) (c .before .before .before .before .before .before .before .before .if2 .taken) _ (c .before .before .before .before .before .before .before .short-in .ensures .0) (c .before .before .before .before .before .before .if3 .left) _ (c .before .before .before .before .before .no-room .ensures) (c .before .before .before .before .if4 .left) _ (c .before .before .deliver-short .ensures), c .before .before .before .before .before .before .before .before .before .before .before .before .before .before .before .looked-up .ensures .1)
+loop-again-2 c = (step-short _ _ _ _ _ _ _ _ _ _ _ _ _ _ _ _ _ (c .before .before .before .before .before .before .before .before .before .before .before .before .before .before .before .before .before .before .before .before .loop .inv .0) (c .before .before .before .before .before .before .before .before .before .before .before .before .before .before .before .before .before .before .before .loop-test .taken) _ (c .before .before .before .before .before .before .before .before .before .before .before .before .before .before .before .before .before .before .frame-at .ensures) _ (looked-right _ _ _ (c .before .before .before .before .before .before .before .before .before .before .before .before .before .before .before .before .before .before .before .before .loop .inv .1) _ _ _ _ (c .before .before .before .before .before .before .before .before .before .before .before .before .before .before .before .looked-up .ensures) .0) _ (c .before .before .before .before .before .before .before .before .before .before .before .before .before .before .key-of-frame .ensures) _ (c .before .before .before .before .before .before .before .before .before .before .seek .ensures) (c .before .before .before .before .before .before .before .before .if2 .taken) _ (c .before .before .before .before .before .before .before .short-in .ensures .0) (c .before .before .before .before .before .before .if3 .left) _ (c .before .before .before .before .before .no-room .ensures) (c .before .before .before .before .if4 .left) _ (c .before .before .deliver-short .ensures), looked-right _ _ _ (c .before .before .before .before .before .before .before .before .before .before .before .before .before .before .before .before .before .before .before .before .loop .inv .1) _ _ _ _ (c .before .before .before .before .before .before .before .before .before .before .before .before .before .before .before .looked-up .ensures) .1)
 
 ran-on-requires : tie.Need-ran-on-requires Inv-loop μ-loop
 ran-on-requires c κs = run-missing base _ _ (sym (c .before .runs-on .ensures) ∙ c .if5 .taken)
 
 keep-requires : tie.Need-keep-requires Inv-loop μ-loop
-keep-requires c κs = (c .before .before .before .before .before .before .before .before .before .before .before .before .before .before .before .before .before .loop .inv .0 .run .whole .bytes, c .before .before .before .before .before .if2 .left, runs-fit _ _ _ _ _ _ _ _ _ _ _ _ _ _ _ _ _ (c .before .before .before .before .before .before .before .before .before .before .before .before .before .before .before .before .before .loop .inv .0) (c .before .before .before .before .before .before .before .before .before .before .before .before .before .before .before .before .loop-test .taken) _ (c .before .before .before .before .before .before .before .before .before .before .before .before .before .before .before .frame-at .ensures) _ (c .before .before .before .before .before .before .before .before .before .before .before .before .looked-up .ensures .0) _ (c .before .before .before .before .before .before .before .before .before .before .before .key-of-frame .ensures) _ (c .before .before .before .before .before .before .before .seek .ensures) (c .before .before .before .before .before .if2 .left) _ _ (c .before .before .before .runs-on .ensures) (c .before .before .if5 .taken))
+keep-requires c κs = (c .before .before .before .before .before .before .before .before .before .before .before .before .before .before .before .before .before .loop .inv .0 .run .whole .bytes, c .before .before .before .before .before .if2 .left, runs-fit _ _ _ _ _ _ _ _ _ _ _ _ _ _ _ _ _ (c .before .before .before .before .before .before .before .before .before .before .before .before .before .before .before .before .before .loop .inv .0) (c .before .before .before .before .before .before .before .before .before .before .before .before .before .before .before .before .loop-test .taken) _ (c .before .before .before .before .before .before .before .before .before .before .before .before .before .before .before .frame-at .ensures) _ (looked-right _ _ _ (c .before .before .before .before .before .before .before .before .before .before .before .before .before .before .before .before .before .loop .inv .1) _ _ _ _ (c .before .before .before .before .before .before .before .before .before .before .before .before .looked-up .ensures) .0) _ (c .before .before .before .before .before .before .before .before .before .before .before .key-of-frame .ensures) _ (c .before .before .before .before .before .before .before .seek .ensures) (c .before .before .before .before .before .if2 .left) _ _ (c .before .before .before .runs-on .ensures) (c .before .before .if5 .taken))
 
 slice-write-kinds-3 : tie.Need-slice-write-kinds-3 Inv-loop μ-loop
 slice-write-kinds-3 c = still-long _ _ _ _ (c .before .before .before .before .before .before .before .before .before .before .before .before .before .before .before .before .before .loop-test .taken) (c .before .before .before .before .before .before .before .before .before .before .before .before .before .before .before .before .before .before .loop .inv .0 .run .kinds) (c .before .before .before .before .before .before .before .before .before .before .before .before .before .before .before .before .before .before .loop .inv .0 .run .fit .kinds)
@@ -139,7 +136,7 @@ loop-less-3 : tie.Need-loop-less-3 Inv-loop μ-loop
 loop-less-3 c = nearer _ _ (c .before .before .before .before .before .before .before .before .before .before .before .before .before .before .before .before .before .loop-test .taken)
 
 loop-again-3 : tie.Need-loop-again-3 Inv-loop μ-loop
-loop-again-3 c = (step-running _ _ _ _ _ _ _ _ _ _ _ _ _ _ _ _ _ (c .before .before .before .before .before .before .before .before .before .before .before .before .before .before .before .before .before .before .loop .inv .0) (c .before .before .before .before .before .before .before .before .before .before .before .before .before .before .before .before .before .loop-test .taken) _ (c .before .before .before .before .before .before .before .before .before .before .before .before .before .before .before .before .frame-at .ensures) _ (c .before .before .before .before .before .before .before .before .before .before .before .before .before .looked-up .ensures .0) _ (c .before .before .before .before .before .before .before .before .before .before .before .before .key-of-frame .ensures) _ (c .before .before .before .before .before .before .before .before .seek .ensures) (c .before .before .before .before .before .before .if2 .left) _ _ (c .before .before .before .before .runs-on .ensures) (c .before .before .before .if5 .taken) _ (c .before .before .ran-on .ensures) _ (c .keep .ensures), c .before .before .before .before .before .before .before .before .before .before .before .before .before .looked-up .ensures .1)
+loop-again-3 c = (step-running _ _ _ _ _ _ _ _ _ _ _ _ _ _ _ _ _ (c .before .before .before .before .before .before .before .before .before .before .before .before .before .before .before .before .before .before .loop .inv .0) (c .before .before .before .before .before .before .before .before .before .before .before .before .before .before .before .before .before .loop-test .taken) _ (c .before .before .before .before .before .before .before .before .before .before .before .before .before .before .before .before .frame-at .ensures) _ (looked-right _ _ _ (c .before .before .before .before .before .before .before .before .before .before .before .before .before .before .before .before .before .before .loop .inv .1) _ _ _ _ (c .before .before .before .before .before .before .before .before .before .before .before .before .before .looked-up .ensures) .0) _ (c .before .before .before .before .before .before .before .before .before .before .before .before .key-of-frame .ensures) _ (c .before .before .before .before .before .before .before .before .seek .ensures) (c .before .before .before .before .before .before .if2 .left) _ _ (c .before .before .before .before .runs-on .ensures) (c .before .before .before .if5 .taken) _ (c .before .before .ran-on .ensures) _ (c .keep .ensures), looked-right _ _ _ (c .before .before .before .before .before .before .before .before .before .before .before .before .before .before .before .before .before .before .loop .inv .1) _ _ _ _ (c .before .before .before .before .before .before .before .before .before .before .before .before .before .looked-up .ensures) .1)
 
 no-room-requires-2 : tie.Need-no-room-requires-2 Inv-loop μ-loop
 no-room-requires-2 c κs = c .before .before .before .before .before .before .before .before .before .before .before .before .before .before .before .before .loop .inv .0 .run .room
@@ -157,11 +154,11 @@ returns-3 : tie.Need-returns-3 Inv-loop μ-loop
 returns-3 c =
     let a = c .before .before .before .before .before .before .before .before .before .before .before .before .before .before .before .before .before .before .before .before .before .before .before .before .before .before .before .before .before .before .before .before .before .before .before .args in
     gives-run base (a .pgns .now) (record { times = a .times .now; pgns = a .frame-pgns .now; sources = a .sources .now; bytes = a .«data» .now }) (a .pool) (a .counters) (a .kinds .now) (a .lengths .now) (a .arena .now) limit blankHeard _ (c .before .before .before .before .before .before .before .before .before .before .before .before .before .before .before .before .before .before .before .before .before .before .before .before .before .refusal .ensures) (c .before .before .before .before .before .before .before .before .before .before .before .before .before .before .before .before .before .before .before .before .before .before .before .before .if1 .left) _
-    (stop-by _ _ _ _ _ _ _ _ _ _ _ _ _ _ _ _ _ (c .before .before .before .before .before .before .before .before .before .before .before .before .before .before .before .before .before .before .loop .inv .0) (c .before .before .before .before .before .before .before .before .before .before .before .before .before .before .before .before .before .loop-test .taken) _ (c .before .before .before .before .before .before .before .before .before .before .before .before .before .before .before .before .frame-at .ensures) _ (c .before .before .before .before .before .before .before .before .before .before .before .before .before .looked-up .ensures .0) _ (c .before .before .before .before .before .before .before .before .before .before .before .before .key-of-frame .ensures) _ (c .before .before .before .before .before .before .before .before .seek .ensures) (c .before .before .before .before .before .before .if2 .left) _ _ (c .before .before .decide .ensures) _ (c .before .no-room2 .ensures) (c .if6 .taken))
+    (stop-by _ _ _ _ _ _ _ _ _ _ _ _ _ _ _ _ _ (c .before .before .before .before .before .before .before .before .before .before .before .before .before .before .before .before .before .before .loop .inv .0) (c .before .before .before .before .before .before .before .before .before .before .before .before .before .before .before .before .before .loop-test .taken) _ (c .before .before .before .before .before .before .before .before .before .before .before .before .before .before .before .before .frame-at .ensures) _ (looked-right _ _ _ (c .before .before .before .before .before .before .before .before .before .before .before .before .before .before .before .before .before .before .loop .inv .1) _ _ _ _ (c .before .before .before .before .before .before .before .before .before .before .before .before .before .looked-up .ensures) .0) _ (c .before .before .before .before .before .before .before .before .before .before .before .before .key-of-frame .ensures) _ (c .before .before .before .before .before .before .before .before .seek .ensures) (c .before .before .before .before .before .before .if2 .left) _ _ (c .before .before .decide .ensures) _ (c .before .no-room2 .ensures) (c .if6 .taken))
 
 take-requires : tie.Need-take-requires Inv-loop μ-loop
 take-requires c κs =
-    let fits = plan-fits _ _ _ _ _ _ _ _ _ _ _ _ _ _ _ _ _ (c .before .before .before .before .before .before .before .before .before .before .before .before .before .before .before .before .before .before .before .before .loop .inv .0) (c .before .before .before .before .before .before .before .before .before .before .before .before .before .before .before .before .before .before .before .loop-test .taken) _ (c .before .before .before .before .before .before .before .before .before .before .before .before .before .before .before .before .before .before .frame-at .ensures) _ (c .before .before .before .before .before .before .before .before .before .before .before .before .before .before .before .looked-up .ensures .0) _ (c .before .before .before .before .before .before .before .before .before .before .before .before .before .before .key-of-frame .ensures) _ (c .before .before .before .before .before .before .before .before .before .before .seek .ensures) (c .before .before .before .before .before .before .before .before .if2 .left) _ _ (c .before .before .before .before .decide .ensures) in
+    let fits = plan-fits _ _ _ _ _ _ _ _ _ _ _ _ _ _ _ _ _ (c .before .before .before .before .before .before .before .before .before .before .before .before .before .before .before .before .before .before .before .before .loop .inv .0) (c .before .before .before .before .before .before .before .before .before .before .before .before .before .before .before .before .before .before .before .loop-test .taken) _ (c .before .before .before .before .before .before .before .before .before .before .before .before .before .before .before .before .before .before .frame-at .ensures) _ (looked-right _ _ _ (c .before .before .before .before .before .before .before .before .before .before .before .before .before .before .before .before .before .before .before .before .loop .inv .1) _ _ _ _ (c .before .before .before .before .before .before .before .before .before .before .before .before .before .before .before .looked-up .ensures) .0) _ (c .before .before .before .before .before .before .before .before .before .before .before .before .before .before .key-of-frame .ensures) _ (c .before .before .before .before .before .before .before .before .before .before .seek .ensures) (c .before .before .before .before .before .before .before .before .if2 .left) _ _ (c .before .before .before .before .decide .ensures) in
     (c .before .before .before .before .before .before .before .before .before .before .before .before .before .before .before .before .before .before .before .before .loop .inv .0 .run .whole .bytes, c .before .before .before .before .before .before .before .before .if2 .left, fits .room, fits .there, fits .whole, has-room _ (c .before .before .before .before .before .before .before .before .before .before .before .before .before .before .before .before .before .before .before .before .loop .used) _ _ (c .before .before .before .no-room2 .ensures) (c .before .before .if6 .left))
 
 slice-write-kinds-4 : tie.Need-slice-write-kinds-4 Inv-loop μ-loop
@@ -184,8 +181,8 @@ loop-less-4 c = nearer _ _ (c .before .before .before .before .before .before .b
 loop-again-4 : tie.Need-loop-again-4 Inv-loop μ-loop
 loop-again-4 c =
     let took = c .before .before .before .before .before .before .take .ensures in (
-      step-by _ _ _ _ _ _ _ _ _ _ _ _ _ _ _ _ _ (c .before .before .before .before .before .before .before .before .before .before .before .before .before .before .before .before .before .before .before .before .before .before .before .before .before .before .before .loop .inv .0) (c .before .before .before .before .before .before .before .before .before .before .before .before .before .before .before .before .before .before .before .before .before .before .before .before .before .before .loop-test .taken) _ (c .before .before .before .before .before .before .before .before .before .before .before .before .before .before .before .before .before .before .before .before .before .before .before .before .before .frame-at .ensures) _ (c .before .before .before .before .before .before .before .before .before .before .before .before .before .before .before .before .before .before .before .before .before .before .looked-up .ensures .0) _ (c .before .before .before .before .before .before .before .before .before .before .before .before .before .before .before .before .before .before .before .before .before .key-of-frame .ensures) _ (c .before .before .before .before .before .before .before .before .before .before .before .before .before .before .before .before .before .seek .ensures) (c .before .before .before .before .before .before .before .before .before .before .before .before .before .before .before .if2 .left) _ _ (c .before .before .before .before .before .before .before .before .before .before .before .decide .ensures) _ (c .before .before .before .before .before .before .before .before .before .before .no-room2 .ensures) (c .before .before .before .before .before .before .before .before .before .if6 .left) _ (took .0) _ (took .1) _ (took .2) _ (took .3) _ (took .4) _ _ _ (record { key = c .key-of .ensures .0; owner = refl; last = refl; range = c .key-of .ensures .1 }),
-      c .before .before .before .before .before .before .before .before .before .before .before .before .before .before .before .before .before .before .before .before .before .before .looked-up .ensures .1,
+      step-by _ _ _ _ _ _ _ _ _ _ _ _ _ _ _ _ _ (c .before .before .before .before .before .before .before .before .before .before .before .before .before .before .before .before .before .before .before .before .before .before .before .before .before .before .before .loop .inv .0) (c .before .before .before .before .before .before .before .before .before .before .before .before .before .before .before .before .before .before .before .before .before .before .before .before .before .before .loop-test .taken) _ (c .before .before .before .before .before .before .before .before .before .before .before .before .before .before .before .before .before .before .before .before .before .before .before .before .before .frame-at .ensures) _ (looked-right _ _ _ (c .before .before .before .before .before .before .before .before .before .before .before .before .before .before .before .before .before .before .before .before .before .before .before .before .before .before .before .loop .inv .1) _ _ _ _ (c .before .before .before .before .before .before .before .before .before .before .before .before .before .before .before .before .before .before .before .before .before .before .looked-up .ensures) .0) _ (c .before .before .before .before .before .before .before .before .before .before .before .before .before .before .before .before .before .before .before .before .before .key-of-frame .ensures) _ (c .before .before .before .before .before .before .before .before .before .before .before .before .before .before .before .before .before .seek .ensures) (c .before .before .before .before .before .before .before .before .before .before .before .before .before .before .before .if2 .left) _ _ (c .before .before .before .before .before .before .before .before .before .before .before .decide .ensures) _ (c .before .before .before .before .before .before .before .before .before .before .no-room2 .ensures) (c .before .before .before .before .before .before .before .before .before .if6 .left) _ (took .0) _ (took .1) _ (took .2) _ (took .3) _ (took .4) _ _ _ (record { key = c .key-of .ensures .0; owner = refl; last = refl; range = c .key-of .ensures .1 }),
+      looked-right _ _ _ (c .before .before .before .before .before .before .before .before .before .before .before .before .before .before .before .before .before .before .before .before .before .before .before .before .before .before .before .loop .inv .1) _ _ _ _ (c .before .before .before .before .before .before .before .before .before .before .before .before .before .before .before .before .before .before .before .before .before .before .looked-up .ensures) .1,
     )
 
 same-length-7 : tie.Need-same-length-7 Inv-loop μ-loop
@@ -215,7 +212,7 @@ process-frames-spec =
     (λ c κs. search needs)
     loop-holds
     frame-at-requires
-    looked-up-requires
+    (λ c κs. search needs)
     (λ c κs. search needs)
     seek-requires
     (λ c κs. search needs)
