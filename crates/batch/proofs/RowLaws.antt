@@ -8,7 +8,6 @@ use borrow.Author.Tests.{ltb-false, lt-ltb, le-ltb}
 use Rattle.base.proofs.Cases.{less?}
 use Rattle.base.specs.Pick.{pick}
 use Rattle.session.specs.Rules.{poolLimit}
-use Rattle.batch.specs.Rows.{tooShort}
 use Rattle.batch.specs.inner.Ways.{refusalOf}
 
 -- two tests of which one passes exactly where the other does
@@ -17,34 +16,10 @@ same-test a b c d f g =
     less? a b (λ l. rw (lt-ltb a b l, lt-ltb c d (f l)))
     (λ l. less? c d (λ m. absurd (omega (arith, g m))) (λ m. rw (le-ltb a b l, le-ltb c d m)))
 
-module _ (n a b c d e : ℕ) where
-  pub few-pgns : a < n → true ≡ tooShort n a b c d e
-  unfolding tooShort
-  few-pgns h = rw (lt-ltb a n h)
-
-  module _ (h1 : n ≤ a) where
-    pub few-sources : b < n → true ≡ tooShort n a b c d e
-    unfolding tooShort
-    few-sources h = rw (le-ltb a n h1, lt-ltb b n h)
-
-    module _ (h2 : n ≤ b) where
-      pub few-bytes : c / 8 < n → true ≡ tooShort n a b c d e
-      unfolding tooShort
-      few-bytes h = let l : c < n * 8 = omega arith in rw (le-ltb a n h1, le-ltb b n h2, lt-ltb c (n * 8) l)
-
-      module _ (h3 : n ≤ c / 8) where
-        pub few-kinds : d < n → true ≡ tooShort n a b c d e
-        unfolding tooShort
-        few-kinds h = let l : n * 8 ≤ c = omega arith in rw (le-ltb a n h1, le-ltb b n h2, le-ltb c (n * 8) l, lt-ltb d n h)
-
-        pub few-lengths : n ≤ d → ltb e n ≡ tooShort n a b c d e
-        unfolding tooShort
-        few-lengths h = let l : n * 8 ≤ c = omega arith in rw (le-ltb a n h1, le-ltb b n h2, le-ltb c (n * 8) l, le-ltb d n h)
-
 pub room-left : (room used n : ℕ) → used ≤ room → ltb (room - used) n ≡ ltb room (used + n)
 room-left room used n h = same-test (room - used) n room (used + n) (λ l. omega arith) (λ l. omega arith)
 
-pub ruleset short-rules = (few-pgns, few-sources, few-bytes, few-kinds, few-lengths, room-left)
+pub ruleset short-rules = (room-left)
 
 -- a message that has room fits
 pub has-room : (room used n : ℕ) (b : Bool) → b ≡ ltb room (used + n) → b ≡ false → used + n ≤ room

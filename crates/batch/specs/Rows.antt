@@ -1,5 +1,4 @@
 -- A batch: the rows of frames that a caller lends, taken one after the other by the single call, as long as the arena has room for their messages.
-use mathlib.Core.Bool.{Bool, _||_}
 use mathlib.Core.List.{List, [], _∷_, _++_}
 use Prim.Native.Nat.{ℕ, zero, suc, _+_, _*_}
 use lib.ListN.{length, getD, take, drop}
@@ -14,6 +13,7 @@ use Rattle.assembler.specs.declared.Pool.{Pool}
 use Rattle.assembler.specs.declared.Received.{Received}
 use Rattle.assembler.specs.Slots.{impossible}
 use Rattle.assembler.specs.View.{slotsOf, receiveOf}
+use Rattle.row_lengths.specs.Lengths.{tooShort}
 use Rattle.batch.specs.declared.Batch.{Batch}
 
 -- ---- the frames
@@ -99,10 +99,6 @@ leaves z kinds lengths arena =
 unfoldable pub refusedBy : ℕ → Pool → Counters → List ℕ → List ℕ → List ℕ → Left
 refusedBy n p k kinds lengths arena =
     record { answer = record { refused = n; taken = 0; used = 0; counters = k; pool = p }; kinds = kinds; lengths = lengths; arena = arena }
-
--- a row is shorter than the n frames ask
-unfoldable pub tooShort : ℕ → ℕ → ℕ → ℕ → ℕ → ℕ → Bool
-tooShort n pgns sources bytes kinds lengths = ltb pgns n || (ltb sources n || (ltb bytes (n * 8) || (ltb kinds n || ltb lengths n)))
 
 -- the call: refusal 1 for an impossible pool, then 27 for a row too short, else the run
 unfoldable pub batchOf : Rules → List ℕ → Rows → Pool → Counters → List ℕ → List ℕ → List ℕ → Left

@@ -1,37 +1,11 @@
-// The lent rows: whether they are long enough, and the frame at a place.
+// The lent rows: the frame at a place, and what is written of an answer.
 ghost use mathlib.Core.Path.{_≡_};
 ghost use Prim.Native.Nat.{_+_, _*_, _<_, _≤_};
 ghost use lib.ListN.{length, take, drop};
 ghost use lib.Dec.{ltb};
-ghost use Rattle.batch.specs.Rows.{frameAt, kindNumber, tooShort};
+ghost use Rattle.batch.specs.Rows.{frameAt, kindNumber};
 use session::Heard;
 use session::Kind;
-
-// Whether a row is shorter than the n frames ask.
-pub(crate) fn too_short(
-    n: usize,
-    pgns: usize,
-    sources: usize,
-    bytes: usize,
-    kinds: usize,
-    lengths: usize,
-) -> bool
-    ensures { λ r. ⌜ r ≡ tooShort n pgns sources bytes kinds lengths ⌝ }
-{
-    if pgns < n {
-        return true;
-    }
-    if sources < n {
-        return true;
-    }
-    if bytes / 8 < n {
-        return true;
-    }
-    if kinds < n {
-        return true;
-    }
-    lengths < n
-}
 
 fn eight(data: &[u8], at: usize) -> [u8; 8]
     requires { ⌜ at + 8 ≤ length (now «data») ⌝ }

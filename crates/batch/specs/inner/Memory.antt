@@ -1,4 +1,4 @@
--- The code's memory of what the list said. Nobody needs to believe this definition: only the code's own contracts cite it.
+-- The code's memory of what the list said. Nobody needs to believe this definition: only proofs cite it.
 use mathlib.Core.Bool.{Bool, false}
 use mathlib.Core.List.{List}
 use mathlib.Core.Path.{_≡_}
