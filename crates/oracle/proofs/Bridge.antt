@@ -19,19 +19,20 @@ use Rattle.base.specs.Pick.{pick}
 use Rattle.base.proofs.Cases.{tested, less?, same?, when-eq, when-ne, when-lt, when-ge, when-true, when-false}
 use Rattle.splitter.specs.Frames.{eight, bytesOf}
 use Rattle.oracle.specs.Ids.{isOther}
-use Rattle.verdicts.specs.Frames.{indexOf, sequenceOf, oddOf}
+use Rattle.faults.specs.Frames.{indexOf, sequenceOf, oddOf, paddingAt, firstThen, laterThen, messageEnd, faultAt}
+use Rattle.verdicts.proofs.Laws.{row-passed, row-refused}
 use Rattle.oracle.specs.Strict.{Message, Open, Outcome, refused, waits, whole, collectedAt, firstFrame, laterFrame, outcomeOf, before, thenOf, endOf, messagesFrom, messagesOf, payloadsOf, listFrom, roomFor, deliveredTo, arenaWith, listWith}
-use Rattle.oracle.specs.Numbers.{ofReassembled}
-use Rattle.verdicts.specs.Numbers.{numberOf, valuesOf}
-use Rattle.oracle.specs.inner.Scan.{headOf, missingOf, paddingOf, firstOf, laterOf, faultOf, skipped, refusedAt, taken, isRefused, stepOn, stepOf, scanOf, startOf, Counted, addedOf, rowOf, bytesLaid, rowsLaid, refusalOf, verdictOf, isNone}
+use Rattle.faults.specs.Numbers.{numberOf, valuesOf}
+use Rattle.verdicts.specs.Numbers.{ofReassembled}
+use Rattle.oracle.specs.inner.Scan.{headOf, missingOf, faultOf, skipped, refusedAt, taken, isRefused, stepOn, stepOf, scanOf, startOf, Counted, addedOf, rowOf, bytesLaid, rowsLaid, verdictOf, isNone}
 use Rattle.splitter.specs.declared.Frame.{Frame}
 use Rattle.oracle.specs.declared.Scan.{Scan}
-use Rattle.verdicts.specs.declared.Fault.{Fault}
-use Rattle.verdicts.specs.declared.Fault.the-variants.{Length, Restarted, Announced, Stray, Order, Padding}
-use Rattle.verdicts.specs.declared.Standing.{Standing}
-use Rattle.verdicts.specs.declared.Standing.the-variants.{Clear, At}
-use Rattle.oracle.specs.declared.Reassembled.{Reassembled}
-use Rattle.oracle.specs.declared.Reassembled.the-variants.{Messages, Refused, Incomplete, NoRoom}
+use Rattle.faults.specs.declared.Fault.{Fault}
+use Rattle.faults.specs.declared.Fault.the-variants.{Length, Restarted, Announced, Stray, Order, Padding}
+use Rattle.faults.specs.declared.Standing.{Standing}
+use Rattle.faults.specs.declared.Standing.the-variants.{Clear, At}
+use Rattle.verdicts.specs.declared.Reassembled.{Reassembled}
+use Rattle.verdicts.specs.declared.Reassembled.the-variants.{Messages, Refused, Incomplete, NoRoom}
 use Rattle.splitter.proofs.FrameLaws.{eight-long}
 use Rattle.oracle.proofs.Grows.{head-low, head-high, added-end}
 
@@ -81,6 +82,26 @@ Does s bs len q (refused k vs) = Refuses s bs len k vs
 Does s bs len q (waits o) = Waits s bs len q o
 Does s bs len q (whole m) = Whole s bs len q m
 
+-- ---- what `frame_fault` says, beside what the code knows
+abbrev paddingOf : Scan → List ℕ → Standing
+paddingOf s bs = paddingAt (s .n) (oddOf (drop (messageEnd (s .missing) (getD bs 0 0) (getD bs 1 0)) bs))
+
+abbrev firstOf : Scan → List ℕ → Standing
+firstOf s bs = firstThen (s .n) (s .missing) (getD bs 1 0) (paddingOf s bs)
+
+abbrev laterOf : Scan → List ℕ → Standing
+laterOf s bs = laterThen (s .n) (s .missing) (s .sequence) (s .index) (sequenceOf bs) (indexOf bs) (paddingOf s bs)
+
+-- the message's bytes end where those that it lacks do
+both : (t : Bool) (a b : ℕ) → pick t (2 + a) (1 + b) ≡ pick t 2 1 + pick t a b
+unfolding pick
+both true a b = refl
+both false a b = refl
+
+end-is : (s : Scan) (bs : List ℕ) → messageEnd (s .missing) (getD bs 0 0) (getD bs 1 0) ≡ headOf bs + missingOf s bs
+unfolding messageEnd headOf missingOf
+end-is s bs = both (eqb (indexOf bs) 0) (getD bs 1 0) (s .missing)
+
 -- ---- a frame that passes every test but that of its padding
 module _ (s : Scan) (bs : List ℕ) (len : ℕ) (q : List ℕ) (a sq ix : ℕ) (long : length bs ≡ 8) (pads : faultOf s bs len ≡ paddingOf s bs)
     (lacks : missingOf s bs + length q ≡ a) (some-left : 1 ≤ missingOf s bs) (es : sequenceOf bs ≡ sq) (ea : pick (eqb (indexOf bs) 0) (getD bs 1 0) (s .announced) ≡ a) (ei : indexOf bs + 1 ≡ ix) where
@@ -109,12 +130,12 @@ module _ (s : Scan) (bs : List ℕ) (len : ℕ) (q : List ℕ) (a sq ix : ℕ) (
       ap (λ (n : ℕ). drop n (q ++ b)) e ∙ drop-append-add q b m ∙ drop-drop m h bs
 
   passes : oddOf (drop (h + m) bs) ≡ 255 → faultOf s bs len ≡ Clear
-  unfolding paddingOf
-  passes e = pads ∙ sym (when-eq _ _ e refl)
+  passes e = pads ∙ sym (when-eq _ _ (ap (λ (k : ℕ). oddOf (drop k bs)) (end-is s bs) ∙ e) refl)
 
   padded : (oddOf (drop a (q ++ b)) ≡ 255 → ⊥) → faultOf s bs len ≡ At (Padding (s .n) (oddOf (drop a (q ++ b))))
-  unfolding paddingOf
-  padded x = pads ∙ sym (when-ne _ _ (λ e. x (ap oddOf after-it ∙ e)) (ap (λ (l : List ℕ). At (Padding (s .n) (oddOf l))) after-it))
+  padded x =
+      let same : drop a (q ++ b) ≡ drop (messageEnd (s .missing) (getD bs 0 0) (getD bs 1 0)) bs = after-it ∙ sym (ap (λ (k : ℕ). drop k bs) (end-is s bs)) in
+      pads ∙ sym (when-ne _ _ (λ e. x (ap oddOf same ∙ e)) (ap (λ (l : List ℕ). At (Padding (s .n) (oddOf l))) same))
 
   stays-open : 8 - h < m → Does s bs len q (collectedAt (s .n) opened)
   unfolding collectedAt taken oddOf
@@ -170,7 +191,7 @@ module _ (s : Scan) (bs : List ℕ) (len : ℕ) (long : length bs ≡ 8) (full :
   -- index 0
   module _ (zeroth : indexOf bs ≡ 0) where
     first-fault : {x : Standing} → x ≡ firstOf s bs → x ≡ faultOf s bs len
-    unfolding faultOf
+    unfolding faultAt
     first-fault e = when-eq _ _ full (when-eq _ _ zeroth e)
 
     first-head : headOf bs ≡ 2
@@ -185,14 +206,13 @@ module _ (s : Scan) (bs : List ℕ) (len : ℕ) (long : length bs ≡ 8) (full :
     byte-there x = same? (getD bs 1 0) 0 (λ e. absurd (x e)) (λ y. omega (arith, first-missing))
 
     first-passed : s .missing ≡ 0 → (getD bs 1 0 ≡ 0 → ⊥) → getD bs 1 0 ≤ 223 → Does s bs len [] (collectedAt (s .n) (record { sequence = sequenceOf bs; announced = getD bs 1 0; index = 1; bytes = drop 2 bs }))
-    unfolding firstOf
     first-passed k x y =
         let f : faultOf s bs len ≡ paddingOf s bs = sym (first-fault (when-ge _ _ {a = 0} {b = s .missing} (omega arith) (when-ne _ _ x (when-ge _ _ {a = 223} {b = getD bs 1 0} y refl)))) in
         subst (λ (n : ℕ). Does s bs len [] (collectedAt (s .n) (record { sequence = sequenceOf bs; announced = getD bs 1 0; index = 1; bytes = drop n bs }))) first-head
         (collects s bs len [] (getD bs 1 0) (sequenceOf bs) 1 long f (omega (arith, first-missing)) (byte-there x) refl (sym (when-eq _ _ zeroth refl)) (omega (arith, zeroth)))
 
     first-does : (o : Option Open) → Knows s o → Does s bs len (had o) (firstFrame (s .n) o bs)
-    unfolding firstFrame firstOf numberOf valuesOf
+    unfolding firstFrame numberOf valuesOf
     first-does (some o) k =
         let w : 0 < s .missing = k .waiting in
         record { why = Restarted (s .n); found = sym (first-fault (when-lt _ _ w refl)); number = refl; values = refl }
@@ -210,7 +230,7 @@ module _ (s : Scan) (bs : List ℕ) (len : ℕ) (long : length bs ≡ 8) (full :
   -- any other index
   module _ (other : indexOf bs ≡ 0 → ⊥) where
     later-fault : {x : Standing} → x ≡ laterOf s bs → x ≡ faultOf s bs len
-    unfolding faultOf
+    unfolding faultAt
     later-fault e = when-eq _ _ full (when-ne _ _ other e)
 
     later-head : headOf bs ≡ 1
@@ -234,7 +254,6 @@ module _ (s : Scan) (bs : List ℕ) (len : ℕ) (long : length bs ≡ 8) (full :
 
       later-passed : sequenceOf bs ≡ o .sequence → indexOf bs ≡ o .index
           → Does s bs len (o .bytes) (collectedAt (s .n) (record { sequence = o .sequence; announced = o .announced; index = o .index + 1; bytes = o .bytes ++ drop 1 bs }))
-      unfolding laterOf
       later-passed x y =
           let f : faultOf s bs len ≡ paddingOf s bs = sym (later-fault (when-ne _ _ some-missing (when-eq _ _ (x ∙ sym (k .same-sequence)) (when-eq _ _ (y ∙ sym (k .same-index)) refl)))) in
           let l : s .missing + length (o .bytes) ≡ o .announced = k .lacks in
@@ -243,7 +262,7 @@ module _ (s : Scan) (bs : List ℕ) (len : ℕ) (long : length bs ≡ 8) (full :
           (collects s bs len (o .bytes) (o .announced) (o .sequence) (o .index + 1) long f (omega (arith, later-missing)) (omega (arith, later-missing)) x (sym (when-ne _ _ other (sym (k .same-size)))) (omega (arith, y)))
 
       later-open : Does s bs len (o .bytes) (laterFrame (s .n) (some o) bs)
-      unfolding laterFrame laterOf numberOf
+      unfolding laterFrame numberOf
       later-open =
           same? (sequenceOf bs) (o .sequence)
           (λ x. subst (Does s bs len (o .bytes)) (when-eq _ _ x refl)
@@ -255,12 +274,12 @@ module _ (s : Scan) (bs : List ℕ) (len : ℕ) (long : length bs ≡ 8) (full :
           (record { why = wrong; found = sym (later-fault (when-ne _ _ some-missing (when-ne _ _ (λ e. x (e ∙ k .same-sequence)) refl))); number = refl; values = told-wrong }))
 
     later-does : (o : Option Open) → Knows s o → Does s bs len (had o) (laterFrame (s .n) o bs)
-    unfolding laterFrame laterOf numberOf valuesOf
+    unfolding laterFrame numberOf valuesOf
     later-does (some o) k = later-open o k
     later-does none k = record { why = Stray (s .n); found = sym (later-fault (when-eq _ _ k refl)); number = refl; values = refl }
 
 pub frame-does : (s : Scan) (bs : List ℕ) (len : ℕ) → length bs ≡ 8 → (o : Option Open) → Knows s o → Does s bs len (had o) (outcomeOf (s .n) o bs len)
-unfolding outcomeOf faultOf numberOf valuesOf
+unfolding outcomeOf faultAt numberOf valuesOf
 frame-does s bs len long o k =
     same? len 8
     (λ full. subst (Does s bs len (had o)) (when-eq _ _ full refl)
@@ -448,31 +467,31 @@ module _ (s : Scan) (fs : List Frame) (l o : List ℕ) where
   }
 
   stops-kept : (k : ℕ) (vs : List ℕ) → Stops (scanOf s fs) k vs → Kept (verdictOf (scanOf s fs) (length l) (length o)) (refuses k vs)
-  unfolding verdictOf ofReassembled
+  unfolding ofReassembled
   stops-kept k vs (by-fault f g n v) =
-      let t : Refused f ≡ verdictOf (scanOf s fs) (length l) (length o) = when-true _ _ (ap isRefused g) (sym (ap refusalOf g)) in
+      let t : Refused f ≡ verdictOf (scanOf s fs) (length l) (length o) = row-refused _ _ _ _ _ _ _ g in
       subst (λ (r : Reassembled). Kept r (refuses k vs)) t (refuses-kept (Refused f) k vs (rw (n, v)) refl)
   stops-kept k vs (by-end g m n v) =
-      let t : Incomplete (scanOf s fs .announced) ≡ verdictOf (scanOf s fs) (length l) (length o) = when-false _ _ (ap isRefused g) (when-lt _ _ {a = 0} {b = scanOf s fs .missing} m refl) in
+      let t : Incomplete (scanOf s fs .announced) ≡ verdictOf (scanOf s fs) (length l) (length o) = row-passed _ _ _ _ _ _ _ g (when-lt _ _ {a = 0} {b = scanOf s fs .missing} m refl) in
       subst (λ (r : Reassembled). Kept r (refuses k vs)) t (refuses-kept (Incomplete (scanOf s fs .announced)) k vs (rw (← n, ← v)) refl)
 
   -- a fresh start
   module _ (fresh : s .total ≡ 0) (none-yet : s .messages ≡ 0) where
     gives-kept : (ms : List Message) → Done s [] fs ms → Kept (verdictOf (scanOf s fs) (length l) (length o)) (roomFor (length l) (length o) (gives ms))
-    unfolding verdictOf ofReassembled roomFor counted listWith arenaWith
+    unfolding ofReassembled roomFor counted listWith arenaWith
     gives-kept ms d =
         let many : scanOf s fs .messages ≡ length ms = d .many ∙ omega arith in
         let all : scanOf s fs .total ≡ length (payloadsOf ms) = total-all fs s ∙ ap (λ (n : ℕ). n + length (bytesLaid s fs)) fresh ∙ zero-add (length (bytesLaid s fs)) ∙ ap length (d .bytes) in
         let shut : scanOf s fs .missing ≤ 0 = let z : scanOf s fs .missing ≡ 0 = d .shut in omega arith in
-        let short : (length l / 3 < length ms) → NoRoom ≡ verdictOf (scanOf s fs) (length l) (length o) = λ h. when-false _ _ (ap isRefused (d .clear)) (when-ge _ _ {a = 0} {b = scanOf s fs .missing} shut (when-lt _ _ {a = length l / 3} {b = scanOf s fs .messages} (omega (arith, many)) refl)) in
+        let short : (length l / 3 < length ms) → NoRoom ≡ verdictOf (scanOf s fs) (length l) (length o) = λ h. row-passed _ _ _ _ _ _ _ (d .clear) (when-ge _ _ {a = 0} {b = scanOf s fs .missing} shut (when-lt _ _ {a = length l / 3} {b = scanOf s fs .messages} (omega (arith, many)) refl)) in
         less? (length l / 3) (length ms)
         (λ h. subst (Kept (verdictOf (scanOf s fs) (length l) (length o))) (when-lt _ _ h refl) (subst (λ (r : Reassembled). Kept r (refuses 27 [])) (short h) (refuses-kept NoRoom 27 [] refl refl)))
         (λ h. subst (Kept (verdictOf (scanOf s fs) (length l) (length o))) (when-ge _ _ {a = length l / 3} {b = length ms} h refl)
         (less? (length o) (length (payloadsOf ms))
         (λ g. subst (Kept (verdictOf (scanOf s fs) (length l) (length o))) (when-lt _ _ g refl)
-        (subst (λ (r : Reassembled). Kept r (refuses 27 [])) (when-false _ _ (ap isRefused (d .clear)) (when-ge _ _ {a = 0} {b = scanOf s fs .missing} shut (when-ge _ _ {a = length l / 3} {b = scanOf s fs .messages} (omega (arith, many)) (when-lt _ _ {a = length o} {b = scanOf s fs .total} (omega (arith, all)) refl)))) (refuses-kept NoRoom 27 [] refl refl)))
+        (subst (λ (r : Reassembled). Kept r (refuses 27 [])) (row-passed _ _ _ _ _ _ _ (d .clear) (when-ge _ _ {a = 0} {b = scanOf s fs .missing} shut (when-ge _ _ {a = length l / 3} {b = scanOf s fs .messages} (omega (arith, many)) (when-lt _ _ {a = length o} {b = scanOf s fs .total} (omega (arith, all)) refl)))) (refuses-kept NoRoom 27 [] refl refl)))
         (λ g. subst (Kept (verdictOf (scanOf s fs) (length l) (length o))) (when-ge _ _ {a = length o} {b = length (payloadsOf ms)} g refl)
-        (subst (λ (r : Reassembled). Kept r (gives ms)) (when-false _ _ (ap isRefused (d .clear)) (when-ge _ _ {a = 0} {b = scanOf s fs .missing} shut (when-ge _ _ {a = length l / 3} {b = scanOf s fs .messages} (omega (arith, many)) (when-ge _ _ {a = length o} {b = scanOf s fs .total} (omega (arith, all)) refl))))
+        (subst (λ (r : Reassembled). Kept r (gives ms)) (row-passed _ _ _ _ _ _ _ (d .clear) (when-ge _ _ {a = 0} {b = scanOf s fs .missing} shut (when-ge _ _ {a = length l / 3} {b = scanOf s fs .messages} (omega (arith, many)) (when-ge _ _ {a = length o} {b = scanOf s fs .total} (omega (arith, all)) refl))))
         (record {
           answer = ap gives many;
           none-list = λ x. let z : _≡_ {A = ℕ} 0 1 = cc in absurd (omega arith);

@@ -18,19 +18,20 @@ use Rattle.base.specs.Pick.{pick}
 use Rattle.base.proofs.Cases.{tested, less?, same?, pick-all, when-eq, when-ne, when-lt, when-ge, when-true, when-false}
 use Rattle.splitter.specs.Frames.{eight, bytesOf}
 use Rattle.oracle.specs.Ids.{isOther}
-use Rattle.verdicts.specs.Frames.{indexOf, sequenceOf, oddOf}
+use Rattle.faults.specs.Frames.{indexOf, sequenceOf, oddOf}
 use Rattle.oracle.specs.Strict.{Message, Open, Outcome, refused, waits, whole, collectedAt, firstFrame, laterFrame, outcomeOf, before, thenOf, endOf, messagesFrom, messagesOf}
 use Rattle.oracle.specs.Check.{follows, eachFrom, isClaimed, sentOf, checkTxOf}
 use Rattle.verdicts.specs.Messages.{hoursOf, offFrom, messageOf}
-use Rattle.verdicts.specs.Numbers.{numberOf, valuesOf, ofChecked}
+use Rattle.faults.specs.Numbers.{numberOf, valuesOf}
+use Rattle.verdicts.specs.Numbers.{ofReassembled, ofChecked}
 use Rattle.oracle.specs.inner.Scan.{headOf, faultOf, skipped, refusedAt, taken, isRefused, stepOn, stepOf, scanOf, startOf, Counted, addedOf}
 use Rattle.oracle.specs.inner.Tx.{isBad, bufferOf, badOf, lastOf, begunOf, unclaimedOf, txOf, txAll, txStart, overOf, faultyOf, ranOf, checkedOf}
 use Rattle.splitter.specs.declared.Frame.{Frame}
 use Rattle.oracle.specs.declared.Scan.{Scan}
 use Rattle.oracle.specs.declared.Tx.{Tx}
-use Rattle.verdicts.specs.declared.Fault.{Fault}
-use Rattle.verdicts.specs.declared.Standing.{Standing}
-use Rattle.verdicts.specs.declared.Standing.the-variants.{Clear, At}
+use Rattle.faults.specs.declared.Fault.{Fault}
+use Rattle.faults.specs.declared.Standing.{Standing}
+use Rattle.faults.specs.declared.Standing.the-variants.{Clear, At}
 use Rattle.verdicts.specs.declared.Checked.{Checked}
 use Rattle.verdicts.specs.declared.Checked.the-variants.{Good, NoCount, Over, NoClaim, Faulty, Open as OpenAt, Count, Size, Hours, Pattern, Sequence}
 use Rattle.splitter.proofs.FrameLaws.{eight-long}

@@ -2,12 +2,12 @@
 use Prim.Native.Nat.{ℕ, suc, _+_, _*_, _-_, _<_, _≤_}
 use mathlib.Core.List.{List, [], _∷_}
 use mathlib.Core.Path.{_≡_, refl, sym, ap, _∙_}
-use native.Mathlib.Nat.{add-zero}
 use native.Mathlib.Omega.{arith}
 use lib.ListN.{length, getD, drop}
-use lib.Seq.{sets, getD-drop}
-use Rattle.splitter.specs.Frames.{eight, countIn}
-use Rattle.oracle.specs.Rows.{frameIn, framesIn, rowIn}
+use lib.Seq.{sets}
+use Rattle.splitter.specs.Frames.{countIn}
+use Rattle.slice_rows.specs.Rows.{frameIn, framesIn, rowIn, frameOrNone}
+use Rattle.slice_rows.proofs.Laws.{frame-there}
 use Rattle.oracle.specs.inner.Scan.{stepOf, scanOf, addedOf, rowOf, bytesLaid, rowsLaid, Counted, Small}
 use Rattle.oracle.specs.inner.Tx.{txOf, txAll}
 use Rattle.splitter.specs.declared.Frame.{Frame}
@@ -15,16 +15,6 @@ use Rattle.oracle.specs.declared.Scan.{Scan}
 use Rattle.oracle.specs.declared.Tx.{Tx}
 use Rattle.oracle.proofs.Grows.{counts, arena-more, list-more}
 use Rattle.oracle.proofs.CheckLaws.{kept-count}
-
--- eight bytes, one by one, and the frame that has them
-pub eight-read : (bytes : List ℕ) (at : ℕ)
-    → getD bytes at 0 ∷ getD bytes (at + 1) 0 ∷ getD bytes (at + 2) 0 ∷ getD bytes (at + 3) 0 ∷ getD bytes (at + 4) 0 ∷ getD bytes (at + 5) 0 ∷ getD bytes (at + 6) 0 ∷ getD bytes (at + 7) 0 ∷ [] ≡ eight (drop at bytes)
-unfolding eight
-eight-read bytes at = simp (getD-drop, add-zero)
-
-pub frame-read : (ids bytes lens : List ℕ) (i : ℕ) {bs : List ℕ} → bs ≡ eight (drop (8 * i) bytes) → record { id = getD ids i 0; «data» = bs; len = getD lens i 0 } ≡ frameIn ids bytes lens i
-unfolding frameIn
-frame-read ids bytes lens i e = simp e
 
 -- what a fold leaves of the arena and of the list
 abbrev pub arenaLeft : Scan → List ℕ → List Frame → List ℕ
@@ -56,8 +46,8 @@ module _ (ids bytes lens : List ℕ) where
     pub scan-none : n ≡ countIn (length ids) (length bytes) (length lens) → scanOf s₀ (rest n 0) ≡ scanOf s₀ row
     scan-none e = ap (scanOf s₀) (all-are e)
 
-    pub scan-turn : (s : Scan) {t : Scan} {f : Frame} (i : ℕ) → i < n → f ≡ frameIn ids bytes lens i → t ≡ stepOf s f → scanOf s (rest n i) ≡ scanOf s₀ row → scanOf t (rest n (i + 1)) ≡ scanOf s₀ row
-    scan-turn s i h ef et e = ap (λ (u : Scan). scanOf u (rest n (i + 1))) (et ∙ ap (stepOf s) ef) ∙ sym (ap (scanOf s) (one-is n i h)) ∙ e
+    pub scan-turn : (s : Scan) {t : Scan} {f : Frame} (i : ℕ) → n ≡ countIn (length ids) (length bytes) (length lens) → i < n → f ≡ frameOrNone ids bytes lens i → t ≡ stepOf s f → scanOf s (rest n i) ≡ scanOf s₀ row → scanOf t (rest n (i + 1)) ≡ scanOf s₀ row
+    scan-turn s i k h ef et e = ap (λ (u : Scan). scanOf u (rest n (i + 1))) (et ∙ ap (stepOf s) (ef ∙ frame-there ids bytes lens i k h)) ∙ sym (ap (scanOf s) (one-is n i h)) ∙ e
 
     pub scan-done : (s : Scan) (i : ℕ) → n ≤ i → scanOf s (rest n i) ≡ scanOf s₀ row → s ≡ scanOf s₀ row
     scan-done s i h e = sym (ap (scanOf s) (none-is n i h)) ∙ e
@@ -66,8 +56,8 @@ module _ (ids bytes lens : List ℕ) where
     pub tx-none : n ≡ countIn (length ids) (length bytes) (length lens) → txAll t₀ (rest n 0) ≡ txAll t₀ row
     tx-none e = ap (txAll t₀) (all-are e)
 
-    pub tx-turn : (s : Tx) {t : Tx} {f : Frame} (i : ℕ) → i < n → f ≡ frameIn ids bytes lens i → t ≡ txOf s f → txAll s (rest n i) ≡ txAll t₀ row → txAll t (rest n (i + 1)) ≡ txAll t₀ row
-    tx-turn s i h ef et e = ap (λ (u : Tx). txAll u (rest n (i + 1))) (et ∙ ap (txOf s) ef) ∙ sym (ap (txAll s) (one-is n i h)) ∙ e
+    pub tx-turn : (s : Tx) {t : Tx} {f : Frame} (i : ℕ) → n ≡ countIn (length ids) (length bytes) (length lens) → i < n → f ≡ frameOrNone ids bytes lens i → t ≡ txOf s f → txAll s (rest n i) ≡ txAll t₀ row → txAll t (rest n (i + 1)) ≡ txAll t₀ row
+    tx-turn s i k h ef et e = ap (λ (u : Tx). txAll u (rest n (i + 1))) (et ∙ ap (txOf s) (ef ∙ frame-there ids bytes lens i k h)) ∙ sym (ap (txAll s) (one-is n i h)) ∙ e
 
     pub tx-done : (s : Tx) (i : ℕ) → n ≤ i → txAll s (rest n i) ≡ txAll t₀ row → s ≡ txAll t₀ row
     tx-done s i h e = sym (ap (txAll s) (none-is n i h)) ∙ e
@@ -77,11 +67,12 @@ module _ (ids bytes lens : List ℕ) where
     pub arena-none : n ≡ countIn (length ids) (length bytes) (length lens) → arenaLeft s₀ o₀ (rest n 0) ≡ arenaLeft s₀ o₀ row
     arena-none e = ap (arenaLeft s₀ o₀) (all-are e)
 
-    pub arena-turn : (s : Scan) {t : Scan} {f : Frame} (o : List ℕ) {p : List ℕ} (i : ℕ) → i < n → f ≡ frameIn ids bytes lens i → t ≡ stepOf s f → p ≡ sets o (s .total) (addedOf s f)
+    pub arena-turn : (s : Scan) {t : Scan} {f : Frame} (o : List ℕ) {p : List ℕ} (i : ℕ) → n ≡ countIn (length ids) (length bytes) (length lens) → i < n → f ≡ frameOrNone ids bytes lens i → t ≡ stepOf s f → p ≡ sets o (s .total) (addedOf s f)
         → arenaLeft s o (rest n i) ≡ arenaLeft s₀ o₀ row → arenaLeft t p (rest n (i + 1)) ≡ arenaLeft s₀ o₀ row
-    arena-turn s o i h ef et ep e =
+    arena-turn s o i k h ef et ep e =
         let g : Frame = frameIn ids bytes lens i in
-        rw (et, ep, ef) (sym (arena-more s g o (rest n (i + 1))) ∙ sym (ap (arenaLeft s o) (one-is n i h)) ∙ e)
+        let eg : _ ≡ g = ef ∙ frame-there ids bytes lens i k h in
+        rw (et, ep, eg) (sym (arena-more s g o (rest n (i + 1))) ∙ sym (ap (arenaLeft s o) (one-is n i h)) ∙ e)
 
     pub arena-done : (s : Scan) {o : List ℕ} (i : ℕ) → n ≤ i → arenaLeft s o (rest n i) ≡ arenaLeft s₀ o₀ row → o ≡ arenaLeft s₀ o₀ row
     arena-done s {o} i h e = sym (ap (arenaLeft s o) (none-is n i h)) ∙ e
@@ -89,11 +80,12 @@ module _ (ids bytes lens : List ℕ) where
     pub list-none : n ≡ countIn (length ids) (length bytes) (length lens) → listLeft s₀ o₀ (rest n 0) ≡ listLeft s₀ o₀ row
     list-none e = ap (listLeft s₀ o₀) (all-are e)
 
-    pub list-turn : (s : Scan) {t : Scan} {f : Frame} (o : List ℕ) {p : List ℕ} (i : ℕ) → i < n → f ≡ frameIn ids bytes lens i → t ≡ stepOf s f → p ≡ sets o (3 * s .messages) (rowOf s f)
+    pub list-turn : (s : Scan) {t : Scan} {f : Frame} (o : List ℕ) {p : List ℕ} (i : ℕ) → n ≡ countIn (length ids) (length bytes) (length lens) → i < n → f ≡ frameOrNone ids bytes lens i → t ≡ stepOf s f → p ≡ sets o (3 * s .messages) (rowOf s f)
         → listLeft s o (rest n i) ≡ listLeft s₀ o₀ row → listLeft t p (rest n (i + 1)) ≡ listLeft s₀ o₀ row
-    list-turn s o i h ef et ep e =
+    list-turn s o i k h ef et ep e =
         let g : Frame = frameIn ids bytes lens i in
-        rw (et, ep, ef) (sym (list-more s g o (rest n (i + 1))) ∙ sym (ap (listLeft s o) (one-is n i h)) ∙ e)
+        let eg : _ ≡ g = ef ∙ frame-there ids bytes lens i k h in
+        rw (et, ep, eg) (sym (list-more s g o (rest n (i + 1))) ∙ sym (ap (listLeft s o) (one-is n i h)) ∙ e)
 
     pub list-done : (s : Scan) {o : List ℕ} (i : ℕ) → n ≤ i → listLeft s o (rest n i) ≡ listLeft s₀ o₀ row → o ≡ listLeft s₀ o₀ row
     list-done s {o} i h e = sym (ap (listLeft s o) (none-is n i h)) ∙ e

@@ -18,7 +18,7 @@ use Rattle.splitter.specs.Split.{bytesAt, frameAt, framesFrom, countOf, framesO
 use Rattle.splitter.specs.declared.Frame.{Frame}
 use Rattle.splitter.proofs.FrameLaws.{eight-same, eight-long}
 use Rattle.splitter.proofs.SplitLaws.{length-frames}
-use Rattle.oracle.specs.Rows.{frameIn, framesIn, rowIn}
+use Rattle.slice_rows.specs.Rows.{frameIn, framesIn, rowIn}
 
 -- each frame has eight bytes
 abbrev pub Eights : List Frame → Type 0

@@ -1,4 +1,4 @@
--- Laws of the walks along a frame's and a message's bytes, and of the hours that are due, in the shape of the code's tests. Assumes nothing.
+-- Laws of the walk along a message's bytes, of the hours that are due and of a whole row, in the shape of the code's tests. Assumes nothing.
 use Prim.Native.Nat.{ℕ, _+_, _-_, _<_, _≤_}
 use mathlib.Core.Bool.{Bool, true, false, not}
 use mathlib.Core.List.{List, [], _∷_}
@@ -11,37 +11,14 @@ use lib.ListN.{length, getD, take, drop, length-take, drop-of-length-le}
 use lib.Seq.{drop-cons, getD-take}
 use Rattle.base.specs.Pick.{pick}
 use Rattle.base.proofs.Cases.{same?, when-eq, when-true, when-false}
-use Rattle.verdicts.specs.Frames.{oddOf, paddingAt, faultThen, faultAt}
-use Rattle.verdicts.specs.declared.Standing.{Standing}
+use Rattle.faults.specs.declared.Standing.{Standing}
+use Rattle.faults.specs.declared.Standing.the-variants.{Clear, At}
+use Rattle.faults.specs.declared.Fault.{Fault}
 use Rattle.verdicts.specs.declared.Checked.{Checked}
+use Rattle.verdicts.specs.declared.Reassembled.{Reassembled}
+use Rattle.verdicts.specs.declared.Reassembled.the-variants.{Refused}
 use Rattle.verdicts.specs.Messages.{wantAt, offFrom}
-
--- ---- the walk for the first odd byte
-module _ (l : List ℕ) (i from : ℕ) (n : length l ≡ 8) where
-  odd-here : i < 8 → oddOf (drop i l) ≡ pick (eqb (getD l i 0) 255) (oddOf (drop (i + 1) l)) (getD l i 0)
-  unfolding oddOf
-  odd-here h = rw (add-one i, drop-cons l i 0 (omega arith))
-
-  pub odd-found : i < 8 → oddOf (drop i l) ≡ oddOf (drop from l) → (getD l i 0 ≡ 255 → ⊥) → getD l i 0 ≡ oddOf (drop from l)
-  unfolding pick
-  odd-found h e q = rw (← e, odd-here h, ne-eqb (getD l i 0) 255 q)
-
-  pub odd-past : i < 8 → oddOf (drop i l) ≡ oddOf (drop from l) → getD l i 0 ≡ 255 → oddOf (drop (i + 1) l) ≡ oddOf (drop from l)
-  unfolding pick
-  odd-past h e q = rw (← e, odd-here h, eq-eqb (getD l i 0) 255 q)
-
-  pub odd-none : 8 ≤ i → oddOf (drop i l) ≡ oddOf (drop from l) → 255 ≡ oddOf (drop from l)
-  unfolding oddOf
-  odd-none h e = let k : length l ≤ i = omega arith in rw (← e, drop-of-length-le l k)
-
-pub ruleset oddness = (odd-found, odd-past, odd-none)
-
--- ---- a frame of eight bytes
-pub fault-then : (n missing wanted next : ℕ) (bs : List ℕ) (end len : ℕ) {odd : ℕ} {p r : Standing} → len ≡ 8 → odd ≡ oddOf (drop end bs) → p ≡ paddingAt n odd
-    → r ≡ faultThen n missing wanted next (getD bs 0 0) (getD bs 1 0) p → r ≡ faultAt n missing wanted next bs end len
-unfolding faultAt
-fault-then n missing wanted next bs end len h eo ep e =
-    when-eq _ _ h (e ∙ ap (faultThen n missing wanted next (getD bs 0 0) (getD bs 1 0)) (ep ∙ ap (paddingAt n) eo))
+use Rattle.verdicts.specs.Rows.{passedWith, verdictAt}
 
 -- ---- the walk along the pattern
 module _ (l : List ℕ) (k : ℕ) (n : length l ≡ 223) (e : offFrom k (drop k (take 26 l)) ≡ offFrom 0 (take 26 l)) where
@@ -88,3 +65,15 @@ module _ {b t : Bool} (e : b ≡ t) {x : Checked} (y z : Checked) where
   is-due h k = when-true _ _ (sym e ∙ not-false b h) k
 
 pub ruleset dues = (not-due, is-due)
+
+-- ---- a whole row
+module _ (f : Standing) (missing announced messages total numbers space : ℕ) where
+  pub row-passed : {r : Reassembled} → f ≡ Clear → r ≡ passedWith missing announced messages total numbers space → r ≡ verdictAt f missing announced messages total numbers space
+  unfolding verdictAt
+  row-passed e h = h ∙ sym (ap (λ (g : Standing). verdictAt g missing announced messages total numbers space) e)
+
+  pub row-refused : {why : Fault} → f ≡ At why → Refused why ≡ verdictAt f missing announced messages total numbers space
+  unfolding verdictAt
+  row-refused e = sym (ap (λ (g : Standing). verdictAt g missing announced messages total numbers space) e)
+
+pub ruleset standing = (row-passed, row-refused)

@@ -1,3 +1,3 @@
-pub mod Frames
 pub mod Messages
+pub mod Rows
 pub mod Numbers

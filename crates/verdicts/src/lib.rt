@@ -1,27 +1,21 @@
-// Why the bench refuses a frame or a message: each judged by itself, on numbers. The walks along a row of frames are the crate `oracle`'s.
+// What the bench makes of a message and of a whole row of frames: each judged by itself, on numbers. The walks along a row of frames are the crate `oracle`'s.
 ghost use mathlib.Core.Path.{_≡_};
 ghost use Prim.Native.Nat.{_<_};
+use faults::Fault;
 
-mod frames;
 mod messages;
+mod rows;
 
-pub use frames::frame_fault;
 pub use messages::message_fault;
+pub use rows::LIST_ROW;
+pub use rows::row_verdict;
 
-// Why a row of frames is refused, at frame n: 20 to 25 of the paper.
-pub enum Fault {
-    Length(usize, usize),
-    Restarted(usize),
-    Announced(usize, u8),
-    Stray(usize),
-    Order(usize, u8, u8, u8, u8),
-    Padding(usize, u8),
-}
-
-// Whether a row was refused so far.
-pub enum Standing {
-    Clear,
-    At(Fault),
+// What strict reassembly answers: the number of messages, or why there is none.
+pub enum Reassembled {
+    Messages(usize),
+    Refused(Fault),
+    Incomplete(u8),
+    NoRoom,
 }
 
 // What the transmit check answers: 30 to 37 of the paper, or what strict reassembly found.

@@ -7,14 +7,14 @@ use lib.Dec.{eqb, ltb}
 use Rattle.base.specs.Pick.{pick}
 use Rattle.splitter.specs.Frames.{bytesOf}
 use Rattle.oracle.specs.Ids.{isOther}
-use Rattle.verdicts.specs.Frames.{indexOf, sequenceOf, oddOf}
+use Rattle.faults.specs.Frames.{indexOf, sequenceOf, faultAt}
+use Rattle.verdicts.specs.Rows.{verdictAt}
 use Rattle.splitter.specs.declared.Frame.{Frame}
 use Rattle.oracle.specs.declared.Scan.{Scan}
-use Rattle.oracle.specs.declared.Reassembled.{Reassembled}
-use Rattle.oracle.specs.declared.Reassembled.the-variants.{Messages, Refused, Incomplete, NoRoom}
-use Rattle.verdicts.specs.declared.Fault.the-variants.{Length, Restarted, Announced, Stray, Order, Padding}
-use Rattle.verdicts.specs.declared.Standing.{Standing}
-use Rattle.verdicts.specs.declared.Standing.the-variants.{Clear, At}
+use Rattle.verdicts.specs.declared.Reassembled.{Reassembled}
+use Rattle.verdicts.specs.declared.Reassembled.the-variants.{Messages, Refused, Incomplete, NoRoom}
+use Rattle.faults.specs.declared.Standing.{Standing}
+use Rattle.faults.specs.declared.Standing.the-variants.{Clear, At}
 
 -- how many of its bytes stand before the message's
 unfoldable pub headOf : List ℕ → ℕ
@@ -24,30 +24,9 @@ headOf bs = pick (eqb (indexOf bs) 0) 2 1
 unfoldable pub missingOf : Scan → List ℕ → ℕ
 missingOf s bs = pick (eqb (indexOf bs) 0) (getD bs 1 0) (s .missing)
 
--- "When the collected bytes reach the announced length, those after it must all be 0xFF (25, first bad byte)"
-unfoldable pub paddingOf : Scan → List ℕ → Standing
-paddingOf s bs =
-    let odd : ℕ = oddOf (drop (headOf bs + missingOf s bs) bs) in
-    pick (eqb odd 255) Clear (At (Padding (s .n) odd))
-
--- "index 0 while open (21); announced outside 1..223 (22)"
-unfoldable pub firstOf : Scan → List ℕ → Standing
-firstOf s bs =
-    pick (ltb 0 (s .missing)) (At (Restarted (s .n)))
-    (pick (eqb (getD bs 1 0) 0) (At (Announced (s .n) (getD bs 1 0)))
-    (pick (ltb 223 (getD bs 1 0)) (At (Announced (s .n) (getD bs 1 0)))
-    (paddingOf s bs)))
-
--- "continuation without open (23); wrong sequence or index (24)"
-unfoldable pub laterOf : Scan → List ℕ → Standing
-laterOf s bs =
-    let wrong : Standing = At (Order (s .n) (sequenceOf bs) (indexOf bs) (s .sequence) (s .index)) in
-    pick (eqb (s .missing) 0) (At (Stray (s .n)))
-    (pick (eqb (sequenceOf bs) (s .sequence)) (pick (eqb (indexOf bs) (s .index)) (paddingOf s bs) wrong) wrong)
-
--- "length not 8 (20)", and then the others
-unfoldable pub faultOf : Scan → List ℕ → ℕ → Standing
-faultOf s bs len = pick (eqb len 8) (pick (eqb (indexOf bs) 0) (firstOf s bs) (laterOf s bs)) (At (Length (s .n) len))
+-- why the frame is refused, if it is
+abbrev pub faultOf : Scan → List ℕ → ℕ → Standing
+faultOf s bs len = faultAt (s .n) (s .missing) (s .sequence) (s .index) bs len
 
 -- ---- what is known after a frame
 -- of another source or PGN: n counts it
@@ -129,18 +108,8 @@ rowsLaid s [] = []
 rowsLaid s (f ∷ fs) = rowOf s f ++ rowsLaid (stepOf s f) fs
 
 -- ---- the answer
--- the refusal of a row that was refused; no other is asked for it
-abbrev pub refusalOf : Standing → Reassembled
-refusalOf Clear = NoRoom
-refusalOf (At f) = Refused f
-
-unfoldable pub verdictOf : Scan → ℕ → ℕ → Reassembled
-verdictOf s numbers space =
-    pick (isRefused (s .fault)) (refusalOf (s .fault))
-    (pick (ltb 0 (s .missing)) (Incomplete (s .announced))
-    (pick (ltb (numbers / 3) (s .messages)) NoRoom
-    (pick (ltb space (s .total)) NoRoom
-    (Messages (s .messages)))))
+abbrev pub verdictOf : Scan → ℕ → ℕ → Reassembled
+verdictOf s numbers space = verdictAt (s .fault) (s .missing) (s .announced) (s .messages) (s .total) numbers space
 
 abbrev pub isNone : Reassembled → Bool
 isNone (Messages n) = false

@@ -14,8 +14,8 @@ use Rattle.oracle.specs.declared.Scan.{Scan}
 use Rattle.oracle.specs.declared.Tx.{Tx}
 use Rattle.verdicts.specs.declared.Checked.{Checked}
 use Rattle.verdicts.specs.declared.Checked.the-variants.{Good, NoCount, Over, NoClaim, Faulty, Open, Count, Size, Hours, Pattern, Sequence}
-use Rattle.verdicts.specs.declared.Standing.{Standing}
-use Rattle.verdicts.specs.declared.Standing.the-variants.{Clear, At}
+use Rattle.faults.specs.declared.Standing.{Standing}
+use Rattle.faults.specs.declared.Standing.the-variants.{Clear, At}
 
 abbrev pub isBad : Checked → Bool
 isBad Good = false

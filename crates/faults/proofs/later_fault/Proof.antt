@@ -1,0 +1,14 @@
+-- `later_fault` meets its contract: the facts on each way out pick the law of that case. Assumes nothing.
+use borrow.Author.Needs.{needs}
+use Rattle.base.proofs.Cases.{cases}
+use Rattle.faults.proofs.later_fault.Statement.{statement}
+use Rattle.faults.proofs.later_fault.Tie as tie
+
+pub later-fault-spec : {M : Type 1} → statement M
+later-fault-spec =
+    tie.close
+    (tie.spec
+    (λ c. search (needs, cases))
+    (λ c. search (needs, cases))
+    (λ c. search (needs, cases))
+    (λ c. search (needs, cases)))
