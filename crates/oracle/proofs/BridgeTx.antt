@@ -17,7 +17,10 @@ use Rattle.base.specs.Answer.{Answer, gives, refuses}
 use Rattle.base.specs.Pick.{pick}
 use Rattle.base.proofs.Cases.{tested, less?, same?, pick-all, when-eq, when-ne, when-lt, when-ge, when-true, when-false}
 use Rattle.splitter.specs.Frames.{eight, bytesOf}
-use Rattle.oracle.specs.Ids.{isOther}
+use Rattle.bench_ids.specs.Ids.{isOther}
+use Rattle.bench_ids.specs.Claims.{claimAfter}
+use Rattle.bench_ids.specs.declared.Claim.{Claim}
+use Rattle.bench_ids.specs.declared.Claim.the-variants.{Awaited, Made, Missed}
 use Rattle.faults.specs.Frames.{indexOf, sequenceOf, oddOf}
 use Rattle.oracle.specs.Strict.{Message, Open, Outcome, refused, waits, whole, collectedAt, firstFrame, laterFrame, outcomeOf, before, thenOf, endOf, messagesFrom, messagesOf}
 use Rattle.oracle.specs.Check.{follows, eachFrom, isClaimed, sentOf, checkTxOf}
@@ -25,7 +28,7 @@ use Rattle.verdicts.specs.Messages.{hoursOf, offFrom, messageOf}
 use Rattle.faults.specs.Numbers.{numberOf, valuesOf}
 use Rattle.verdicts.specs.Numbers.{ofReassembled, ofChecked}
 use Rattle.oracle.specs.inner.Scan.{headOf, faultOf, skipped, refusedAt, taken, isRefused, stepOn, stepOf, scanOf, startOf, Counted, addedOf}
-use Rattle.oracle.specs.inner.Tx.{isBad, bufferOf, badOf, lastOf, begunOf, unclaimedOf, txOf, txAll, txStart, overOf, faultyOf, ranOf, checkedOf}
+use Rattle.oracle.specs.inner.Tx.{isBad, bufferOf, badOf, lastOf, isUnclaimed, txOf, txAll, txStart, overOf, faultyOf, ranOf, checkedOf}
 use Rattle.splitter.specs.declared.Frame.{Frame}
 use Rattle.oracle.specs.declared.Scan.{Scan}
 use Rattle.oracle.specs.declared.Tx.{Tx}
@@ -53,30 +56,40 @@ unfolding txOf
 base-kept [] t = refl
 base-kept (f ∷ fs) t = base-kept fs (txOf t f)
 
--- ---- the claim, by the tests of one frame: begun, unclaimed, no frame of 127489, none of 60928, of length 8, and what the rest tells
-claim-tests : (b u x y z c : Bool)
-    → pick (pick b true (pick x false true)) (pick (pick b true (pick x false true)) u (pick y u (pick z false u))) (pick c false (pick (pick b true (pick x false true)) u (pick y u (pick z false u))))
-    ≡ pick b u (pick (pick x (pick y c (pick z true c)) false) false u)
-unfolding pick
-claim-tests true u x y z c = refl
-claim-tests false u false y z c = refl
-claim-tests false u true true z c = refl
-claim-tests false u true false true true = refl
-claim-tests false u true false true false = refl
-claim-tests false u true false false c = refl
+-- ---- the claim: what it is after the rest of a row, of which it is known whether it has one
+abbrev lacking : Claim → Bool → Bool
+lacking Awaited c = pick c false true
+lacking Made c = false
+lacking Missed c = true
 
-both : (b u : Bool) → pick b u (pick false false u) ≡ u
+by-tests : (x y z c : Bool) → lacking (pick x (pick y Awaited (pick z Made Awaited)) Missed) c ≡ lacking Awaited (pick x (pick y c (pick z true c)) false)
 unfolding pick
-both true u = refl
-both false u = refl
+by-tests false y z c = refl
+by-tests true true z c = refl
+by-tests true false true true = refl
+by-tests true false true false = refl
+by-tests true false false c = refl
 
-pub claims-tell : (fs : List Frame) (t : Tx) → txAll t fs .unclaimed ≡ pick (t .begun) (t .unclaimed) (pick (isClaimed (t .scan .source) fs) false (t .unclaimed))
-unfolding isClaimed txOf begunOf unclaimedOf
-claims-tell [] t = sym (both (t .begun) (t .unclaimed))
+-- by the tests of one frame: none of 127489, none of 60928, of length 8, and what the rest tells
+claim-tests : (k : Claim) (source id len : ℕ) (c : Bool) → lacking (claimAfter k source id len) c ≡ lacking k (pick (isOther source 127489 id) (pick (isOther source 60928 id) c (pick (eqb len 8) true c)) false)
+unfolding claimAfter
+claim-tests Awaited source id len c = by-tests (isOther source 127489 id) (isOther source 60928 id) (eqb len 8) c
+claim-tests Made source id len c = refl
+claim-tests Missed source id len c = refl
+
+none-left : (k : Claim) → isUnclaimed k ≡ lacking k false
+unfolding pick
+none-left Awaited = refl
+none-left Made = refl
+none-left Missed = refl
+
+pub claims-tell : (fs : List Frame) (t : Tx) → isUnclaimed (txAll t fs .claim) ≡ lacking (t .claim) (isClaimed (t .scan .source) fs)
+unfolding isClaimed txOf
+claims-tell [] t = none-left (t .claim)
 claims-tell (f ∷ fs) t =
     claims-tell fs (txOf t f)
-    ∙ ap (λ (s : ℕ). pick (txOf t f .begun) (txOf t f .unclaimed) (pick (isClaimed s fs) false (txOf t f .unclaimed))) (source-kept (t .scan) f)
-    ∙ claim-tests (t .begun) (t .unclaimed) (isOther (t .scan .source) 127489 (f .id)) (isOther (t .scan .source) 60928 (f .id)) (eqb (f .len) 8) (isClaimed (t .scan .source) fs)
+    ∙ ap (λ (s : ℕ). lacking (txOf t f .claim) (isClaimed s fs)) (source-kept (t .scan) f)
+    ∙ claim-tests (t .claim) (t .scan .source) (f .id) (f .len) (isClaimed (t .scan .source) fs)
 
 -- ---- no message is over 223 bytes
 abbrev Fits : Option Open → Type 0
@@ -452,13 +465,13 @@ module _ (fs : List Frame) (source expected base : ℕ) where
   unfolding checkedOf checkTxOf overOf pick ofChecked
   check-tells =
       let ran : ofChecked (ranOf last expected) ≡ sentOf expected base (messagesOf fs source 127489) = ran-tells last expected base (startOf source 127489) fs (scan-kept fs t₀) refl (messagesOf fs source 127489) (row-tells fs (startOf source 127489) none refl refl) each-told in
-      let claimed : pick (last .unclaimed) (refuses 32 []) (ofChecked (ranOf last expected)) ≡ pick (isClaimed source fs) (sentOf expected base (messagesOf fs source 127489)) (refuses 32 []) = ap (λ (u : Bool). pick u (refuses 32 []) (ofChecked (ranOf last expected))) (claims-tell fs t₀) ∙ turned (isClaimed source fs) (refuses 32 []) (ofChecked (ranOf last expected)) ∙ ap (λ (x : Answer ℕ). pick (isClaimed source fs) x (refuses 32 [])) ran in
-      pushed ofChecked (eqb expected 0) NoCount (pick (overOf (last .base) expected) Over (pick (last .unclaimed) NoClaim (ranOf last expected)))
+      let claimed : pick (isUnclaimed (last .claim)) (refuses 32 []) (ofChecked (ranOf last expected)) ≡ pick (isClaimed source fs) (sentOf expected base (messagesOf fs source 127489)) (refuses 32 []) = ap (λ (u : Bool). pick u (refuses 32 []) (ofChecked (ranOf last expected))) (claims-tell fs t₀) ∙ turned (isClaimed source fs) (refuses 32 []) (ofChecked (ranOf last expected)) ∙ ap (λ (x : Answer ℕ). pick (isClaimed source fs) x (refuses 32 [])) ran in
+      pushed ofChecked (eqb expected 0) NoCount (pick (overOf (last .base) expected) Over (pick (isUnclaimed (last .claim)) NoClaim (ranOf last expected)))
       ∙ ap (pick (eqb expected 0) (refuses 30 []))
-      (pushed ofChecked (overOf (last .base) expected) Over (pick (last .unclaimed) NoClaim (ranOf last expected))
-      ∙ ap (λ (b : ℕ). pick (overOf b expected) (refuses 31 []) (ofChecked (pick (last .unclaimed) NoClaim (ranOf last expected)))) (base-kept fs t₀)
+      (pushed ofChecked (overOf (last .base) expected) Over (pick (isUnclaimed (last .claim)) NoClaim (ranOf last expected))
+      ∙ ap (λ (b : ℕ). pick (overOf b expected) (refuses 31 []) (ofChecked (pick (isUnclaimed (last .claim)) NoClaim (ranOf last expected)))) (base-kept fs t₀)
       ∙ ap (pick (ltb 4294967295 (base + (expected - 1))) (refuses 31 []))
-      (pushed ofChecked (last .unclaimed) NoClaim (ranOf last expected) ∙ claimed))
+      (pushed ofChecked (isUnclaimed (last .claim)) NoClaim (ranOf last expected) ∙ claimed))
 
 -- ---- the code's way, whichever form its row has
 pub fresh-tx : {t : Tx} (source base : ℕ) → t ≡ txStart source base → Counted 0 (t .scan)

@@ -6,7 +6,7 @@ use lib.ListN.{length, getD, take, drop}
 use lib.Dec.{eqb, ltb}
 use Rattle.base.specs.Pick.{pick}
 use Rattle.splitter.specs.Frames.{bytesOf}
-use Rattle.oracle.specs.Ids.{isOther}
+use Rattle.bench_ids.specs.Ids.{isOther}
 use Rattle.faults.specs.Frames.{indexOf, sequenceOf, faultAt}
 use Rattle.verdicts.specs.Rows.{verdictAt}
 use Rattle.splitter.specs.declared.Frame.{Frame}
@@ -37,23 +37,16 @@ skipped s = record { source = s .source; pgn = s .pgn; n = s .n + 1; fault = s .
 abbrev pub refusedAt : Scan → Standing → Scan
 refusedAt s f = record { source = s .source; pgn = s .pgn; n = s .n; fault = f; sequence = s .sequence; announced = s .announced; index = s .index; missing = s .missing; messages = s .messages; total = s .total }
 
--- taken: the message is open while bytes are missing, and whole when none is
+-- taken, with what is known of the message from it on
+abbrev pub leftWith : Scan → List ℕ → ℕ → ℕ → ℕ → ℕ → Scan
+leftWith s bs announced missing messages total = record { source = s .source; pgn = s .pgn; n = s .n + 1; fault = s .fault; sequence = sequenceOf bs; announced = announced; index = indexOf bs + 1; missing = missing; messages = messages; total = total }
+
+-- the message is open while bytes are missing, and whole when none is
 unfoldable pub taken : Scan → List ℕ → Scan
 taken s bs =
     let m : ℕ = missingOf s bs in
     let room : ℕ = 8 - headOf bs in
-    record {
-      source = s .source;
-      pgn = s .pgn;
-      n = s .n + 1;
-      fault = s .fault;
-      sequence = sequenceOf bs;
-      announced = pick (eqb (indexOf bs) 0) (getD bs 1 0) (s .announced);
-      index = indexOf bs + 1;
-      missing = m - room;
-      messages = pick (ltb room m) (s .messages) (s .messages + 1);
-      total = s .total + pick (ltb room m) room m;
-    }
+    leftWith s bs (pick (eqb (indexOf bs) 0) (getD bs 1 0) (s .announced)) (m - room) (pick (ltb room m) (s .messages) (s .messages + 1)) (s .total + pick (ltb room m) room m)
 
 abbrev pub isRefused : Standing → Bool
 isRefused Clear = false

@@ -6,7 +6,9 @@ use lib.ListN.{length, getD, take, drop, replicate}
 use lib.Seq.{sets}
 use lib.Dec.{eqb, ltb}
 use Rattle.base.specs.Pick.{pick}
-use Rattle.oracle.specs.Ids.{isOther}
+use Rattle.bench_ids.specs.Claims.{claimAfter}
+use Rattle.bench_ids.specs.declared.Claim.{Claim}
+use Rattle.bench_ids.specs.declared.Claim.the-variants.{Awaited, Made, Missed}
 use Rattle.verdicts.specs.Messages.{messageOf}
 use Rattle.oracle.specs.inner.Scan.{stepOf, addedOf, startOf, isRefused}
 use Rattle.splitter.specs.declared.Frame.{Frame}
@@ -30,6 +32,11 @@ isBad (Hours i) = true
 isBad (Pattern i) = true
 isBad (Sequence i) = true
 
+abbrev pub isUnclaimed : Claim → Bool
+isUnclaimed Awaited = true
+isUnclaimed Made = false
+isUnclaimed Missed = true
+
 -- ---- one frame
 -- the bytes of the open message, collected
 unfoldable pub bufferOf : Tx → Frame → List ℕ
@@ -48,18 +55,10 @@ badOf t a bs =
 unfoldable pub lastOf : Tx → Scan → ℕ
 lastOf t a = pick (ltb (t .scan .messages) (a .messages)) (a .sequence) (t .last)
 
--- the source's first 127489 frame was met; no claim was met before it
-unfoldable pub begunOf : Bool → ℕ → ℕ → Bool
-begunOf begun source id = pick begun true (pick (isOther source 127489 id) false true)
-
-unfoldable pub unclaimedOf : Bool → Bool → ℕ → ℕ → ℕ → Bool
-unclaimedOf unclaimed begun source id len = pick begun unclaimed (pick (isOther source 60928 id) unclaimed (pick (eqb len 8) false unclaimed))
-
 unfoldable pub txOf : Tx → Frame → Tx
 txOf t f = record {
   scan = stepOf (t .scan) f;
-  begun = begunOf (t .begun) (t .scan .source) (f .id);
-  unclaimed = unclaimedOf (t .unclaimed) (begunOf (t .begun) (t .scan .source) (f .id)) (t .scan .source) (f .id) (f .len);
+  claim = claimAfter (t .claim) (t .scan .source) (f .id) (f .len);
   base = t .base;
   last = lastOf t (stepOf (t .scan) f);
   bad = badOf t (stepOf (t .scan) f) (bufferOf t f);
@@ -71,7 +70,7 @@ txAll t [] = t
 txAll t (f ∷ fs) = txAll (txOf t f) fs
 
 abbrev pub txStart : ℕ → ℕ → Tx
-txStart source base = record { scan = startOf source 127489; begun = false; unclaimed = true; base = base; last = 0; bad = Good; buffer = replicate 223 0 }
+txStart source base = record { scan = startOf source 127489; claim = Awaited; base = base; last = 0; bad = Good; buffer = replicate 223 0 }
 
 -- ---- the answer
 unfoldable pub overOf : ℕ → ℕ → Bool
@@ -93,5 +92,5 @@ unfoldable pub checkedOf : Tx → ℕ → Checked
 checkedOf t expected =
     pick (eqb expected 0) NoCount
     (pick (overOf (t .base) expected) Over
-    (pick (t .unclaimed) NoClaim
+    (pick (isUnclaimed (t .claim)) NoClaim
     (ranOf t expected)))

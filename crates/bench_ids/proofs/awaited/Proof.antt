@@ -1,0 +1,18 @@
+-- `awaited` meets its contract: the facts on each way out pick the law of that case. Assumes nothing.
+use borrow.Author.Needs.{needs}
+use Rattle.base.proofs.Cases.{cases, said}
+use Rattle.bench_ids.specs.Claims.{claimAfter}
+use Rattle.bench_ids.proofs.awaited.Statement.{statement}
+use Rattle.bench_ids.proofs.awaited.Tie as tie
+
+pub awaited-spec : {M : Type 1} → statement M
+unfolding claimAfter
+awaited-spec =
+    tie.close
+    (tie.spec
+    (λ c κs. search needs)
+    (λ c κs. search needs)
+    (λ c. search (needs, cases, said))
+    (λ c. search (needs, cases, said))
+    (λ c. search (needs, cases, said))
+    (λ c. search (needs, cases, said)))

@@ -1,0 +1,17 @@
+-- `claim_after` meets its contract: each variant is its clause. Assumes nothing.
+use borrow.Author.Needs.{needs}
+use Rattle.bench_ids.proofs.Laws.{claiming}
+use Rattle.bench_ids.proofs.claim_after.Statement.{statement}
+use Rattle.bench_ids.proofs.claim_after.Tie as tie
+
+pub claim-after-spec : {M : Type 1} → statement M
+claim-after-spec =
+    tie.close
+    (tie.spec
+    (λ c. search needs)
+    (λ c κs. search needs)
+    (λ c. search needs)
+    (λ c. search needs)
+    (λ c. search (needs, claiming))
+    (λ c. search (needs, claiming))
+    (λ c. search (needs, claiming)))
