@@ -54,9 +54,13 @@ withDestination b d = record { priority = b .priority; pgn = b .pgn; «source_ad
 abbrev pub pfIn : CanIdBuilder → ℕ
 pfIn b = b .pgn / 256 % 256
 
--- the identifier of a builder's parts, at this PS
+-- the identifier of a priority, a PGN's upper ten bits, a PS and a source
+abbrev pub idWith : ℕ → ℕ → ℕ → ℕ → ℕ
+idWith priority pgn ps source = idOf priority (pgn / 0x2_0000 % 2) (pgn / 0x1_0000 % 2) (pgn / 256 % 256) ps source
+
+-- of a builder's parts, at this PS
 abbrev pub idFrom : CanIdBuilder → ℕ → ℕ
-idFrom b ps = idOf (b .priority) (b .pgn / 0x2_0000 % 2) (b .pgn / 0x1_0000 % 2) (pfIn b) ps (b .«source_address»)
+idFrom b ps = idWith (b .priority) (b .pgn) ps (b .«source_address»)
 
 -- "No destination and PF below 240, refusal 4. Destination and PF 240 or more, refusal 5 with PF. Destination and PGN low byte not 0, refusal 6."
 abbrev pub buildTo : Destination → CanIdBuilder → Answer ℕ

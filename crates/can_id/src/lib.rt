@@ -1,8 +1,9 @@
 // Creation and reading of the 29-bit CAN identifiers of NMEA 2000, by the layout of SAE J1939-21.
 ghost use mathlib.Core.Path.{_≡_};
 ghost use Prim.Native.Nat.{_<_};
+ghost use Rattle.base.specs.Answer.{gives};
 ghost use Rattle.can_id.specs.Layout.{priorityOf, pgnOf, destinationOf, sourceOf};
-ghost use Rattle.can_id.specs.Build.{answerOf, buildOf, fresh, withPriority, withDestination, idFrom};
+ghost use Rattle.can_id.specs.Build.{answerOf, buildOf, fresh, withPriority, withDestination, idWith};
 
 // ---- the identifier
 
@@ -36,39 +37,41 @@ impl CanId {
     pub fn priority(self) -> u8
         ensures { λ r. ⌜ r ≡ priorityOf (self .0) ⌝ }
     {
-        ((self.0 >> 26) % 8) as u8
+        let id = self.0;
+        ((id >> 26) % 8) as u8
     }
 
-    // The 18-bit PGN. With PF below 240 its low byte is 0, since PS is then the destination.
+    // The 18-bit PGN. With PF below 240 its low byte is 0, since PS is then the destination. Its fields stand side by side in the identifier,
+    // so they are read at once: ten bits down to PF, or eighteen down to PS.
     pub fn pgn(self) -> u32
         ensures { λ r. ⌜ r ≡ pgnOf (self .0) ⌝ }
     {
-        let ps = (self.0 >> 8) % 0x100;
-        let pf = (self.0 >> 16) % 0x100;
-        let dp = (self.0 >> 24) % 2;
-        let r = (self.0 >> 25) % 2;
-        let high = r * 0x2_0000 + dp * 0x1_0000 + pf * 0x100;
-        if pf < 240 { high } else { high + ps }
+        let id = self.0;
+        if (id >> 16) % 0x100 < 240 {
+            return (id >> 16) % 0x400 * 0x100;
+        }
+        (id >> 8) % 0x4_0000
     }
 
     // The destination address, where the PGN has one.
     pub fn destination(self) -> Destination
         ensures { λ r. ⌜ r ≡ destinationOf (self .0) ⌝ }
     {
-        let pf = (self.0 >> 16) % 0x100;
-        let ps = ((self.0 >> 8) % 0x100) as u8;
+        let id = self.0;
+        let pf = (id >> 16) % 0x100;
         if pf < 240 {
-            Destination::To(ps)
-        } else {
-            Destination::Nobody
+            let ps = ((id >> 8) % 0x100) as u8;
+            return Destination::To(ps);
         }
+        Destination::Nobody
     }
 
     // The address of the sender.
     pub fn source_address(self) -> u8
         ensures { λ r. ⌜ r ≡ sourceOf (self .0) ⌝ }
     {
-        (self.0 % 0x100) as u8
+        let id = self.0;
+        (id % 0x100) as u8
     }
 }
 
@@ -111,6 +114,15 @@ pub struct CanIdBuilder {
     pub pgn: u32,
     pub source_address: u8,
     pub destination: Destination,
+}
+
+// The identifier of these parts; PS is the destination or the PGN's low byte.
+fn compose(priority: u8, pgn: u32, ps: u8, source_address: u8) -> Built
+    requires { ⌜ (pgn < 0x4_0000) × (priority < 8) ⌝ }
+    ensures { λ r. ⌜ answerOf r ≡ gives (idWith priority pgn ps «source_address») ⌝ }
+{
+    let high = priority as u32 * 0x400_0000 + (pgn >> 8) * 0x1_0000;
+    Built::Id(CanId(high + ps as u32 * 0x100 + source_address as u32))
 }
 
 impl CanIdBuilder {
@@ -163,31 +175,24 @@ impl CanIdBuilder {
         self
     }
 
-    // The identifier of these parts; PS is the destination or the PGN's low byte.
-    fn compose(self, ps: u8) -> CanId
-        requires { ⌜ (self .pgn < 0x4_0000) × (self .priority < 8) ⌝ }
-        ensures { λ r. ⌜ r .0 ≡ idFrom self ps ⌝ }
-    {
-        let high = self.priority as u32 * 0x400_0000 + (self.pgn >> 8) * 0x1_0000;
-        CanId(high + ps as u32 * 0x100 + self.source_address as u32)
-    }
-
     // Builds the identifier, or says why these parts make none.
     pub fn build(self) -> Built
         ensures { λ r. ⌜ answerOf r ≡ buildOf self ⌝ }
     {
-        if (self.pgn > CanId::MAX_PGN) | (self.priority > CanId::MAX_PRIORITY) {
+        let priority = self.priority;
+        let pgn = self.pgn;
+        if (pgn > CanId::MAX_PGN) | (priority > CanId::MAX_PRIORITY) {
             return Built::Refused(CanIdBuildError::InvalidData);
         }
-        let pf = ((self.pgn >> 8) % 0x100) as u8;
-        let ps = (self.pgn % 0x100) as u8;
+        let pf = ((pgn >> 8) % 0x100) as u8;
+        let ps = (pgn % 0x100) as u8;
         let destination = self.destination;
         match destination {
             Destination::Nobody => {
                 if pf < 240 {
                     return Built::Refused(CanIdBuildError::InvalidForBroadcast);
                 }
-                return Built::Id(self.compose(ps));
+                return compose(priority, pgn, ps, self.source_address);
             }
             Destination::To(da) => {
                 if pf >= 240 {
@@ -196,7 +201,7 @@ impl CanIdBuilder {
                 if ps != 0 {
                     return Built::Refused(CanIdBuildError::PsFocusMessageMustBeNull);
                 }
-                return Built::Id(self.compose(da));
+                return compose(priority, pgn, da, self.source_address);
             }
         }
     }

@@ -1,0 +1,19 @@
+-- `compose` meets its contract: the code is the definition. Assumes nothing.
+use borrow.Author.Needs.{needs}
+use mathlib.Core.Path.{ap}
+use native.Mathlib.Omega.{arith}
+use Rattle.base.specs.Answer.{gives}
+use Rattle.can_id.proofs.compose.Statement.{statement}
+use Rattle.can_id.proofs.compose.Tie as tie
+
+pub compose-spec : {M : Type 1} → statement M
+compose-spec =
+    tie.close
+    (tie.spec
+    (λ c. search needs)
+    (λ c. search needs)
+    (λ c. search needs)
+    (λ c. search needs)
+    (λ c. search needs)
+    (λ c. search needs)
+    (λ c. ap gives (omega arith)))
