@@ -1,4 +1,3 @@
-pub mod Copies
 pub mod NextLaws
 pub mod Unique
 pub mod NoThree

@@ -1,14 +1,15 @@
 -- The next frame: "depends on the builder, frame index and bytes sent, and is fixed for every value of those". Steps 1 to 6 of document 01.
-use Prim.Native.Nat.{ℕ, _+_, _*_, _%_, min, _-_}
-use mathlib.Core.List.{List, [], _∷_}
-use lib.ListN.{length, drop, replicate}
+use Prim.Native.Nat.{ℕ}
+use mathlib.Core.List.{List, []}
+use lib.ListN.{length, replicate}
 use lib.Dec.{ltb, leb, eqb}
 use Rattle.base.specs.Pick.{pick}
-use Rattle.base.specs.Lists.{fill}
 use Rattle.base.specs.Answer.{Answer, gives, refuses}
 use Rattle.can_id.specs.Build.{numberOf, carriedOf, buildOf}
 use Rattle.can_id.specs.declared.CanFrame.{CanFrame}
 use Rattle.fast_packet.specs.FastPacket.{maxPayload}
+use Rattle.frame_bytes.specs.Laid.{firstLaid, laterLaid, rawLaid}
+use Rattle.frame_bytes.specs.declared.Laid.{Laid}
 use Rattle.builder.specs.Builder.{idBuilder}
 use Rattle.builder.specs.declared.FastPacketBuilder.{FastPacketBuilder}
 use Rattle.builder.specs.declared.NextKind.{NextKind}
@@ -44,36 +45,32 @@ frameOf id bytes len = record { id = record { 0 = id }; «data» = bytes; len = 
 abbrev pub noFrame : CanFrame
 noFrame = frameOf 0 (replicate 8 0) 0
 
+abbrev pub frameless : Kind → ℕ → ℕ → Step
+frameless k index bytes = record { kind = k; sent = noFrame; index = index; bytes = bytes }
+
 abbrev pub sentStep : CanFrame → ℕ → ℕ → Step
 sentStep f index bytes = record { kind = frame; sent = f; index = index; bytes = bytes }
 
+-- a frame with this identifier
+abbrev pub laidStep : ℕ → Laid → Step
+laidStep id l = sentStep (frameOf id (l .«data») (l .len)) (l .«frame_index») (l .«bytes_sent»)
+
 abbrev pub endStep : ℕ → ℕ → Step
-endStep index bytes = record { kind = end; sent = noFrame; index = index; bytes = bytes }
+endStep index bytes = frameless end index bytes
 
 abbrev pub refusedStep : ℕ → List ℕ → ℕ → ℕ → Step
-refusedStep n carried index bytes = record { kind = refusal n carried; sent = noFrame; index = index; bytes = bytes }
+refusedStep n carried index bytes = frameless (refusal n carried) index bytes
 
--- ---- step 6: "byte 0 is (sequence modulo 8) times 32 plus (index modulo 32)"
-abbrev pub headerOf : ℕ → ℕ → ℕ
-headerOf sequence index = sequence % 8 * 32 + index % 32
-
--- "The frame index goes up by one and comes round from 255 to 0."
-abbrev pub indexAfter : ℕ → ℕ
-indexAfter index = (index + 1) % 256
-
--- "If no byte was sent, byte 1 is the length and up to 6 bytes follow; .. The rest is 0xFF and the length is 8. Bytes sent goes up by the bytes taken."
+-- ---- step 6: the frame with its bytes, "and the length is 8"; the first, with the length in byte 1, or a later one
 abbrev pub firstStep : ℕ → ℕ → ℕ → List ℕ → Step
-firstStep id sequence index p =
-    sentStep (frameOf id (headerOf sequence index ∷ length p ∷ fill 6 p) 8) (indexAfter index) (min 6 (length p))
+firstStep id sequence index p = laidStep id (firstLaid sequence index (length p) p)
 
--- "else up to 7 follow byte 0"
 abbrev pub laterStep : ℕ → ℕ → ℕ → ℕ → List ℕ → Step
-laterStep id sequence index sent p =
-    sentStep (frameOf id (headerOf sequence index ∷ fill 7 (drop sent p)) 8) (indexAfter index) (sent + min 7 (length p - sent))
+laterStep id sequence index sent p = laidStep id (laterLaid sequence index sent p)
 
--- ---- step 5: "one raw frame, the payload and then 0xFF up to eight bytes, length as the payload; bytes sent becomes the length"
+-- ---- step 5: "one raw frame"
 abbrev pub rawStep : ℕ → ℕ → List ℕ → Step
-rawStep id index p = sentStep (frameOf id (fill 8 p) (length p)) index (length p)
+rawStep id index p = laidStep id (rawLaid index p)
 
 -- ---- steps 4 to 6: "Payload over 223: refusal 2; bytes sent becomes the length."
 -- "Marked not fast with over 8 bytes, which no new builder is: refusal 2, bytes sent likewise."

@@ -1,13 +1,8 @@
 // Frames of a Fast Packet message, or the one raw frame of a short message, from a payload.
 ghost use mathlib.Core.Path.{_≡_};
-ghost use mathlib.Core.List.{_++_};
-ghost use Prim.Native.Nat.{_-_, _<_, _≤_, min};
-ghost use lib.ListN.{length, take, drop, replicate};
-ghost use Rattle.base.specs.Lists.{fill};
 ghost use Rattle.can_id.specs.Build.{answerOf, buildOf, numberOf, carriedOf};
-ghost use Rattle.fast_packet.specs.FastPacket.{maxPayload};
-ghost use Rattle.builder.specs.Builder.{fastOf, madeOf, withSequence, withPriority, withDestination, idBuilder};
-ghost use Rattle.builder.specs.Next.{headerOf, indexAfter, frameOf, noFrame, stepOf, nextOf, sentStep, endStep, refusedStep, firstStep, laterStep, rawStep, framedStep};
+ghost use Rattle.builder.specs.Builder.{madeOf, withSequence, withPriority, withDestination, idBuilder};
+ghost use Rattle.builder.specs.Next.{kindOf, frameless, laidStep, stepOf, nextOf, framedStep};
 ghost use Rattle.builder.specs.Frames.{started, turnOf, nextTurn};
 use can_id::Built;
 use can_id::CanFrame;
@@ -15,8 +10,9 @@ use can_id::CanId;
 use can_id::CanIdBuildError;
 use can_id::CanIdBuilder;
 use can_id::Destination;
-use fast_packet::FILL;
 use fast_packet::MAX_FAST_PACKET_PAYLOAD;
+use frame_bytes::Laid;
+use frame_bytes::lay;
 
 // ---- what goes in and what comes out
 
@@ -52,151 +48,43 @@ pub struct Next {
     pub bytes_sent: usize,
 }
 
-// Zeros in a frame's place.
-fn no_frame() -> CanFrame
-    ensures { λ r. ⌜ r ≡ noFrame ⌝ }
-{
-    CanFrame {
-        id: CanId(0),
-        data: [0; 8],
-        len: 0,
-    }
-}
-
 impl Next {
-    fn sent(id: CanId, data: [u8; 8], len: usize, frame_index: u8, bytes_sent: usize) -> Self
-        ensures { λ r. ⌜ stepOf r ≡ sentStep (frameOf (id .0) «data» len) «frame_index» «bytes_sent» ⌝ }
+    fn sent(id: CanId, laid: Laid) -> Self
+        ensures { λ r. ⌜ stepOf r ≡ laidStep (id .0) laid ⌝ }
     {
+        let data = laid.data;
         let frame = CanFrame {
             id: id,
             data: data,
-            len: len,
+            len: laid.len,
         };
         Next {
             kind: NextKind::Frame,
+            frame: frame,
+            frame_index: laid.frame_index,
+            bytes_sent: laid.bytes_sent,
+        }
+    }
+
+    // Zeros in a frame's place.
+    fn without(kind: NextKind, frame_index: u8, bytes_sent: usize) -> Self
+        ensures { λ r. ⌜ stepOf r ≡ frameless (kindOf kind) «frame_index» «bytes_sent» ⌝ }
+    {
+        let frame = CanFrame {
+            id: CanId(0),
+            data: [0; 8],
+            len: 0,
+        };
+        Next {
+            kind: kind,
             frame: frame,
             frame_index: frame_index,
             bytes_sent: bytes_sent,
         }
     }
-
-    fn end(frame_index: u8, bytes_sent: usize) -> Self
-        ensures { λ r. ⌜ stepOf r ≡ endStep «frame_index» «bytes_sent» ⌝ }
-    {
-        Next {
-            kind: NextKind::End,
-            frame: no_frame(),
-            frame_index: frame_index,
-            bytes_sent: bytes_sent,
-        }
-    }
-
-    fn refused(error: CanIdBuildError, frame_index: u8, bytes_sent: usize) -> Self
-        ensures { λ r. ⌜ stepOf r ≡ refusedStep (numberOf error) (carriedOf error) «frame_index» «bytes_sent» ⌝ }
-    {
-        Next {
-            kind: NextKind::Refused(error),
-            frame: no_frame(),
-            frame_index: frame_index,
-            bytes_sent: bytes_sent,
-        }
-    }
-}
-
-// ---- the bytes of a frame
-
-// Byte 0: the sequence in the top three bits, the frame index in the low five.
-fn header(sequence_id: u8, frame_index: u8) -> u8
-    ensures { λ r. ⌜ r ≡ headerOf «sequence_id» «frame_index» ⌝ }
-{
-    sequence_id % 8 * 32 + frame_index % 32
-}
-
-// Byte 1 of a first frame: the payload's length.
-fn length_byte(total_len: usize) -> u8
-    requires { ⌜ «total_len» ≤ maxPayload ⌝ }
-    ensures { λ r. ⌜ r ≡ «total_len» ⌝ }
-{
-    total_len as u8
-}
-
-// The frame index goes up by one, and comes round from 255 to 0.
-fn index_after(frame_index: u8) -> u8
-    ensures { λ r. ⌜ r ≡ indexAfter «frame_index» ⌝ }
-{
-    std::num::wrapping_add_u8(frame_index, 1)
-}
-
-// The lesser of two numbers.
-fn least(a: usize, b: usize) -> usize
-    ensures { λ r. ⌜ r ≡ min a b ⌝ }
-{
-    if a <= b { a } else { b }
-}
-
-// `data`, filled from `at` on, with `count` bytes of the payload there: as many as there is room for and as there are.
-fn filled(data: [u8; 8], at: usize, payload: &[u8], from: usize, count: usize) -> [u8; 8]
-    requires { ⌜ (at ≤ 8) × (from ≤ length (now payload)) × (count ≡ min (8 - at) (length (now payload) - from)) × (drop at «data» ≡ replicate (8 - at) 255) ⌝ }
-    ensures { λ r. ⌜ r ≡ take at «data» ++ fill (8 - at) (drop from (now (payload .entry))) ⌝ }
-{
-    let mut out = data;
-    let mut i: usize = 0;
-    while i < count {
-        out[at + i] = payload[from + i];
-        i += 1;
-    }
-    out
-}
-
-// ---- the frames
-
-// The one frame of a message that is not fast.
-fn raw(id: CanId, frame_index: u8, payload: &[u8]) -> Next
-    requires { ⌜ length (now payload) ≤ 8 ⌝ }
-    ensures { λ r. ⌜ stepOf r ≡ rawStep (id .0) «frame_index» (now (payload .entry)) ⌝ }
-{
-    let total_len = payload.len();
-    let data = filled([FILL; 8], 0, payload, 0, total_len);
-    Next::sent(id, data, total_len, frame_index, total_len)
-}
-
-// The first frame of a fast message: header, length, and up to six bytes.
-fn first(id: CanId, sequence_id: u8, frame_index: u8, payload: &[u8]) -> Next
-    requires { ⌜ length (now payload) ≤ maxPayload ⌝ }
-    ensures { λ r. ⌜ stepOf r ≡ firstStep (id .0) «sequence_id» «frame_index» (now (payload .entry)) ⌝ }
-{
-    let total_len = payload.len();
-    let head = header(sequence_id, frame_index);
-    let size = length_byte(total_len);
-    let taken = least(6, total_len);
-    let data = [head, size, FILL, FILL, FILL, FILL, FILL, FILL];
-    let bytes = filled(data, 2, payload, 0, taken);
-    Next::sent(id, bytes, 8, index_after(frame_index), taken)
-}
-
-// A later one: header, and up to seven bytes.
-fn later(id: CanId, sequence_id: u8, frame_index: u8, bytes_sent: usize, payload: &[u8]) -> Next
-    requires { ⌜ «bytes_sent» < length (now payload) ⌝ }
-    ensures { λ r. ⌜ stepOf r ≡ laterStep (id .0) «sequence_id» «frame_index» «bytes_sent» (now (payload .entry)) ⌝ }
-{
-    let head = header(sequence_id, frame_index);
-    let taken = least(7, payload.len() - bytes_sent);
-    let data = [head, FILL, FILL, FILL, FILL, FILL, FILL, FILL];
-    let bytes = filled(data, 1, payload, bytes_sent, taken);
-    Next::sent(id, bytes, 8, index_after(frame_index), bytes_sent + taken)
 }
 
 // ---- the builder
-
-// Whether a message goes out by Fast Packet framing.
-fn is_fast(pgns: &[u32], pgn: u32, total_len: usize) -> bool
-    ensures { λ r. ⌜ r ≡ fastOf pgn (now (pgns .entry)) «total_len» ⌝ }
-{
-    if fast_packet::is_listed(pgns, pgn) {
-        return true;
-    }
-    total_len > 8
-}
 
 impl FastPacketBuilder {
     // A builder for a payload, with the number that the caller holds as its sequence. `pgns` are the Fast Packet PGNs.
@@ -210,14 +98,14 @@ impl FastPacketBuilder {
     ) -> Made
         ensures { λ r. ⌜ r ≡ madeOf pgn «source_address» destination (now (payload .entry)) (now (pgns .entry)) «sequence_id» ⌝ }
     {
-        let fast = is_fast(pgns, pgn, payload.len());
+        let listed = fast_packet::is_listed(pgns, pgn);
         let builder = FastPacketBuilder {
             pgn: pgn,
             source_address: source_address,
             destination: destination,
             priority: CanId::DEFAULT_PRIORITY,
             sequence_id: sequence_id % 8,
-            fast: fast,
+            fast: listed | (payload.len() > 8),
         };
         Made {
             builder: builder,
@@ -273,20 +161,21 @@ impl FastPacketBuilder {
 
     // The frame, with the identifier.
     fn framed(self, id: CanId, frame_index: u8, bytes_sent: usize, payload: &[u8]) -> Next
-        requires { ⌜ «bytes_sent» < length (now payload) ⌝ }
         ensures { λ r. ⌜ stepOf r ≡ framedStep (id .0) self «frame_index» «bytes_sent» (now (payload .entry)) ⌝ }
     {
         let total_len = payload.len();
         if (total_len > MAX_FAST_PACKET_PAYLOAD) | (!self.fast & (total_len > 8)) {
-            return Next::refused(CanIdBuildError::InvalidData, frame_index, total_len);
+            let too_long = NextKind::Refused(CanIdBuildError::InvalidData);
+            return Next::without(too_long, frame_index, total_len);
         }
-        if self.fast {
-            if bytes_sent == 0 {
-                return first(id, self.sequence_id, frame_index, payload);
-            }
-            return later(id, self.sequence_id, frame_index, bytes_sent, payload);
-        }
-        raw(id, frame_index, payload)
+        let laid = lay(
+            self.fast,
+            self.sequence_id,
+            frame_index,
+            bytes_sent,
+            payload,
+        );
+        Next::sent(id, laid)
     }
 
     // The next frame of a message with this payload, at a frame index and after some bytes sent.
@@ -296,15 +185,19 @@ impl FastPacketBuilder {
         let total_len = payload.len();
         // An empty payload has nothing to send: say so once instead of ending as if every frame had gone out.
         if (total_len == 0) & (frame_index == 0) {
-            return Next::refused(CanIdBuildError::EmptyPayload, 1, bytes_sent);
+            let empty = NextKind::Refused(CanIdBuildError::EmptyPayload);
+            return Next::without(empty, 1, bytes_sent);
         }
         if bytes_sent >= total_len {
-            return Next::end(frame_index, bytes_sent);
+            return Next::without(NextKind::End, frame_index, bytes_sent);
         }
         let built = self.identifier();
         match built {
             Built::Id(id) => return self.framed(id, frame_index, bytes_sent, payload),
-            Built::Refused(error) => return Next::refused(error, frame_index, total_len),
+            Built::Refused(error) => {
+                let refused = NextKind::Refused(error);
+                return Next::without(refused, frame_index, total_len);
+            }
         }
     }
 
@@ -338,20 +231,17 @@ pub struct Item {
 
 impl FrameIterator {
     // The next frame of the message with this payload, which is the one that the builder was made for.
-    pub fn next(self, payload: &[u8]) -> Item
+    pub fn next(mut self, payload: &[u8]) -> Item
         ensures { λ r. ⌜ turnOf r ≡ nextTurn self (now (payload .entry)) ⌝ }
     {
         let builder = self.builder;
         let next = builder.next_frame(self.frame_index, self.bytes_sent, payload);
-        let iterator = FrameIterator {
-            builder: builder,
-            frame_index: next.frame_index,
-            bytes_sent: next.bytes_sent,
-        };
+        self.frame_index = next.frame_index;
+        self.bytes_sent = next.bytes_sent;
         let kind = next.kind;
         let frame = next.frame;
         Item {
-            iterator: iterator,
+            iterator: self,
             kind: kind,
             frame: frame,
         }

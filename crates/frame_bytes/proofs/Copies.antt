@@ -7,6 +7,7 @@ use native.Mathlib.Omega.{arith}
 use lib.ListN.{length, getD, take, drop, set, replicate, length-drop}
 use lib.Seq.{drop-drop, getD-drop, paste, paste-zero, paste-suc}
 use Rattle.base.specs.Lists.{fill}
+use Rattle.frame_bytes.specs.inner.Placed.{headed, laidAt}
 
 fill-nil : (m : ℕ) → replicate m 255 ≡ fill m []
 unfolding fill
@@ -23,25 +24,32 @@ fill-parts (suc n) zero s h = absurd (omega arith)
 fill-parts (suc n) (suc m) [] h = absurd (omega arith)
 fill-parts (suc n) (suc m) (x ∷ s) h = ap (λ (t : List ℕ). x ∷ t) (fill-parts n m s (omega arith))
 
-module _ (d : List ℕ) (at : ℕ) (p : List ℕ) (from : ℕ) where
+module _ (head size at sent : ℕ) (p : List ℕ) where
+  abbrev start : List ℕ
+  start = headed head size
+
   -- the row after i turns
   abbrev pub copied : ℕ → List ℕ
-  copied i = paste d at (drop from p) i
+  copied i = paste start at (drop sent p) i
 
-  pub copy-none : d ≡ copied 0
-  copy-none = paste-zero d at (drop from p)
+  pub copy-none : start ≡ copied 0
+  copy-none = paste-zero start at (drop sent p)
 
-  module _ (count i : ℕ) (out : List ℕ) (room : count ≡ min (8 - at) (length p - from)) (e : out ≡ copied i) where
-    pub copy-turn : length d ≡ 8 → i < count → set out (at + i) (getD p (from + i) 0) ≡ copied (i + 1)
-    copy-turn l h =
-        rw (e, add-one i, ← getD-drop from p i 0)
-        (paste-suc d at (drop from p) i 0 (omega arith) (rw length-drop (omega arith)))
+  module _ (count i : ℕ) (out : List ℕ) (room : count ≡ min (8 - at) (length p - sent)) (e : out ≡ copied i) where
+    pub copy-turn : i < count → set out (at + i) (getD p (sent + i) 0) ≡ copied (i + 1)
+    copy-turn h =
+        rw (e, add-one i, ← getD-drop sent p i 0)
+        (paste-suc start at (drop sent p) i 0 (omega arith) (rw length-drop (omega arith)))
 
-    pub copy-done : i ≤ count → count ≤ i → drop at d ≡ replicate (8 - at) 255 → out ≡ take at d ++ fill (8 - at) (drop from p)
-    copy-done h k f =
-        let m : i ≡ min (8 - at) (length (drop from p)) = rw length-drop (omega arith) in
+    pub copy-done : (index : ℕ) → i ≤ count → count ≤ i → drop at start ≡ replicate (8 - at) 255
+        → record { «data» = out; len = 8; «frame_index» = index; «bytes_sent» = sent + count } ≡ laidAt head size at index sent p
+    unfolding laidAt
+    copy-done index h k f =
+        let m : i ≡ min (8 - at) (length (drop sent p)) = rw length-drop (omega arith) in
+        let d : out ≡ take at start ++ fill (8 - at) (drop sent p) =
         e
-        ∙ append-assoc (take at d) (take i (drop from p)) (drop (at + i) d)
-        ∙ rw (← drop-drop i at d, f, fill-parts i (8 - at) (drop from p) m)
+        ∙ append-assoc (take at start) (take i (drop sent p)) (drop (at + i) start)
+        ∙ rw (← drop-drop i at start, f, fill-parts i (8 - at) (drop sent p) m) in
+        rw (d, room)
 
 pub ruleset copying = (copy-none, copy-turn, copy-done)
