@@ -18,12 +18,13 @@ use Rattle.session.specs.declared.Heard.{Heard}
 use Rattle.session.specs.declared.Head.{Head}
 use Rattle.session.specs.Rules.{base, poolLimit}
 use Rattle.session.specs.Heads.{freshHead, impossibleHead}
-use Rattle.assembler.specs.declared.Pool.{Pool}
+use Rattle.pool.specs.declared.Pool.{Pool}
 use Rattle.assembler.specs.declared.HeardWithLength.{HeardWithLength}
 use Rattle.assembler.specs.Call.{CallOk}
 use Rattle.assembler.specs.Slots.{within, onHead, impossible}
 use Rattle.assembler.specs.Step.{eventOf, saidOf, outcome, stepIf, step}
-use Rattle.assembler.specs.View.{slotsFrom, slotsOf, shown, replyOf, receiveOf, filledFrame, receiveWithLengthOf, freshPool, madeIf, madeOf}
+use Rattle.pool.specs.Making.{freshPool, madeIf, madeOf}
+use Rattle.assembler.specs.View.{slotsFrom, slotsOf, shown, replyOf, receiveOf, filledFrame, receiveWithLengthOf}
 use Rattle.assembler.specs.Possible.{ByCalls, made, byDefault, left, leftWithLength}
 use Rattle.assembler.proofs.Unique.{replied}
 use Rattle.assembler.proofs.Views.{Sized, none, more, view-forth}

@@ -10,24 +10,17 @@ use Rattle.fast_packet.specs.FastPacket.{listedIn}
 use Rattle.session.specs.declared.Counters.{Counters}
 use Rattle.session.specs.declared.Heard.{Heard}
 use Rattle.session.specs.Rules.{Rules, base}
-use Rattle.assembler.specs.declared.Pool.{Pool}
-use Rattle.assembler.specs.declared.Made.{Made}
+use Rattle.pool.specs.declared.Pool.{Pool}
 use Rattle.assembler.specs.declared.Received.{Received}
 use Rattle.assembler.specs.declared.Answer.{Answer}
 use Rattle.assembler.specs.declared.HeardWithLength.{HeardWithLength}
 use Rattle.assembler.specs.Call.{Call}
 use Rattle.assembler.specs.Slots.{Slots, impossible}
 use Rattle.assembler.specs.Step.{Said, ignored, consumed, complete, outcome, stepIf, step}
-use Rattle.assembler.specs.View.{slotsOf, freshPool, madeOf, kindOf, payloadOf, lengthOf, shown, replyBy, replyOf, receiveOf, receiveWithLengthOf, answerOf}
+use Rattle.assembler.specs.View.{slotsOf, kindOf, payloadOf, lengthOf, shown, replyBy, replyOf, receiveOf, receiveWithLengthOf, answerOf}
 
 pub handles-unique : (pgns : List ℕ) (pgn : ℕ) (r s : Bool) → r ≡ listedIn pgn pgns → s ≡ listedIn pgn pgns → r ≡ s
 handles-unique pgns pgn r s = determined
-
-pub new-unique : (size : ℕ) (r s : Made) → r ≡ madeOf size → s ≡ madeOf size → r ≡ s
-new-unique size r s = determined
-
-pub default-unique : (r s : Pool) → r ≡ freshPool 4 → s ≡ freshPool 4 → r ≡ s
-default-unique r s = determined
 
 -- `receive`, and `process_frame_through`, which promises the same
 pub receive-unique : (pgns : List ℕ) (heard : Heard) (pool : Pool) (counters : Counters) (r s : Received)

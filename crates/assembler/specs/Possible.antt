@@ -4,10 +4,11 @@ use Prim.Native.Nat.{ℕ}
 use Rattle.session.specs.declared.Counters.{Counters}
 use Rattle.session.specs.declared.Heard.{Heard}
 use Rattle.session.specs.Rules.{base}
-use Rattle.assembler.specs.declared.Pool.{Pool}
+use Rattle.pool.specs.declared.Pool.{Pool}
 use Rattle.assembler.specs.declared.HeardWithLength.{HeardWithLength}
 use Rattle.assembler.specs.Call.{CallOk}
-use Rattle.assembler.specs.View.{madeOf, freshPool, receiveOf, receiveWithLengthOf}
+use Rattle.pool.specs.Making.{madeOf, freshPool}
+use Rattle.assembler.specs.View.{receiveOf, receiveWithLengthOf}
 
 pub data ByCalls : Pool → Type 0 where
   made : (size : ℕ) → ByCalls (madeOf size .pool)

@@ -1,9 +1,7 @@
 -- The pool of the code as slots, and back: slot k is heads[k] with the 223 bytes from 223 * k on. What the public calls answer.
-use mathlib.Core.Bool.{Bool, true, false}
 use mathlib.Core.List.{List, [], _∷_, _++_, map}
 use Prim.Native.Nat.{ℕ}
 use lib.ListN.{take, drop, replicate}
-use lib.Dec.{ltb}
 use Rattle.base.specs.Answer.{gives, refuses}
 use Rattle.fast_packet.specs.FastPacket.{maxPayload, filledFrom}
 use Rattle.session.specs.declared.Head.{Head}
@@ -11,20 +9,14 @@ use Rattle.session.specs.declared.Heard.{Heard}
 use Rattle.session.specs.declared.Counters.{Counters}
 use Rattle.session.specs.declared.Kind.{Kind}
 use Rattle.session.specs.declared.Kind.the-variants.{Refused, Ignored, FragmentConsumed, MessageComplete}
-use Rattle.session.specs.Rules.{Rules, poolLimit}
-use Rattle.session.specs.Heads.{freshHead}
-use Rattle.assembler.specs.declared.Pool.{Pool}
-use Rattle.assembler.specs.declared.Made.{Made}
+use Rattle.session.specs.Rules.{Rules}
+use Rattle.pool.specs.declared.Pool.{Pool}
 use Rattle.assembler.specs.declared.Received.{Received}
 use Rattle.assembler.specs.declared.Answer.{Answer}
 use Rattle.assembler.specs.declared.HeardWithLength.{HeardWithLength}
 use Rattle.assembler.specs.Call.{Call}
 use Rattle.assembler.specs.Slots.{Slot, Slots}
 use Rattle.assembler.specs.Step.{Said, ignored, consumed, complete, Reply, Outcome, step}
-
--- eight buffers of 223 bytes
-abbrev pub poolBytes : ℕ
-poolBytes = 1784
 
 -- ---- the pool as slots
 
@@ -109,16 +101,3 @@ filledFrame x =
 -- ".. and goes on as above"
 unfoldable pub receiveWithLengthOf : Rules → List ℕ → HeardWithLength → Pool → Counters → Received
 receiveWithLengthOf R pgns x p k = receiveOf R pgns (filledFrame x) p k
-
--- ---- making a pool
-
-unfoldable pub freshPool : ℕ → Pool
-freshPool n = record { size = n; heads = replicate poolLimit freshHead; bytes = replicate poolBytes 0 }
-
--- "Asked for more, making one gives refusal 1 and a fresh pool of size 0." 0 stands for no refusal.
-unfoldable pub madeIf : Bool → ℕ → Made
-madeIf true n = record { refused = 1; pool = freshPool 0 }
-madeIf false n = record { refused = 0; pool = freshPool n }
-
-unfoldable pub madeOf : ℕ → Made
-madeOf n = madeIf (ltb poolLimit n) n

@@ -4,9 +4,9 @@ ghost use Prim.Native.Nat.{_+_, _≤_};
 ghost use lib.ListN.{length, drop};
 ghost use lib.Seq.{paste};
 ghost use Rattle.fast_packet.specs.FastPacket.{maxPayload};
-ghost use Rattle.assembler.specs.View.{poolBytes};
-use crate::POOL_BYTES;
+ghost use Rattle.pool.specs.Making.{poolBytes};
 use fast_packet::MAX_FAST_PACKET_PAYLOAD;
+use pool::POOL_BYTES;
 
 // Stores `n` bytes of the frame, from `from` on, at `at`.
 pub(crate) fn store(out: &mut [u8; POOL_BYTES], at: usize, frame: [u8; 8], from: usize, n: usize)

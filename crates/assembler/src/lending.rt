@@ -4,10 +4,10 @@ ghost use Rattle.session.specs.Rules.{base};
 ghost use Rattle.assembler.specs.View.{receiveOf, receiveWithLengthOf, answerOf, receivedOf};
 use crate::Answer;
 use crate::HeardWithLength;
-use crate::Pool;
 use crate::Received;
 use crate::receiving::receive;
 use crate::receiving::receive_with_length;
+use pool::Pool;
 use session::Counters;
 use session::Heard;
 

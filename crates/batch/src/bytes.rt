@@ -5,7 +5,7 @@ ghost use lib.ListN.{length, drop};
 ghost use lib.Seq.{paste};
 ghost use Rattle.fast_packet.specs.FastPacket.{maxPayload};
 ghost use Rattle.session.specs.Rules.{poolLimit};
-ghost use Rattle.assembler.specs.View.{poolBytes};
+ghost use Rattle.pool.specs.Making.{poolBytes};
 use assembler::POOL_BYTES;
 use fast_packet::MAX_FAST_PACKET_PAYLOAD;
 use session::CONTINUATION_PAYLOAD;

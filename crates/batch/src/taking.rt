@@ -6,7 +6,7 @@ ghost use lib.Seq.{paste};
 ghost use Rattle.fast_packet.specs.FastPacket.{maxPayload};
 ghost use Rattle.session.specs.Rules.{poolLimit};
 ghost use Rattle.session.specs.Counting.{raised};
-ghost use Rattle.assembler.specs.View.{poolBytes};
+ghost use Rattle.pool.specs.Making.{poolBytes};
 ghost use Rattle.batch.specs.Rows.{kindNumber};
 use crate::bytes::carry;
 use crate::rows::number_of;

@@ -15,10 +15,10 @@ use Rattle.builder.specs.declared.FastPacketBuilder.{FastPacketBuilder}
 use Rattle.session.specs.declared.Heard.{Heard}
 use Rattle.assembler.specs.View.{receiveOf, receiveWithLengthOf}
 use Rattle.assembler.specs.declared.Received.{Received}
-use Rattle.assembler.specs.declared.Made.{Made}
+use Rattle.pool.specs.declared.Made.{Made}
 use Rattle.session.specs.Rules.{base}
 use Rattle.session.specs.declared.Counters.{Counters}
-use Rattle.assembler.specs.declared.Pool.{Pool}
+use Rattle.pool.specs.declared.Pool.{Pool}
 use Rattle.batch.specs.Rows.{Rows, batchOf, Left as Rowed}
 use Rattle.batch.specs.declared.Batch.{Batch}
 use Rattle.ffi.specs.Batches.{LeftPool, LeftBy, batchWith}

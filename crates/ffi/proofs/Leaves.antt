@@ -19,8 +19,8 @@ use Rattle.assembler.specs.Call.{Call}
 use Rattle.assembler.specs.Slots.{within}
 use Rattle.assembler.specs.Step.{Said, ignored, consumed, complete, saidOf, eventOf, step, stepIf, outcome}
 use Rattle.assembler.specs.View.{slotsOf, poolOf, zeros, kindOf, payloadOf, lengthOf, shown, receiveOf, receiveWithLengthOf, filledFrame}
-use Rattle.assembler.specs.declared.Pool.{Pool}
-use Rattle.assembler.specs.declared.Made.{Made}
+use Rattle.pool.specs.declared.Pool.{Pool}
+use Rattle.pool.specs.declared.Made.{Made}
 use Rattle.assembler.specs.declared.Received.{Received}
 use Rattle.assembler.proofs.Views.{view-back}
 use Rattle.batch.specs.Rows.{Rows, Run, batchOf, leaves, refusedBy, Left as Rowed}

@@ -5,4 +5,4 @@ mod bench;
 mod frames;
 mod ids;
 mod listed;
-mod pool;
+mod pools;

@@ -1,9 +1,9 @@
 // A pool, the counters and an answer of the receive call, as the numbers and bytes that a caller in C lends. The entries are the crate `ffi`'s.
-mod pool;
+mod pools;
 
-pub use pool::counter_numbers;
-pub use pool::counters_from;
-pub use pool::leave;
-pub use pool::leave_made;
-pub use pool::pool_from;
-pub use pool::put_heads;
+pub use pools::counter_numbers;
+pub use pools::counters_from;
+pub use pools::leave;
+pub use pools::leave_made;
+pub use pools::pool_from;
+pub use pools::put_heads;

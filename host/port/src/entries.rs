@@ -49,7 +49,7 @@ extern "C" {
     // (builder: &[u64; 6], place: &mut [u64; 2], payload: &[u8], data: &mut [u8; 8], frame: &mut [u64; 3]) -> u32
     pub fn hf_frame_iterator_next(builder: *const u64, place: *mut u64, payload: *const u8, payload_len: usize, data: *mut u8, frame: *mut u64) -> u32;
 
-    // ---- crates/ffi/src/pool.rt; heads: 64 numbers, bytes: 1784, counters: 5, payload: 223
+    // ---- crates/ffi/src/pools.rt; heads: 64 numbers, bytes: 1784, counters: 5, payload: 223
 
     // (pgns: &[u32], pgn: u32) -> bool
     pub fn hf_handles(pgns: *const u32, pgns_len: usize, pgn: u32) -> bool;

@@ -1,0 +1,15 @@
+-- `hf_pool_default` meets its contract: it passes on what its calls say. Assumes nothing.
+use borrow.Author.Needs.{needs}
+use mathlib.Core.Path.{ap}
+use Rattle.ffi.proofs.Laws.{made-by}
+use Rattle.pool_numbers.specs.Pool.{plainly}
+use Rattle.ffi.proofs.pools.hf_pool_default.Statement.{statement}
+use Rattle.ffi.proofs.pools.hf_pool_default.Tie as tie
+
+pub hf-pool-default-spec : {M : Type 1} → statement M
+hf-pool-default-spec =
+    tie.close
+    (tie.spec
+    (λ c κs. search needs)
+    (λ c κs. search needs)
+    (λ c. made-by (c .leave-made .ensures) (ap plainly (c .before .before .before .before .default .ensures))))

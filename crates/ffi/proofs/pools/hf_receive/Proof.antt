@@ -1,0 +1,15 @@
+-- `hf_receive` meets its contract: it passes on what its calls say. Assumes nothing.
+use borrow.Author.Needs.{needs}
+use Rattle.ffi.proofs.Laws.{left-by, called-by}
+use Rattle.ffi.proofs.pools.hf_receive.Statement.{statement}
+use Rattle.ffi.proofs.pools.hf_receive.Tie as tie
+
+pub hf-receive-spec : {M : Type 1} → statement M
+hf-receive-spec =
+    tie.close
+    (tie.spec
+    (λ c κs. search needs)
+    (λ c κs. search needs)
+    (λ c κs. search needs)
+    (λ c κs. search needs)
+    (λ c. left-by (c .leave .ensures) (called-by _ _ _ _ _ _ (c .before .before .before .before .before .before .before .before .before .before .pool-from .ensures) (c .before .before .before .before .before .before .before .before .counters-from .ensures) (c .before .before .before .before .before .before .receive .ensures))))
