@@ -13,10 +13,10 @@ use Rattle.base.specs.Answer.{gives}
 use Rattle.base.specs.Lists.{fill}
 use Rattle.base.proofs.Cases.{pick-all}
 use Rattle.base.proofs.Fills.{length-fill}
-use Rattle.splitter.specs.Frames.{eight, bytesOf, countIn}
+use Rattle.bench_frames.specs.Frames.{eight, bytesOf, countIn}
 use Rattle.splitter.specs.Split.{bytesAt, frameAt, framesFrom, countOf, framesOf, idsOf, bytesAll, lensOf, idsWith, bytesWith, lensWith}
-use Rattle.splitter.specs.declared.Frame.{Frame}
-use Rattle.splitter.proofs.FrameLaws.{eight-same, eight-long}
+use Rattle.bench_frames.specs.declared.Frame.{Frame}
+use Rattle.bench_frames.proofs.FrameLaws.{eight-same, eight-long}
 use Rattle.splitter.proofs.SplitLaws.{length-frames}
 use Rattle.slice_rows.specs.Rows.{frameIn, framesIn, rowIn}
 

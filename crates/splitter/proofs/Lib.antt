@@ -1,4 +1,3 @@
-pub mod FrameLaws
 pub mod SplitLaws
 pub mod Types
 pub mod Walked

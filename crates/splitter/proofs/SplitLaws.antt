@@ -15,16 +15,16 @@ use Rattle.base.proofs.Fills.{getD-in, length-fill}
 use Rattle.base.proofs.Cases.{when-eq, when-ne, when-lt, when-true, when-false, pick-all, less?}
 use mathlib.Core.Bool.{Bool, true, false}
 use Rattle.base.specs.Answer.{Answer, gives, refuses}
-use Rattle.splitter.specs.Frames.{eight, bytesOf, countIn}
+use Rattle.bench_frames.specs.Frames.{eight, bytesOf, countIn}
 use Rattle.splitter.specs.Split.{bytesAt, frameAt, framesFrom, framesOf, countOf, splitOf, rowWith, idsOf, bytesAll, lensOf, idsWith, bytesWith, lensWith}
 use Rattle.splitter.specs.Split.{ofSplit}
 use Rattle.base.specs.Answer.{counted}
 use Rattle.splitter.specs.declared.Split.the-variants.{Frames, BadSplit, Short}
 use Rattle.base.proofs.Laying.{sets-append}
-use Rattle.splitter.proofs.FrameLaws.{eight-same, eight-more}
+use Rattle.bench_frames.proofs.FrameLaws.{eight-same, eight-more}
 use Rattle.splitter.specs.inner.Job.{toldOf, isUnsplit, frameOf, afterOne, jobFrames, Made}
 use Rattle.splitter.specs.declared.Job.{Job}
-use Rattle.splitter.specs.declared.Frame.{Frame}
+use Rattle.bench_frames.specs.declared.Frame.{Frame}
 use Rattle.splitter.specs.declared.Split.{Split}
 
 -- ---- the payload is copied

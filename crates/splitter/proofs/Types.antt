@@ -1,14 +1,9 @@
 -- The structs that the walked functions pass on, each with the laws that Rattle makes of it.
 use Rattle.walk.proofs.Walk.{Plain, struct, enum}
-use Rattle.splitter.proofs.Frame as Frame
-use Rattle.splitter.proofs.Frame.Laws as Frame′
 use Rattle.splitter.proofs.Job as Job
 use Rattle.splitter.proofs.Job.Laws as Job′
 use Rattle.splitter.proofs.Split as Split
 use Rattle.splitter.proofs.Split.Laws as Split′
-
-abbrev pub frame : Plain
-frame = struct Frame.the-type Frame′.the-laws Frame′.the-copy Frame′.the-plain
 
 abbrev pub job : Plain
 job = struct Job.the-type Job′.the-laws Job′.the-copy Job′.the-plain

@@ -5,9 +5,9 @@ use mathlib.Core.Path.{_≡_, refl}
 use lib.ListN.{length, getD}
 use Rattle.base.specs.Answer.{Answer, gives, refuses, counted}
 use Rattle.base.proofs.Cases.{determined, determined-by}
-use Rattle.splitter.specs.Frames.{countIn}
+use Rattle.bench_frames.specs.Frames.{countIn}
 use Rattle.splitter.specs.Split.{splitOf, ofSplit, rowWith, idsWith, bytesWith, lensWith}
-use Rattle.splitter.specs.declared.Frame.{Frame}
+use Rattle.bench_frames.specs.declared.Frame.{Frame}
 use Rattle.splitter.specs.declared.Split.{Split}
 use Rattle.splitter.specs.declared.Split.the-variants.{Frames, BadSplit, Short}
 
@@ -40,7 +40,3 @@ module _ (id sequence : ℕ) (payload ids bytes lens : List ℕ) where
 
   pub fast-packet-rows-unique : {r r′ : Split} {i i′ b b′ l l′ : List ℕ} → SplitsIn r i b l → SplitsIn r′ i′ b′ l′ → (r ≡ r′) × (i ≡ i′) × (b ≡ b′) × (l ≡ l′)
   fast-packet-rows-unique p q = (determined-by ofSplit backSplit split-back (p .0) (q .0), determined (p .1) (q .1), determined (p .2) (q .2), determined (p .3) (q .3))
-
--- ---- `frame_count`: a number
-pub frame-count-unique : (ids bytes lens r s : ℕ) → r ≡ countIn ids bytes lens → s ≡ countIn ids bytes lens → r ≡ s
-frame-count-unique ids bytes lens r s = determined

@@ -7,8 +7,8 @@ use lib.Dec.{eqb, ltb}
 use Rattle.base.specs.Answer.{Answer, gives, refuses}
 use Rattle.base.specs.Pick.{pick}
 use Rattle.base.specs.Lists.{fill}
-use Rattle.splitter.specs.Frames.{bytesOf}
-use Rattle.splitter.specs.declared.Frame.{Frame}
+use Rattle.bench_frames.specs.Frames.{bytesOf}
+use Rattle.bench_frames.specs.declared.Frame.{Frame}
 use Rattle.splitter.specs.declared.Split.{Split}
 use Rattle.splitter.specs.declared.Split.the-variants.{Frames, BadSplit, Short}
 

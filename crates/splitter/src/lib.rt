@@ -1,40 +1,25 @@
-// The bench's frames, and the splitter that makes them of a payload, byte by byte: the injection side. It shares no code with the builder.
+// The bench's splitter: frames of a payload, byte by byte, which is the injection side. It shares no code with the builder.
 ghost use mathlib.Core.Path.{_≡_};
-ghost use Prim.Native.Nat.{_<_, _≤_, _+_, _*_, _/_, _%_, min};
+ghost use Prim.Native.Nat.{_<_, _≤_, _+_, _*_, _/_, _%_};
 ghost use lib.ListN.{length, take, getD};
 ghost use lib.Seq.{sets};
 ghost use Rattle.base.specs.Answer.{counted};
-ghost use Rattle.splitter.specs.Frames.{countIn};
+ghost use Rattle.bench_frames.specs.Frames.{countIn};
 ghost use Rattle.splitter.specs.Split.{countOf, splitOf, ofSplit, rowWith, idsOf, bytesAll, lensOf, idsWith, bytesWith, lensWith};
 ghost use Rattle.splitter.specs.inner.Job.{toldOf, isUnsplit, Made, frameOf, afterOne, jobEnd, jobFrames};
-
-// Maximum payload a Fast Packet can transport once reassembled. The bench has its own, as it shares no code with what it judges.
-pub const MAX_FAST_PACKET_PAYLOAD: usize = 223;
-
-// What fills the bytes of a frame that carry nothing.
-pub const FILL: u8 = 0xFF;
-
-// A frame's bytes: all of them, or the frame is refused.
-pub const FRAME_BYTES: usize = 8;
-
-// Byte 0 of a frame is the sequence times this, plus the index.
-pub const INDICES: u8 = 32;
-
-// Sequences count modulo this.
-pub const SEQUENCES: u8 = 8;
+use bench_frames::FILL;
+use bench_frames::FRAME_BYTES;
+pub use bench_frames::Frame;
+use bench_frames::INDICES;
+use bench_frames::MAX_FAST_PACKET_PAYLOAD;
+use bench_frames::SEQUENCES;
+pub use bench_frames::frame_count;
 
 // The greatest sequence.
 const LAST_SEQUENCE: u8 = 7;
 
 // A first frame has its length and six bytes; any other has up to this many.
 const LATER_BYTES: usize = 7;
-
-// A captured or injected frame: identifier, bytes and length.
-pub struct Frame {
-    pub id: u32,
-    pub data: [u8; 8],
-    pub len: usize,
-}
 
 fn wide(x: u8) -> usize
     ensures { λ r. ⌜ (r ≡ x) × (r < 256) ⌝ }
@@ -220,20 +205,7 @@ pub fn fast_packet_frames(id: u32, sequence: u8, payload: &[u8], row: &mut [Fram
     s
 }
 
-// ---- the same in separate slices: frame i has the identifier at i, the eight bytes from 8 * i on, and the length at i
-
-fn lesser(a: usize, b: usize) -> usize
-    ensures { λ r. ⌜ r ≡ min a b ⌝ }
-{
-    if a < b { a } else { b }
-}
-
-// How many frames the slices have: the shortest decides.
-pub fn frame_count(ids: usize, bytes: usize, lens: usize) -> usize
-    ensures { λ r. ⌜ r ≡ countIn ids bytes lens ⌝ }
-{
-    lesser(ids, lesser(bytes / FRAME_BYTES, lens))
-}
+// ---- the same in separate slices (`frame_count` of crate `bench_frames`)
 
 fn put_frame(bytes: &mut [u8], at: usize, frame: [u8; 8])
     requires { ⌜ at + 8 ≤ length (now bytes) ⌝ }

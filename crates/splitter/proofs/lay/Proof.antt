@@ -5,7 +5,8 @@ use contract.Running.{tablesOf}
 use borrow.Fn.World.{World}
 use Rattle.walk.proofs.Lays.{lays}
 use Rattle.splitter.specs.inner.Job.{frameOf, afterOne, jobFrames, jobEnd}
-use Rattle.splitter.proofs.Types.{frame, job}
+use Rattle.splitter.proofs.Types.{job}
+use Rattle.bench_frames.proofs.Types.{frame}
 use Rattle.splitter.proofs.frame_of.Reads as make-reads
 use Rattle.splitter.proofs.frame_of.Symbol as make-def
 use Rattle.splitter.proofs.frame_of.Met as make-thm

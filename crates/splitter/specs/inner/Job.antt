@@ -7,7 +7,7 @@ use lib.ListN.{take}
 use lib.Dec.{eqb, ltb}
 use Rattle.base.specs.Pick.{pick}
 use Rattle.splitter.specs.Split.{frameAt, countOf}
-use Rattle.splitter.specs.declared.Frame.{Frame}
+use Rattle.bench_frames.specs.declared.Frame.{Frame}
 use Rattle.splitter.specs.declared.Job.{Job}
 use Rattle.splitter.specs.declared.Split.{Split}
 use Rattle.splitter.specs.declared.Split.the-variants.{Frames, BadSplit, Short}
