@@ -22,7 +22,6 @@ use Rattle.session.proofs.Sound.{Sound, sound, none-at, busy-live, or-left, or-
 use Rattle.assembler.specs.Call.{Call, CallOk, listed}
 use Rattle.assembler.specs.Slots.{Slot, Slots, freshSlot, slotAt, within, onHead, impossible, chosen, live, openedSlot, resetSlot, copiedSlot}
 use Rattle.assembler.specs.Step.{Event, notListed, rejected, shortMessage, poolFull, opened, stray, outOfTurn, copied, completed, opensAt, firstShort, firstSized, copyAt, turnAt, continuesAt, byIndex, byList, eventOf, slotsAfter, outcome, stepIf, step}
-use Rattle.assembler.specs.Possible.{made}
 use Rattle.assembler.proofs.Views.{Sized, none, more, sized-append}
 
 -- ---- lists

@@ -1,4 +1,4 @@
--- Each promise of `assembler` determines its answer and the lent counters: two outcomes that satisfy it are equal. And an answer read back by document 01's
+-- Each promise of `assembler` determines its answer: two that satisfy it are equal. And an answer read back by document 01's
 -- numbers is the reply of the step. Assumes nothing.
 use Prim.Native.Nat.{ℕ}
 use mathlib.Core.Bool.{Bool, true, false}
@@ -12,38 +12,18 @@ use Rattle.session.specs.declared.Heard.{Heard}
 use Rattle.session.specs.Rules.{Rules, base}
 use Rattle.pool.specs.declared.Pool.{Pool}
 use Rattle.assembler.specs.declared.Received.{Received}
-use Rattle.assembler.specs.declared.Answer.{Answer}
-use Rattle.assembler.specs.declared.HeardWithLength.{HeardWithLength}
 use Rattle.assembler.specs.Call.{Call}
 use Rattle.assembler.specs.Slots.{Slots, impossible}
 use Rattle.assembler.specs.Step.{Said, ignored, consumed, complete, outcome, stepIf, step}
-use Rattle.assembler.specs.View.{slotsOf, kindOf, payloadOf, lengthOf, shown, replyBy, replyOf, receiveOf, receiveWithLengthOf, answerOf}
+use Rattle.assembler.specs.View.{slotsOf, kindOf, payloadOf, lengthOf, shown, replyBy, replyOf, receiveOf}
 
 pub handles-unique : (pgns : List ℕ) (pgn : ℕ) (r s : Bool) → r ≡ listedIn pgn pgns → s ≡ listedIn pgn pgns → r ≡ s
 handles-unique pgns pgn r s = determined
 
--- `receive`, and `process_frame_through`, which promises the same
+-- `receive`, and `process_frame_through` of `call_forms`, which promises the same
 pub receive-unique : (pgns : List ℕ) (heard : Heard) (pool : Pool) (counters : Counters) (r s : Received)
     → r ≡ receiveOf base pgns heard pool counters → s ≡ receiveOf base pgns heard pool counters → r ≡ s
 receive-unique pgns heard pool counters r s = determined
-
--- `receive_with_length`, and `process_frame_with_length_through`
-pub receive-with-length-unique : (pgns : List ℕ) (x : HeardWithLength) (pool : Pool) (counters : Counters) (r s : Received)
-    → r ≡ receiveWithLengthOf base pgns x pool counters → s ≡ receiveWithLengthOf base pgns x pool counters → r ≡ s
-receive-with-length-unique pgns x pool counters r s = determined
-
--- what a call with lent counters leaves: its answer and the counters at its exit
-pub process-frame-unique : (pgns : List ℕ) (heard : Heard) (pool : Pool) (counters : Counters) (r s : Answer) (j k : Counters)
-    → (r ≡ answerOf (receiveOf base pgns heard pool counters)) × (j ≡ receiveOf base pgns heard pool counters .counters)
-    → (s ≡ answerOf (receiveOf base pgns heard pool counters)) × (k ≡ receiveOf base pgns heard pool counters .counters)
-    → (r ≡ s) × (j ≡ k)
-process-frame-unique pgns heard pool counters r s j k p q = (determined (p .0) (q .0), determined (p .1) (q .1))
-
-pub process-frame-with-length-unique : (pgns : List ℕ) (x : HeardWithLength) (pool : Pool) (counters : Counters) (r s : Answer) (j k : Counters)
-    → (r ≡ answerOf (receiveWithLengthOf base pgns x pool counters)) × (j ≡ receiveWithLengthOf base pgns x pool counters .counters)
-    → (s ≡ answerOf (receiveWithLengthOf base pgns x pool counters)) × (k ≡ receiveWithLengthOf base pgns x pool counters .counters)
-    → (r ≡ s) × (j ≡ k)
-process-frame-with-length-unique pgns x pool counters r s j k p q = (determined (p .0) (q .0), determined (p .1) (q .1))
 
 -- ---- an answer read back by 01's numbers
 

@@ -140,6 +140,11 @@ pub sized-append : {ss ts : List Slot} → Sized ss → Sized ts → Sized (ss +
 sized-append none h = h
 sized-append (more e g) h = more e (sized-append g h)
 
+pub sized-view : (hs : List Head) (bs : List ℕ) → length bs ≡ length hs * 223 → Sized (slotsFrom hs bs)
+unfolding slotsFrom
+sized-view [] bs e = none
+sized-view (h ∷ hs) bs e = more (length-take-le 223 bs (omega arith)) (sized-view hs (drop 223 bs) (simp length-drop (omega arith)))
+
 slots-forth : {ss : List Slot} → Sized ss → slotsFrom (map headOf ss) (flat ss) ≡ ss
 unfolding slotsFrom headOf flat
 slots-forth none = refl

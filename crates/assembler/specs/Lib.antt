@@ -3,4 +3,3 @@ pub mod Slots
 pub mod Step
 pub mod Runs
 pub mod View
-pub mod Possible

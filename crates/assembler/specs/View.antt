@@ -1,9 +1,9 @@
--- The pool of the code as slots, and back: slot k is heads[k] with the 223 bytes from 223 * k on. What the public calls answer.
+-- The pool of the code as slots, and back: slot k is heads[k] with the 223 bytes from 223 * k on. What the receive call answers.
 use mathlib.Core.List.{List, [], _∷_, _++_, map}
 use Prim.Native.Nat.{ℕ}
 use lib.ListN.{take, drop, replicate}
 use Rattle.base.specs.Answer.{gives, refuses}
-use Rattle.fast_packet.specs.FastPacket.{maxPayload, filledFrom}
+use Rattle.fast_packet.specs.FastPacket.{maxPayload}
 use Rattle.session.specs.declared.Head.{Head}
 use Rattle.session.specs.declared.Heard.{Heard}
 use Rattle.session.specs.declared.Counters.{Counters}
@@ -12,8 +12,6 @@ use Rattle.session.specs.declared.Kind.the-variants.{Refused, Ignored, Fragment
 use Rattle.session.specs.Rules.{Rules}
 use Rattle.pool.specs.declared.Pool.{Pool}
 use Rattle.assembler.specs.declared.Received.{Received}
-use Rattle.assembler.specs.declared.Answer.{Answer}
-use Rattle.assembler.specs.declared.HeardWithLength.{HeardWithLength}
 use Rattle.assembler.specs.Call.{Call}
 use Rattle.assembler.specs.Slots.{Slot, Slots}
 use Rattle.assembler.specs.Step.{Said, ignored, consumed, complete, Reply, Outcome, step}
@@ -75,29 +73,8 @@ replyBy MessageComplete payload length = gives (complete payload length)
 unfoldable pub replyOf : Received → Reply
 replyOf r = replyBy (r .kind) (r .payload) (r .length)
 
--- ---- the calls
+-- ---- the call
 
 -- one call with eight bytes
 unfoldable pub receiveOf : Rules → List ℕ → Heard → Pool → Counters → Received
 receiveOf R pgns f p k = shown (step R (slotsOf p) k (record { pgns = pgns; heard = f }))
-
--- the same without the counters, where the caller lends them
-abbrev pub answerOf : Received → Answer
-answerOf r = record { kind = r .kind; payload = r .payload; length = r .length; pool = r .pool }
-
-abbrev pub receivedOf : Answer → Counters → Received
-receivedOf a k = record { kind = a .kind; payload = a .payload; length = a .length; pool = a .pool; counters = k }
-
--- "An added entry takes a length .., keeps the first min(length, 8) bytes, fills the rest with 0xFF"
-unfoldable pub filledFrame : HeardWithLength → Heard
-filledFrame x =
-    record {
-      «now_ms» = x .heard .«now_ms»;
-      pgn = x .heard .pgn;
-      «source_address» = x .heard .«source_address»;
-      «data» = filledFrom (x .length) (x .heard .«data»);
-    }
-
--- ".. and goes on as above"
-unfoldable pub receiveWithLengthOf : Rules → List ℕ → HeardWithLength → Pool → Counters → Received
-receiveWithLengthOf R pgns x p k = receiveOf R pgns (filledFrame x) p k

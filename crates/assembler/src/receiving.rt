@@ -3,14 +3,12 @@ ghost use mathlib.Core.Path.{_≡_};
 ghost use Rattle.base.specs.Pick.{pick};
 ghost use Rattle.fast_packet.specs.FastPacket.{listedIn};
 ghost use Rattle.session.specs.Rules.{base};
-ghost use Rattle.assembler.specs.View.{receiveOf, filledFrame, receiveWithLengthOf};
-use crate::HeardWithLength;
+ghost use Rattle.assembler.specs.View.{receiveOf};
 use crate::Received;
 use crate::bytes::deliver;
 use crate::bytes::deliver_short;
 use crate::bytes::store;
 use fast_packet::MAX_FAST_PACKET_PAYLOAD;
-use fast_packet::fill_short;
 use fast_packet::is_listed;
 use plan::decide;
 use pool::Pool;
@@ -72,31 +70,4 @@ pub fn receive(pool: Pool, counters: Counters, pgns: &[u32], heard: Heard) -> Re
         pool: q,
         counters: c,
     }
-}
-
-// A frame cut short, as eight bytes.
-fn filled_frame(x: HeardWithLength) -> Heard
-    ensures { λ r. ⌜ r ≡ filledFrame x ⌝ }
-{
-    let heard = x.heard;
-    let sent = heard.data;
-    let data = fill_short(sent, x.length);
-    Heard {
-        now_ms: heard.now_ms,
-        pgn: heard.pgn,
-        source_address: heard.source_address,
-        data: data,
-    }
-}
-
-// One call, of a frame with a length.
-pub fn receive_with_length(
-    pool: Pool,
-    counters: Counters,
-    pgns: &[u32],
-    x: HeardWithLength,
-) -> Received
-    ensures { λ r. ⌜ r ≡ receiveWithLengthOf base (now (pgns .entry)) x pool counters ⌝ }
-{
-    receive(pool, counters, pgns, filled_frame(x))
 }

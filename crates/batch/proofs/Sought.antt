@@ -37,7 +37,7 @@ use Rattle.assembler.specs.Step.{step}
 use Rattle.assembler.specs.View.{slotsOf, shown, receiveOf}
 use Rattle.assembler.proofs.Copies.{copy-none}
 use Rattle.assembler.proofs.Views.{Whole, Sized, view-forth}
-use Rattle.assembler.proofs.ByCalls.{sized-view}
+use Rattle.assembler.proofs.Views.{sized-view}
 use Rattle.assembler.proofs.Keeps.{keeps}
 use Rattle.assembler.proofs.Carries.{carried, Fits, Does, receives}
 use Rattle.batch.specs.inner.Mirror.{packed, keyNumber, frameKey, InRange, Shows, Mirrors, firstFrom, keyAt, openAt, ownAt, liveAt, chosenIn, liveIn, quiet, sought}

@@ -13,7 +13,8 @@ use Rattle.builder.specs.Frames.{Turn, nextTurn}
 use Rattle.builder.specs.declared.FrameIterator.{FrameIterator}
 use Rattle.builder.specs.declared.FastPacketBuilder.{FastPacketBuilder}
 use Rattle.session.specs.declared.Heard.{Heard}
-use Rattle.assembler.specs.View.{receiveOf, receiveWithLengthOf}
+use Rattle.assembler.specs.View.{receiveOf}
+use Rattle.call_forms.specs.Forms.{receiveWithLengthOf}
 use Rattle.assembler.specs.declared.Received.{Received}
 use Rattle.pool.specs.declared.Made.{Made}
 use Rattle.session.specs.Rules.{base}

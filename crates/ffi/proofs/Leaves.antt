@@ -18,7 +18,8 @@ use Rattle.session.specs.declared.Counters.{Counters}
 use Rattle.assembler.specs.Call.{Call}
 use Rattle.assembler.specs.Slots.{within}
 use Rattle.assembler.specs.Step.{Said, ignored, consumed, complete, saidOf, eventOf, step, stepIf, outcome}
-use Rattle.assembler.specs.View.{slotsOf, poolOf, zeros, kindOf, payloadOf, lengthOf, shown, receiveOf, receiveWithLengthOf, filledFrame}
+use Rattle.assembler.specs.View.{slotsOf, poolOf, zeros, kindOf, payloadOf, lengthOf, shown, receiveOf}
+use Rattle.call_forms.specs.Forms.{receiveWithLengthOf, filledFrame}
 use Rattle.pool.specs.declared.Pool.{Pool}
 use Rattle.pool.specs.declared.Made.{Made}
 use Rattle.assembler.specs.declared.Received.{Received}

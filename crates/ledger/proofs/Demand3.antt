@@ -12,8 +12,9 @@ use Rattle.assembler.specs.Slots.{freshSlots}
 use Rattle.assembler.specs.Step.{step}
 use Rattle.assembler.specs.Runs.{fresh, calls}
 use Rattle.assembler.specs.declared.Received.{Received}
-use Rattle.assembler.specs.declared.Answer.{Answer}
-use Rattle.assembler.specs.View.{receiveOf, receivedOf}
+use Rattle.call_forms.specs.declared.Answer.{Answer}
+use Rattle.assembler.specs.View.{receiveOf}
+use Rattle.call_forms.specs.Forms.{receivedOf}
 use Rattle.ledger.specs.Ledger.{ledgerOf}
 use Rattle.ledger.specs.Demand3.{Demand3, AllOk, Agreed, Admitted}
 use Rattle.ledger.specs.Runs.{State, start, next, receives, seenIn, received, Promised, Ran, stop, on, stepped}

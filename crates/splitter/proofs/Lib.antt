@@ -1,4 +1,3 @@
 pub mod SplitLaws
-pub mod Types
 pub mod Walked
 pub mod Unique

@@ -1,36 +1,21 @@
 -- The splitter, as document 01 has it under "The bench": a payload is laid out by step 6 of "Building frames", index from 0.
-use Prim.Native.Nat.{ℕ, zero, suc, _+_, _-_, _*_, _/_, _%_}
+use Prim.Native.Nat.{ℕ, zero, suc}
 use mathlib.Core.List.{List, [], _∷_, _++_}
-use lib.ListN.{length, drop}
+use lib.ListN.{length}
 use lib.Seq.{sets}
 use lib.Dec.{eqb, ltb}
 use Rattle.base.specs.Answer.{Answer, gives, refuses}
 use Rattle.base.specs.Pick.{pick}
-use Rattle.base.specs.Lists.{fill}
 use Rattle.bench_frames.specs.Frames.{bytesOf}
 use Rattle.bench_frames.specs.declared.Frame.{Frame}
-use Rattle.splitter.specs.declared.Split.{Split}
-use Rattle.splitter.specs.declared.Split.the-variants.{Frames, BadSplit, Short}
-
--- "byte 0 is (sequence modulo 8) times 32 plus (index modulo 32). If no byte was sent, byte 1 is the length and up to 6 bytes follow;
--- else up to 7 follow byte 0. The rest is 0xFF": 7 × index - 1 bytes were sent
-unfoldable pub bytesAt : ℕ → List ℕ → ℕ → List ℕ
-bytesAt sequence payload index =
-    (sequence % 8 * 32 + index % 32) ∷
-    pick (eqb index 0) (length payload ∷ fill 6 payload) (fill 7 (drop (7 * index - 1) payload))
-
--- "and the length is 8"
-unfoldable pub frameAt : ℕ → ℕ → List ℕ → ℕ → Frame
-frameAt id sequence payload index = record { id = id; «data» = bytesAt sequence payload index; len = 8 }
+use Rattle.split_frame.specs.Bytes.{frameAt, countOf}
+use Rattle.split_frame.specs.declared.Split.{Split}
+use Rattle.split_frame.specs.declared.Split.the-variants.{Frames, BadSplit, Short}
 
 -- n frames from an index on
 abbrev pub framesFrom : ℕ → ℕ → List ℕ → ℕ → ℕ → List Frame
 framesFrom id sequence payload index zero = []
 framesFrom id sequence payload index (suc n) = frameAt id sequence payload index ∷ framesFrom id sequence payload (suc index) n
-
--- the first frame has up to 6 bytes, and each other up to 7
-abbrev pub countOf : ℕ → ℕ
-countOf size = size / 7 + 1
 
 -- all frames of a payload
 abbrev pub framesOf : ℕ → ℕ → List ℕ → List Frame

@@ -4,30 +4,16 @@ use mathlib.Core.Bool.{Bool, true, false}
 use mathlib.Core.List.{List, [], _∷_}
 use mathlib.Core.Path.{_≡_}
 use lib.ListN.{take}
-use lib.Dec.{eqb, ltb}
-use Rattle.base.specs.Pick.{pick}
-use Rattle.splitter.specs.Split.{frameAt, countOf}
+use Rattle.split_frame.specs.inner.Job.{frameOf}
 use Rattle.bench_frames.specs.declared.Frame.{Frame}
-use Rattle.splitter.specs.declared.Job.{Job}
-use Rattle.splitter.specs.declared.Split.{Split}
-use Rattle.splitter.specs.declared.Split.the-variants.{Frames, BadSplit, Short}
-
--- the answer, from the sizes alone
-unfoldable pub toldOf : ℕ → ℕ → ℕ → Split
-toldOf sequence size room =
-    pick (eqb size 0) BadSplit
-    (pick (ltb 223 size) BadSplit
-    (pick (ltb 7 sequence) BadSplit
-    (pick (ltb room (countOf size)) Short
-    (Frames (countOf size)))))
+use Rattle.split_frame.specs.declared.Job.{Job}
+use Rattle.split_frame.specs.declared.Split.{Split}
+use Rattle.split_frame.specs.declared.Split.the-variants.{Frames, BadSplit, Short}
 
 abbrev pub isUnsplit : Split → Bool
 isUnsplit (Frames n) = false
 isUnsplit BadSplit = true
 isUnsplit Short = true
-
-unfoldable pub frameOf : Job → Frame
-frameOf j = frameAt (j .id) (j .sequence) (take (j .size) (j .payload)) (j .index)
 
 abbrev pub afterOne : Job → Job
 afterOne j = record { id = j .id; sequence = j .sequence; index = (j .index + 1) % 256; size = j .size; payload = j .payload }

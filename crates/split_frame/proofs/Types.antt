@@ -1,0 +1,12 @@
+-- The types that the walked functions pass on, each with the laws that Rattle makes of it.
+use Rattle.walk.proofs.Walk.{Plain, struct, enum}
+use Rattle.split_frame.proofs.Job as Job
+use Rattle.split_frame.proofs.Job.Laws as Job′
+use Rattle.split_frame.proofs.Split as Split
+use Rattle.split_frame.proofs.Split.Laws as Split′
+
+abbrev pub job : Plain
+job = struct Job.the-type Job′.the-laws Job′.the-copy Job′.the-plain
+
+abbrev pub split : Plain
+split = enum Split.the-type Split′.the-laws Split′.the-copy Split′.the-plain tt

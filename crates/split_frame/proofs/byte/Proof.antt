@@ -1,0 +1,15 @@
+-- `byte` meets its contract: the facts on each way out pick the law of that case. Assumes nothing.
+use borrow.Author.Needs.{needs}
+use native.Mathlib.Omega.{arith}
+use Rattle.split_frame.proofs.FrameLaws.{byte-in, byte-past}
+use Rattle.split_frame.proofs.byte.Statement.{statement}
+use Rattle.split_frame.proofs.byte.Tie as tie
+
+pub byte-spec : {M : Type 1} → statement M
+byte-spec =
+    tie.close
+    (tie.spec
+    (λ c κs. search needs)
+    (λ c. search needs)
+    (λ c. byte-in (c .before .before .args .t1) (c .before .before .args .at) (c .before .before .args .size) (omega arith) (omega arith))
+    (λ c. byte-past (c .before .before .args .t1) (c .before .before .args .at) (c .before .before .args .size) (omega arith)))
