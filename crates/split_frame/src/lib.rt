@@ -1,7 +1,9 @@
 // One frame of the bench's splitter, byte by byte, and whether a payload can be split at all. Rows of frames are crate `splitter`'s.
 ghost use mathlib.Core.Path.{_≡_};
-ghost use Prim.Native.Nat.{_<_, _+_, _*_, _%_};
-ghost use lib.ListN.{take, getD};
+ghost use Prim.Native.Nat.{_-_, _≤_};
+ghost use mathlib.Core.List.{_++_};
+ghost use lib.ListN.{take, drop, getD};
+ghost use Rattle.base.specs.Lists.{fill};
 ghost use Rattle.split_frame.specs.inner.Job.{toldOf, frameOf};
 use bench_frames::FILL;
 use bench_frames::FRAME_BYTES;
@@ -51,79 +53,49 @@ pub fn split_of(sequence: u8, size: usize, room: usize) -> Split
     Split::Frames(size / LATER_BYTES + 1)
 }
 
-fn wide(x: u8) -> usize
-    ensures { λ r. ⌜ (r ≡ x) × (r < 256) ⌝ }
-{
-    x as usize
-}
-
+// The byte of a payload at `at`, or what fills its place.
 fn byte(bytes: [u8; 256], size: u8, at: usize) -> u8
     ensures { λ r. ⌜ r ≡ getD (take size bytes) at 255 ⌝ }
 {
-    let count = wide(size);
+    let count = size as usize;
     if at < count { bytes[at] } else { FILL }
 }
 
-fn header(j: Job) -> u8
-    ensures { λ r. ⌜ r ≡ j .sequence % 8 * 32 + j .index % 32 ⌝ }
+// `start` up to place `from`; there the payload's bytes from `at` on follow.
+fn follow(start: [u8; 8], from: usize, bytes: [u8; 256], size: u8, at: usize) -> [u8; 8]
+    requires { ⌜ (from ≤ 8) × (at ≤ 4096) ⌝ }
+    ensures { λ r. ⌜ r ≡ take from start ++ fill (8 - from) (drop at (take size bytes)) ⌝ }
 {
-    j.sequence % SEQUENCES * INDICES + j.index % INDICES
-}
-
-// A first frame has its message's length and six bytes.
-fn first_frame(j: Job) -> Frame
-    requires { ⌜ j .index ≡ 0 ⌝ }
-    ensures { λ r. ⌜ r ≡ frameOf j ⌝ }
-{
-    let b = j.payload;
-    let size = j.size;
-    Frame {
-        id: j.id,
-        data: [
-            header(j),
-            size,
-            byte(b, size, 0),
-            byte(b, size, 1),
-            byte(b, size, 2),
-            byte(b, size, 3),
-            byte(b, size, 4),
-            byte(b, size, 5),
-        ],
-        len: FRAME_BYTES,
+    let mut data = start;
+    let mut k = from;
+    let mut i = at;
+    while k < FRAME_BYTES {
+        data[k] = byte(bytes, size, i);
+        k += 1;
+        i += 1;
     }
+    data
 }
 
-// Any other has seven.
-fn later_frame(j: Job) -> Frame
-    requires { ⌜ 0 < j .index ⌝ }
-    ensures { λ r. ⌜ r ≡ frameOf j ⌝ }
-{
-    let b = j.payload;
-    let size = j.size;
-    let s = LATER_BYTES * wide(j.index) - 1;
-    Frame {
-        id: j.id,
-        data: [
-            header(j),
-            byte(b, size, s),
-            byte(b, size, s + 1),
-            byte(b, size, s + 2),
-            byte(b, size, s + 3),
-            byte(b, size, s + 4),
-            byte(b, size, s + 5),
-            byte(b, size, s + 6),
-        ],
-        len: FRAME_BYTES,
-    }
-}
-
-// The next frame of a job.
+// The next frame of a job: a first frame has its message's length and six bytes, any other has seven.
 pub fn frame_of(j: Job) -> Frame
     ensures { λ r. ⌜ r ≡ frameOf j ⌝ }
 {
+    let b = j.payload;
+    let header = j.sequence % SEQUENCES * INDICES + j.index % INDICES;
     if j.index == 0 {
-        first_frame(j)
-    } else {
-        later_frame(j)
+        let data = follow([header, j.size, 0, 0, 0, 0, 0, 0], 2, b, j.size, 0);
+        return Frame {
+            id: j.id,
+            data: data,
+            len: FRAME_BYTES,
+        };
+    }
+    let s = LATER_BYTES * (j.index as usize) - 1;
+    let data = follow([header; FRAME_BYTES], 1, b, j.size, s);
+    Frame {
+        id: j.id,
+        data: data,
+        len: FRAME_BYTES,
     }
 }

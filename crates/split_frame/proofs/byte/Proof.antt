@@ -9,7 +9,6 @@ pub byte-spec : {M : Type 1} → statement M
 byte-spec =
     tie.close
     (tie.spec
-    (λ c κs. search needs)
     (λ c. search needs)
-    (λ c. byte-in (c .before .before .args .t1) (c .before .before .args .at) (c .before .before .args .size) (omega arith) (omega arith))
-    (λ c. byte-past (c .before .before .args .t1) (c .before .before .args .at) (c .before .before .args .size) (omega arith)))
+    (λ c. byte-in (c .before .args .t1) (c .before .args .at) (c .before .args .size) (omega arith) (omega arith))
+    (λ c. byte-past (c .before .args .t1) (c .before .args .at) (c .before .args .size) (omega arith)))

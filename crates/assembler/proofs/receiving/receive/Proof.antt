@@ -52,7 +52,7 @@ store-requires c κs =
     let seen = walk-done _ _ _ _ _ _ (inv .3) (q .before .before .before .before .before .loop-test .left) in
     let fits = planned base limit _ (a .heard) (a .pool) (a .counters) (inv .1) (inv .2) _ _ _ _ _ _ seen (q .before .before .before .before .is-listed .ensures) (q .before .before .before .place-for .ensures) (q .before .before .within-limit .ensures .0) (q .decide .ensures) .fits in
     let low = q .before .before .within-limit .ensures .1 in
-    (inv .1 .bytes, omega (arith, fits .room, low), fits .there)
+    (inv .1 .bytes, omega (arith, fits .room, low), omega (arith, fits .there))
 
 deliver-requires : tie.Need-deliver-requires Inv-loop μ-loop
 deliver-requires c κs =
