@@ -1,5 +1,3 @@
-pub mod Copies
-pub mod Views
-pub mod Carries
+pub mod Types
 pub mod Unique
-pub mod Keeps
+pub mod ByCalls

@@ -10,7 +10,7 @@ ghost use Rattle.pool.specs.Making.{poolBytes};
 ghost use Rattle.batch.specs.Rows.{kindNumber};
 use crate::bytes::carry;
 use crate::rows::number_of;
-use assembler::POOL_BYTES;
+use pool::POOL_BYTES;
 use session::Counters;
 use session::Plan;
 use session::count;

@@ -13,12 +13,12 @@ use Rattle.session.specs.declared.Heard.{Heard}
 use Rattle.session.specs.declared.Counters.{Counters}
 use Rattle.session.specs.declared.Kind.{Kind}
 use Rattle.session.specs.declared.Kind.the-variants.{Refused, Ignored, FragmentConsumed, MessageComplete}
-use Rattle.assembler.specs.View.{receiveOf}
-use Rattle.call_forms.specs.Forms.{receiveWithLengthOf}
+use Rattle.receive_call.specs.View.{receiveOf}
+use Rattle.assembler.specs.Forms.{receiveWithLengthOf}
 use Rattle.pool.specs.declared.Pool.{Pool}
 use Rattle.pool.specs.declared.Made.{Made}
-use Rattle.assembler.specs.declared.Received.{Received}
-use Rattle.call_forms.specs.declared.HeardWithLength.{HeardWithLength}
+use Rattle.receive_call.specs.declared.Received.{Received}
+use Rattle.assembler.specs.declared.HeardWithLength.{HeardWithLength}
 use Rattle.numbers.specs.Numbers.{isSet, flagOn, byteOn, wordOn}
 
 -- a head is eight numbers, each read in the width of its field

@@ -6,10 +6,10 @@
 // The file stdout that this is held to was written by the original: host/diff/src/bin/replay_list.rs makes both.
 use assembler::Pool;
 use assembler::Received;
+use assembler::process_frame_through;
 use builder::FastPacketBuilder;
 use builder::Next;
 use builder::NextKind;
-use call_forms::process_frame_through;
 use can_id::CanIdBuildError;
 use can_id::Destination;
 use fast_packet::MAX_FAST_PACKET_PAYLOAD;

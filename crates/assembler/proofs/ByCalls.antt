@@ -1,0 +1,92 @@
+-- The pools that the calls make are possible, so refusal 1 never comes from one of them. Assumes nothing.
+use Prim.Native.Nat.{ℕ, zero, suc, _≤_, _<_, min}
+use mathlib.Core.Path.{_≡_, refl, _∙_}
+use mathlib.Core.Bool.{Bool, true, false}
+use mathlib.Core.Option.{none}
+use mathlib.Core.List.{List, [], _∷_}
+use lib.ListN.{length, getD, take, drop, replicate}
+use lib.Dec.{ltb}
+use native.Mathlib.Omega.{arith}
+use borrow.Author.Tests.{ltb-false, le-ltb}
+use Rattle.base.specs.Answer.{gives}
+use Rattle.base.specs.Lists.{any, fill}
+use Rattle.base.proofs.Fills.{length-fill}
+use Rattle.fast_packet.specs.FastPacket.{filledFrom}
+use Rattle.session.specs.declared.Counters.{Counters}
+use Rattle.session.specs.declared.Heard.{Heard}
+use Rattle.session.specs.declared.Head.{Head}
+use Rattle.session.specs.Rules.{base, poolLimit}
+use Rattle.session.specs.Heads.{freshHead, impossibleHead}
+use Rattle.pool.specs.declared.Pool.{Pool}
+use Rattle.assembler.specs.declared.HeardWithLength.{HeardWithLength}
+use Rattle.receive_call.specs.Call.{CallOk}
+use Rattle.receive_call.specs.Slots.{within, onHead, impossible}
+use Rattle.receive_call.specs.Step.{eventOf, saidOf, outcome, stepIf, step}
+use Rattle.pool.specs.Making.{freshPool, madeIf, madeOf}
+use Rattle.receive_call.specs.View.{slotsFrom, slotsOf, shown, replyOf, receiveOf}
+use Rattle.assembler.specs.Forms.{filledFrame, receiveWithLengthOf}
+use Rattle.assembler.specs.Possible.{ByCalls, made, byDefault, left, leftWithLength}
+use Rattle.receive_call.proofs.Unique.{replied}
+use Rattle.receive_call.proofs.Views.{Sized, sized-view, view-forth}
+use Rattle.receive_call.proofs.Keeps.{keeps}
+
+-- the slots of a pool: of 223 bytes each, and none impossible
+record Good (p : Pool) : Type 0 where
+  possible : impossible base (slotsOf p) ≡ false
+  sized : Sized (slotsOf p .slots)
+
+idle-fine : (n m : ℕ) (bs : List ℕ) → any (onHead (impossibleHead base)) (take n (slotsFrom (replicate m freshHead) bs)) ≡ false
+unfolding any slotsFrom impossibleHead freshHead
+idle-fine zero m bs = refl
+idle-fine (suc n) zero bs = refl
+idle-fine (suc n) (suc m) bs = idle-fine n m (drop 223 bs)
+
+fresh-good : (n : ℕ) → n ≤ poolLimit → Good (freshPool n)
+unfolding freshPool slotsOf
+fresh-good n small =
+    record {
+      possible = unfold impossible base in rw (le-ltb poolLimit n small) (idle-fine n poolLimit (replicate 1784 0));
+      sized = sized-view (replicate poolLimit freshHead) (replicate 1784 0) refl;
+    }
+
+made-good : (b : Bool) (n : ℕ) → ltb poolLimit n ≡ b → Good (madeIf b n .pool)
+unfolding madeIf
+made-good true n e = fresh-good 0 (omega arith)
+made-good false n e = fresh-good n (ltb-false poolLimit n e)
+
+left-good : (pgns : List ℕ) (f : Heard) (p : Pool) (k : Counters) → CallOk base (record { pgns = pgns; heard = f }) → Good p → Good (receiveOf base pgns f p k .pool)
+unfolding receiveOf shown
+left-good pgns f p k ok good =
+    let kept = keeps base (slotsOf p) k (record { pgns = pgns; heard = f }) ok (good .possible) in
+    let forth = view-forth (step base (slotsOf p) k (record { pgns = pgns; heard = f }) .pool) (kept .sized (good .sized)) in
+    record { possible = rw forth (kept .possible); sized = rw forth (kept .sized (good .sized)) }
+
+-- a frame cut short is a frame of eight bytes too
+filled-byte : (len : ℕ) (bytes : List ℕ) → length bytes ≡ 8 → getD bytes 0 0 < 256 → getD (filledFrom len bytes) 0 0 < 256
+unfolding filledFrom fill
+filled-byte len [] e h = absurd (omega arith)
+filled-byte zero (b ∷ bytes) e h = omega arith
+filled-byte (suc len) (b ∷ bytes) e h = let s : min (suc len) 8 ≡ suc (min len 7) = omega arith in rw s h
+
+filled-ok : (pgns : List ℕ) (x : HeardWithLength) → CallOk base (record { pgns = pgns; heard = x .heard }) → CallOk base (record { pgns = pgns; heard = filledFrame x })
+unfolding filledFrame
+filled-ok pgns x ok =
+    record {
+      eight = unfold filledFrom in length-fill 8 (take (min (x .length) 8) (x .heard .«data»));
+      byte = filled-byte (x .length) (x .heard .«data») (ok .eight) (ok .byte);
+    }
+
+by-calls-good : {p : Pool} → ByCalls p → Good p
+unfolding madeOf receiveWithLengthOf
+by-calls-good (made size) = made-good (ltb poolLimit size) size refl
+by-calls-good byDefault = fresh-good 4 (omega arith)
+by-calls-good (left {p} pgns f k ok h) = left-good pgns f p k ok (by-calls-good h)
+by-calls-good (leftWithLength {p} pgns x k ok h) = left-good pgns (filledFrame x) p k (filled-ok pgns x ok) (by-calls-good h)
+
+pub never-impossible : {p : Pool} → ByCalls p → impossible base (slotsOf p) ≡ false
+never-impossible h = by-calls-good h .possible
+
+-- so every answer is one of the three: refusal 1 never comes from a pool that the calls made
+pub never-refused : {p : Pool} → ByCalls p → (pgns : List ℕ) (f : Heard) (k : Counters)
+    → replyOf (receiveOf base pgns f p k) ≡ gives (saidOf f (within (slotsOf p)) (eventOf base (within (slotsOf p)) (record { pgns = pgns; heard = f })))
+never-refused {p} h pgns f k = replied base pgns f p k ∙ (unfold step in rw (never-impossible h) (unfold stepIf outcome in refl))

@@ -1,0 +1,99 @@
+// The calls with the counters lent: one thin function over each by-value core reads the record, and writes back what the core says of it.
+ghost use mathlib.Core.Path.{_≡_};
+ghost use Rattle.session.specs.Rules.{base};
+ghost use Rattle.receive_call.specs.View.{receiveOf};
+ghost use Rattle.assembler.specs.Forms.{receiveWithLengthOf, answerOf, receivedOf};
+use crate::Answer;
+use crate::HeardWithLength;
+use crate::lengths::receive_with_length;
+use pool::Pool;
+use receive_call::Received;
+use receive_call::receive;
+use session::Counters;
+use session::Heard;
+
+fn counters_of(r: Received) -> Counters
+    ensures { λ s. ⌜ s ≡ r .counters ⌝ }
+{
+    let c = r.counters;
+    c
+}
+
+fn answer_of(r: Received) -> Answer
+    ensures { λ s. ⌜ s ≡ answerOf r ⌝ }
+{
+    let kind = r.kind;
+    let payload = r.payload;
+    let pool = r.pool;
+    Answer {
+        kind: kind,
+        payload: payload,
+        length: r.length,
+        pool: pool,
+    }
+}
+
+// Process a CAN frame that may belong to a Fast Packet session. `pgns` is the list of Fast Packet PGNs; a PGN outside it is ignored.
+pub fn process_frame(pool: Pool, counters: &mut Counters, pgns: &[u32], heard: Heard) -> Answer
+    ensures { λ r. ⌜ (r ≡ answerOf (receiveOf base (now (pgns .entry)) heard pool (now (counters .entry))))
+        × (now (counters .exit) ≡ receiveOf base (now (pgns .entry)) heard pool (now (counters .entry)) .counters) ⌝ }
+{
+    let c = *counters;
+    let out = receive(pool, c, pgns, heard);
+    *counters = counters_of(out);
+    answer_of(out)
+}
+
+// The same for a frame with a length: its first bytes, and 0xFF after them.
+pub fn process_frame_with_length(
+    pool: Pool,
+    counters: &mut Counters,
+    pgns: &[u32],
+    x: HeardWithLength,
+) -> Answer
+    ensures { λ r. ⌜ (r ≡ answerOf (receiveWithLengthOf base (now (pgns .entry)) x pool (now (counters .entry))))
+        × (now (counters .exit) ≡ receiveWithLengthOf base (now (pgns .entry)) x pool (now (counters .entry)) .counters) ⌝ }
+{
+    let c = *counters;
+    let out = receive_with_length(pool, c, pgns, x);
+    *counters = counters_of(out);
+    answer_of(out)
+}
+
+fn joined(a: Answer, counters: Counters) -> Received
+    ensures { λ r. ⌜ r ≡ receivedOf a counters ⌝ }
+{
+    let kind = a.kind;
+    let payload = a.payload;
+    let pool = a.pool;
+    Received {
+        kind: kind,
+        payload: payload,
+        length: a.length,
+        pool: pool,
+        counters: counters,
+    }
+}
+
+// `process_frame` for callers that hold the counters by value, as a program or an exported function does.
+pub fn process_frame_through(pool: Pool, counters: Counters, pgns: &[u32], heard: Heard) -> Received
+    ensures { λ r. ⌜ r ≡ receiveOf base (now (pgns .entry)) heard pool counters ⌝ }
+{
+    let mut c = counters;
+    let a = process_frame(pool, &mut c, pgns, heard);
+    joined(a, c)
+}
+
+// The same for a frame with a length.
+pub fn process_frame_with_length_through(
+    pool: Pool,
+    counters: Counters,
+    pgns: &[u32],
+    x: HeardWithLength,
+) -> Received
+    ensures { λ r. ⌜ r ≡ receiveWithLengthOf base (now (pgns .entry)) x pool counters ⌝ }
+{
+    let mut c = counters;
+    let a = process_frame_with_length(pool, &mut c, pgns, x);
+    joined(a, c)
+}

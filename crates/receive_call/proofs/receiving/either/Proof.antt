@@ -1,0 +1,12 @@
+-- `receiving::either` meets its contract: the facts on each way out pick the law of that case. Assumes nothing.
+use borrow.Author.Needs.{needs}
+use Rattle.slot_search.proofs.Laws.{choices}
+use Rattle.receive_call.proofs.receiving.either.Statement.{statement}
+use Rattle.receive_call.proofs.receiving.either.Tie as tie
+
+pub either-spec : {M : Type 1} → statement M
+either-spec =
+    tie.close
+    (tie.spec
+    (λ c. search (needs, choices))
+    (λ c. search (needs, choices)))

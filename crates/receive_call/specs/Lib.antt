@@ -1,0 +1,5 @@
+pub mod Call
+pub mod Slots
+pub mod Step
+pub mod Runs
+pub mod View

@@ -1,0 +1,156 @@
+-- One call, by document 01's steps: what happens (the event, and at which slot), what that does to the slots, which counter it marks, and what is answered.
+use mathlib.Core.Bool.{Bool, true, false}
+use mathlib.Core.List.{List, [], _++_}
+use mathlib.Core.Option.{Option, none, some}
+use Prim.Native.Nat.{ℕ, _-_}
+use lib.ListN.{length, take, drop, set, replicate}
+use lib.Dec.{eqb, leb}
+use Rattle.base.specs.Answer.{Answer, gives, refuses}
+use Rattle.fast_packet.specs.FastPacket.{maxPayload}
+use Rattle.session.specs.declared.Head.{Head}
+use Rattle.session.specs.declared.Heard.{Heard}
+use Rattle.session.specs.declared.Counters.{Counters}
+use Rattle.session.specs.declared.Mark.{Mark}
+use Rattle.session.specs.declared.Mark.the-variants.{Nothing, Exhausted, Rejected, Lost, Unknown}
+use Rattle.session.specs.Rules.{Rules}
+use Rattle.session.specs.Frames.{indexOf, sizeOf, badSize, firstBytes}
+use Rattle.session.specs.Heads.{isExpired, inTurn, copiedHead, allThere}
+use Rattle.session.specs.Counting.{raised, expiredMark}
+use Rattle.receive_call.specs.Call.{Call, listed}
+use Rattle.receive_call.specs.Slots.{Slot, Slots, within, slotAt, impossible, chosen, live, openedSlot, resetSlot, copiedSlot}
+
+-- ---- what happens
+
+pub data Event : Type 0 where
+  -- step 2: "PGN not listed"
+  notListed : Event
+  -- step 3: announced 0 or over 223; a message of 1 to 6 bytes; no slot to take; slot i opened, and whether the message it held is late
+  rejected shortMessage poolFull : Event
+  opened : ℕ → Bool → Event
+  -- step 4: no live slot with this key; slot i reset; a fragment copied to slot i; and all is there
+  stray : Event
+  outOfTurn copied completed : ℕ → Event
+
+-- "A slot taken while in progress and silent over 500 counts in expired_sessions."
+unfoldable pub opensAt : Rules → Heard → List Slot → Option ℕ → Event
+opensAt R f ss none = poolFull
+opensAt R f ss (some i) = opened i (isExpired R f (slotAt ss i .head))
+
+-- "Size 1 to 6: MessageComplete at once, slots untouched. Otherwise take .."
+unfoldable pub firstShort : Bool → Rules → Heard → List Slot → Event
+firstShort true R f ss = shortMessage
+firstShort false R f ss = opensAt R f ss (chosen R f ss)
+
+-- "0 or over 223: Ignored, rejected_frames."
+unfoldable pub firstSized : Bool → Rules → Heard → List Slot → Event
+firstSized true R f ss = rejected
+firstSized false R f ss = firstShort (leb (sizeOf f) 6) R f ss
+
+-- "MessageComplete with reset when all is there, else FragmentConsumed"
+unfoldable pub copyAt : Bool → ℕ → Event
+copyAt true i = completed i
+copyAt false i = copied i
+
+-- "Index not last index + 1: the slot is reset .. Otherwise copy"
+unfoldable pub turnAt : Bool → Heard → ℕ → Head → Event
+turnAt true f i h = copyAt (allThere (copiedHead f h)) i
+turnAt false f i h = outOfTurn i
+
+-- "None: a stray"
+unfoldable pub continuesAt : Heard → List Slot → Option ℕ → Event
+continuesAt f ss none = stray
+continuesAt f ss (some i) = turnAt (inTurn f (slotAt ss i .head)) f i (slotAt ss i .head)
+
+-- step 3 at "Index 0", step 4 at "Index 1 to 31"
+unfoldable pub byIndex : Bool → Rules → Heard → List Slot → Event
+byIndex true R f ss = firstSized (badSize f) R f ss
+byIndex false R f ss = continuesAt f ss (live R f ss)
+
+-- step 2
+unfoldable pub byList : Bool → Rules → Heard → List Slot → Event
+byList false R f ss = notListed
+byList true R f ss = byIndex (eqb (indexOf f) 0) R f ss
+
+-- steps 2 to 4, over the slots within the size
+unfoldable pub eventOf : Rules → List Slot → Call → Event
+eventOf R ss c = byList (listed c) R (c .heard) ss
+
+-- ---- what that does to the slots
+
+unfoldable pub slotsAfter : Heard → List Slot → Event → List Slot
+slotsAfter f ss notListed = ss
+slotsAfter f ss rejected = ss
+slotsAfter f ss shortMessage = ss
+slotsAfter f ss poolFull = ss
+slotsAfter f ss (opened i late) = set ss i (openedSlot f (slotAt ss i))
+slotsAfter f ss stray = ss
+slotsAfter f ss (outOfTurn i) = set ss i (resetSlot (slotAt ss i))
+slotsAfter f ss (copied i) = set ss i (copiedSlot f (slotAt ss i))
+slotsAfter f ss (completed i) = set ss i (resetSlot (copiedSlot f (slotAt ss i)))
+
+-- ---- which counter it marks
+
+unfoldable pub markOf : Event → Mark
+markOf notListed = Unknown
+markOf rejected = Rejected
+markOf shortMessage = Nothing
+markOf poolFull = Exhausted
+markOf (opened i late) = expiredMark late
+markOf stray = Lost
+markOf (outOfTurn i) = Lost
+markOf (copied i) = Nothing
+markOf (completed i) = Nothing
+
+-- ---- what is answered
+
+pub data Said : Type 0 where
+  ignored consumed : Said
+  -- the payload, and its length
+  complete : List ℕ → ℕ → Said
+
+-- an answer by 01's table: one of the three, or a refusal's number with what it carries
+abbrev pub Reply : Type 0
+Reply = Answer Said
+
+-- "its bytes, zeros up to 223"
+unfoldable pub padded : List ℕ → List ℕ
+padded bytes = bytes ++ replicate (maxPayload - length bytes) 0
+
+-- "A complete message is its bytes, zeros up to 223, and its length"
+unfoldable pub message : List ℕ → Said
+message bytes = complete (padded bytes) (length bytes)
+
+unfoldable pub saidOf : Heard → List Slot → Event → Said
+saidOf f ss notListed = ignored
+saidOf f ss rejected = ignored
+saidOf f ss shortMessage = message (take (sizeOf f) (firstBytes f))
+saidOf f ss poolFull = ignored
+saidOf f ss (opened i late) = consumed
+saidOf f ss stray = ignored
+saidOf f ss (outOfTurn i) = ignored
+saidOf f ss (copied i) = consumed
+saidOf f ss (completed i) = message (take (slotAt ss i .head .«expected_size») (copiedSlot f (slotAt ss i) .buffer))
+
+-- ---- one call
+
+pub record Outcome : Type 0 where
+  pub reply : Reply
+  pub pool : Slots
+  pub counters : Counters
+
+-- "Slots past the size are ignored and kept."
+unfoldable pub outcome : Heard → Event → Slots → Counters → Outcome
+outcome f e p k =
+    record {
+      reply = gives (saidOf f (within p) e);
+      pool = record { slots = slotsAfter f (within p) e ++ drop (p .size) (p .slots); size = p .size };
+      counters = raised (markOf e) k;
+    }
+
+-- step 1: "Refusal 1 if .."; "the pool comes back unchanged with 1"
+unfoldable pub stepIf : Bool → Rules → Slots → Counters → Call → Outcome
+stepIf true R p k c = record { reply = refuses 1 []; pool = p; counters = k }
+stepIf false R p k c = outcome (c .heard) (eventOf R (within p) c) p k
+
+unfoldable pub step : Rules → Slots → Counters → Call → Outcome
+step R p k c = stepIf (impossible R p) R p k c

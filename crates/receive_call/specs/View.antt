@@ -1,0 +1,80 @@
+-- The pool of the code as slots, and back: slot k is heads[k] with the 223 bytes from 223 * k on. What the receive call answers.
+use mathlib.Core.List.{List, [], _∷_, _++_, map}
+use Prim.Native.Nat.{ℕ}
+use lib.ListN.{take, drop, replicate}
+use Rattle.base.specs.Answer.{gives, refuses}
+use Rattle.fast_packet.specs.FastPacket.{maxPayload}
+use Rattle.session.specs.declared.Head.{Head}
+use Rattle.session.specs.declared.Heard.{Heard}
+use Rattle.session.specs.declared.Counters.{Counters}
+use Rattle.session.specs.declared.Kind.{Kind}
+use Rattle.session.specs.declared.Kind.the-variants.{Refused, Ignored, FragmentConsumed, MessageComplete}
+use Rattle.session.specs.Rules.{Rules}
+use Rattle.pool.specs.declared.Pool.{Pool}
+use Rattle.receive_call.specs.declared.Received.{Received}
+use Rattle.receive_call.specs.Call.{Call}
+use Rattle.receive_call.specs.Slots.{Slot, Slots}
+use Rattle.receive_call.specs.Step.{Said, ignored, consumed, complete, Reply, Outcome, step}
+
+-- ---- the pool as slots
+
+unfoldable pub slotsFrom : List Head → List ℕ → List Slot
+slotsFrom [] bytes = []
+slotsFrom (h ∷ hs) bytes = record { head = h; buffer = take maxPayload bytes } ∷ slotsFrom hs (drop maxPayload bytes)
+
+unfoldable pub slotsOf : Pool → Slots
+slotsOf p = record { slots = slotsFrom (p .heads) (p .bytes); size = p .size }
+
+-- ---- and back
+
+unfoldable pub headOf : Slot → Head
+headOf s = s .head
+
+unfoldable pub flat : List Slot → List ℕ
+flat [] = []
+flat (s ∷ ss) = s .buffer ++ flat ss
+
+unfoldable pub poolOf : Slots → Pool
+poolOf p = record { size = p .size; heads = map headOf (p .slots); bytes = flat (p .slots) }
+
+-- ---- 01's answers as kind, payload and length: "other answers carry 223 zeros and length 0"
+
+unfoldable pub zeros : List ℕ
+zeros = replicate maxPayload 0
+
+unfoldable pub kindOf : Reply → Kind
+kindOf (refuses n carried) = Refused n
+kindOf (gives ignored) = Ignored
+kindOf (gives consumed) = FragmentConsumed
+kindOf (gives (complete bytes n)) = MessageComplete
+
+unfoldable pub payloadOf : Reply → List ℕ
+payloadOf (refuses n carried) = zeros
+payloadOf (gives ignored) = zeros
+payloadOf (gives consumed) = zeros
+payloadOf (gives (complete bytes n)) = bytes
+
+unfoldable pub lengthOf : Reply → ℕ
+lengthOf (refuses n carried) = 0
+lengthOf (gives ignored) = 0
+lengthOf (gives consumed) = 0
+lengthOf (gives (complete bytes n)) = n
+
+unfoldable pub shown : Outcome → Received
+shown o = record { kind = kindOf (o .reply); payload = payloadOf (o .reply); length = lengthOf (o .reply); pool = poolOf (o .pool); counters = o .counters }
+
+-- 01's number and values of each kind of answer, with the payload and length beside it
+unfoldable pub replyBy : Kind → List ℕ → ℕ → Reply
+replyBy (Refused n) payload length = refuses n []
+replyBy Ignored payload length = gives ignored
+replyBy FragmentConsumed payload length = gives consumed
+replyBy MessageComplete payload length = gives (complete payload length)
+
+unfoldable pub replyOf : Received → Reply
+replyOf r = replyBy (r .kind) (r .payload) (r .length)
+
+-- ---- the call
+
+-- one call with eight bytes
+unfoldable pub receiveOf : Rules → List ℕ → Heard → Pool → Counters → Received
+receiveOf R pgns f p k = shown (step R (slotsOf p) k (record { pgns = pgns; heard = f }))

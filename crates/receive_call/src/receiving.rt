@@ -1,0 +1,73 @@
+// The receive call. It is straight-line code with one walk: a plan that changes nothing writes the same head back, stores and delivers no bytes.
+ghost use mathlib.Core.Path.{_≡_};
+ghost use Rattle.base.specs.Pick.{pick};
+ghost use Rattle.fast_packet.specs.FastPacket.{listedIn};
+ghost use Rattle.session.specs.Rules.{base};
+ghost use Rattle.receive_call.specs.View.{receiveOf};
+use crate::Received;
+use crate::bytes::deliver;
+use crate::bytes::deliver_short;
+use crate::bytes::store;
+use fast_packet::MAX_FAST_PACKET_PAYLOAD;
+use fast_packet::is_listed;
+use plan::decide;
+use pool::Pool;
+use session::Counters;
+use session::Heard;
+use session::POOL_LIMIT;
+use session::count;
+use slot_search::look;
+use slot_search::nothing_found;
+use slot_search::place_for;
+use slot_search::within_limit;
+
+// True when the list has the PGN. Branch on this, not on Ignored, which cannot tell a single frame from a lost fragment.
+pub fn handles(pgns: &[u32], pgn: u32) -> bool
+    ensures { λ r. ⌜ r ≡ listedIn pgn (now (pgns .entry)) ⌝ }
+{
+    is_listed(pgns, pgn)
+}
+
+fn either(b: bool, x: usize, y: usize) -> usize
+    ensures { λ r. ⌜ r ≡ pick b x y ⌝ }
+{
+    if b { x } else { y }
+}
+
+// One call, with pool and counters in and out by value.
+pub fn receive(pool: Pool, counters: Counters, pgns: &[u32], heard: Heard) -> Received
+    ensures { λ r. ⌜ r ≡ receiveOf base (now (pgns .entry)) heard pool counters ⌝ }
+{
+    let mut q = pool;
+    // of a pool that is too large nothing is looked at
+    let crowded = POOL_LIMIT < q.size;
+    let mut s = nothing_found(crowded);
+    let mut i = either(crowded, 0, q.size);
+    while 0 < i {
+        i -= 1;
+        s = look(q.heads[i], s, i, heard);
+    }
+    let listed = is_listed(pgns, heard.pgn);
+    let place = place_for(s, heard);
+    let found = place < POOL_LIMIT;
+    let g = within_limit(place);
+    let d = decide(s.bad, listed, found, q.heads[g], heard);
+    let h = d.head;
+    q.heads[g] = h;
+    let frame = heard.data;
+    let start = g * MAX_FAST_PACKET_PAYLOAD;
+    store(&mut q.bytes, start + d.at, frame, d.from, d.count);
+    let mut payload = [0u8; MAX_FAST_PACKET_PAYLOAD];
+    deliver(&mut payload, &q.bytes, start, d.whole);
+    deliver_short(&mut payload, frame, d.short);
+    let mark = d.mark;
+    let c = count(counters, mark);
+    let kind = d.kind;
+    Received {
+        kind: kind,
+        payload: payload,
+        length: d.whole + d.short,
+        pool: q,
+        counters: c,
+    }
+}
