@@ -45,9 +45,6 @@ frameOf id bytes len = record { id = record { 0 = id }; «data» = bytes; len = 
 abbrev pub noFrame : CanFrame
 noFrame = frameOf 0 (replicate 8 0) 0
 
-abbrev pub frameless : Kind → ℕ → ℕ → Step
-frameless k index bytes = record { kind = k; sent = noFrame; index = index; bytes = bytes }
-
 abbrev pub sentStep : CanFrame → ℕ → ℕ → Step
 sentStep f index bytes = record { kind = frame; sent = f; index = index; bytes = bytes }
 
@@ -56,10 +53,10 @@ abbrev pub laidStep : ℕ → Laid → Step
 laidStep id l = sentStep (frameOf id (l .«data») (l .len)) (l .«frame_index») (l .«bytes_sent»)
 
 abbrev pub endStep : ℕ → ℕ → Step
-endStep index bytes = frameless end index bytes
+endStep index bytes = record { kind = end; sent = noFrame; index = index; bytes = bytes }
 
 abbrev pub refusedStep : ℕ → List ℕ → ℕ → ℕ → Step
-refusedStep n carried index bytes = frameless (refusal n carried) index bytes
+refusedStep n carried index bytes = record { kind = refusal n carried; sent = noFrame; index = index; bytes = bytes }
 
 -- ---- step 6: the frame with its bytes, "and the length is 8"; the first, with the length in byte 1, or a later one
 abbrev pub firstStep : ℕ → ℕ → ℕ → List ℕ → Step

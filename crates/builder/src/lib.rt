@@ -2,7 +2,7 @@
 ghost use mathlib.Core.Path.{_≡_};
 ghost use Rattle.can_id.specs.Build.{answerOf, buildOf, numberOf, carriedOf};
 ghost use Rattle.builder.specs.Builder.{madeOf, withSequence, withPriority, withDestination, idBuilder};
-ghost use Rattle.builder.specs.Next.{kindOf, frameless, laidStep, stepOf, nextOf, framedStep};
+ghost use Rattle.builder.specs.Next.{noFrame, laidStep, stepOf, nextOf, endStep, refusedStep, framedStep};
 ghost use Rattle.builder.specs.Frames.{started, turnOf, nextTurn};
 use can_id::Built;
 use can_id::CanFrame;
@@ -48,6 +48,17 @@ pub struct Next {
     pub bytes_sent: usize,
 }
 
+// Zeros in a frame's place.
+fn no_frame() -> CanFrame
+    ensures { λ r. ⌜ r ≡ noFrame ⌝ }
+{
+    CanFrame {
+        id: CanId(0),
+        data: [0; 8],
+        len: 0,
+    }
+}
+
 impl Next {
     fn sent(id: CanId, laid: Laid) -> Self
         ensures { λ r. ⌜ stepOf r ≡ laidStep (id .0) laid ⌝ }
@@ -66,18 +77,23 @@ impl Next {
         }
     }
 
-    // Zeros in a frame's place.
-    fn without(kind: NextKind, frame_index: u8, bytes_sent: usize) -> Self
-        ensures { λ r. ⌜ stepOf r ≡ frameless (kindOf kind) «frame_index» «bytes_sent» ⌝ }
+    fn end(frame_index: u8, bytes_sent: usize) -> Self
+        ensures { λ r. ⌜ stepOf r ≡ endStep «frame_index» «bytes_sent» ⌝ }
     {
-        let frame = CanFrame {
-            id: CanId(0),
-            data: [0; 8],
-            len: 0,
-        };
         Next {
-            kind: kind,
-            frame: frame,
+            kind: NextKind::End,
+            frame: no_frame(),
+            frame_index: frame_index,
+            bytes_sent: bytes_sent,
+        }
+    }
+
+    fn refused(error: CanIdBuildError, frame_index: u8, bytes_sent: usize) -> Self
+        ensures { λ r. ⌜ stepOf r ≡ refusedStep (numberOf error) (carriedOf error) «frame_index» «bytes_sent» ⌝ }
+    {
+        Next {
+            kind: NextKind::Refused(error),
+            frame: no_frame(),
             frame_index: frame_index,
             bytes_sent: bytes_sent,
         }
@@ -165,8 +181,7 @@ impl FastPacketBuilder {
     {
         let total_len = payload.len();
         if (total_len > MAX_FAST_PACKET_PAYLOAD) | (!self.fast & (total_len > 8)) {
-            let too_long = NextKind::Refused(CanIdBuildError::InvalidData);
-            return Next::without(too_long, frame_index, total_len);
+            return Next::refused(CanIdBuildError::InvalidData, frame_index, total_len);
         }
         let laid = lay(
             self.fast,
@@ -185,19 +200,15 @@ impl FastPacketBuilder {
         let total_len = payload.len();
         // An empty payload has nothing to send: say so once instead of ending as if every frame had gone out.
         if (total_len == 0) & (frame_index == 0) {
-            let empty = NextKind::Refused(CanIdBuildError::EmptyPayload);
-            return Next::without(empty, 1, bytes_sent);
+            return Next::refused(CanIdBuildError::EmptyPayload, 1, bytes_sent);
         }
         if bytes_sent >= total_len {
-            return Next::without(NextKind::End, frame_index, bytes_sent);
+            return Next::end(frame_index, bytes_sent);
         }
         let built = self.identifier();
         match built {
             Built::Id(id) => return self.framed(id, frame_index, bytes_sent, payload),
-            Built::Refused(error) => {
-                let refused = NextKind::Refused(error);
-                return Next::without(refused, frame_index, total_len);
-            }
+            Built::Refused(error) => return Next::refused(error, frame_index, total_len),
         }
     }
 

@@ -1,7 +1,6 @@
 // Creation and reading of the 29-bit CAN identifiers of NMEA 2000, by the layout of SAE J1939-21.
 ghost use mathlib.Core.Path.{_≡_};
 ghost use Prim.Native.Nat.{_<_};
-ghost use Rattle.base.specs.Answer.{gives};
 ghost use Rattle.can_id.specs.Layout.{priorityOf, pgnOf, destinationOf, sourceOf};
 ghost use Rattle.can_id.specs.Build.{answerOf, buildOf, fresh, withPriority, withDestination, idWith};
 
@@ -117,12 +116,12 @@ pub struct CanIdBuilder {
 }
 
 // The identifier of these parts; PS is the destination or the PGN's low byte.
-fn compose(priority: u8, pgn: u32, ps: u8, source_address: u8) -> Built
+fn compose(priority: u8, pgn: u32, ps: u8, source_address: u8) -> CanId
     requires { ⌜ (pgn < 0x4_0000) × (priority < 8) ⌝ }
-    ensures { λ r. ⌜ answerOf r ≡ gives (idWith priority pgn ps «source_address») ⌝ }
+    ensures { λ r. ⌜ r .0 ≡ idWith priority pgn ps «source_address» ⌝ }
 {
     let high = priority as u32 * 0x400_0000 + (pgn >> 8) * 0x1_0000;
-    Built::Id(CanId(high + ps as u32 * 0x100 + source_address as u32))
+    CanId(high + ps as u32 * 0x100 + source_address as u32)
 }
 
 impl CanIdBuilder {
@@ -192,7 +191,7 @@ impl CanIdBuilder {
                 if pf < 240 {
                     return Built::Refused(CanIdBuildError::InvalidForBroadcast);
                 }
-                return compose(priority, pgn, ps, self.source_address);
+                return Built::Id(compose(priority, pgn, ps, self.source_address));
             }
             Destination::To(da) => {
                 if pf >= 240 {
@@ -201,7 +200,7 @@ impl CanIdBuilder {
                 if ps != 0 {
                     return Built::Refused(CanIdBuildError::PsFocusMessageMustBeNull);
                 }
-                return compose(priority, pgn, da, self.source_address);
+                return Built::Id(compose(priority, pgn, da, self.source_address));
             }
         }
     }

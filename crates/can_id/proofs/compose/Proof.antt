@@ -1,8 +1,5 @@
 -- `compose` meets its contract: the code is the definition. Assumes nothing.
 use borrow.Author.Needs.{needs}
-use mathlib.Core.Path.{ap}
-use native.Mathlib.Omega.{arith}
-use Rattle.base.specs.Answer.{gives}
 use Rattle.can_id.proofs.compose.Statement.{statement}
 use Rattle.can_id.proofs.compose.Tie as tie
 
@@ -16,4 +13,4 @@ compose-spec =
     (λ c. search needs)
     (λ c. search needs)
     (λ c. search needs)
-    (λ c. ap gives (omega arith)))
+    (λ c. search needs))

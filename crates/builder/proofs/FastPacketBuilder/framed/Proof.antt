@@ -5,7 +5,7 @@ use Rattle.builder.proofs.FastPacketBuilder.framed.Statement.{statement
 use Rattle.builder.proofs.FastPacketBuilder.framed.Tie as tie
 
 returns : tie.Need-returns
-returns c = framed-refused _ _ _ _ _ (c .before .if1 .taken) (c .without .ensures)
+returns c = framed-refused _ _ _ _ _ (c .before .if1 .taken) (c .refused .ensures)
 
 returns-2 : tie.Need-returns-2
 returns-2 c = framed-sent _ _ _ _ _ (c .before .before .if1 .left) (c .before .lay .ensures) (c .sent .ensures)
