@@ -2,7 +2,8 @@
 ghost use mathlib.Core.Path.{_≡_};
 ghost use Rattle.pool.specs.Making.{freshPool, madeOf};
 ghost use Rattle.fast_packet.specs.FastPacket.{listedIn};
-ghost use Rattle.pool_numbers.specs.Pool.{heardOf, Left, calledWith, calledWithLength, MadeAs, plainly};
+ghost use Rattle.pool_numbers.specs.Pool.{heardOf, Left, MadeAs, plainly};
+ghost use Rattle.ffi.specs.Calls.{calledWith, calledWithLength};
 use assembler::HeardWithLength;
 use assembler::Made;
 use assembler::POOL_BYTES;

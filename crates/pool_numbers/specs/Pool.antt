@@ -7,18 +7,14 @@ use lib.Dec.{eqb}
 use lib.ListN.{getD, set, replicate}
 use Rattle.base.specs.Pick.{pick}
 use Rattle.session.specs.Heads.{freshHead}
-use Rattle.session.specs.Rules.{base}
 use Rattle.session.specs.declared.Head.{Head}
 use Rattle.session.specs.declared.Heard.{Heard}
 use Rattle.session.specs.declared.Counters.{Counters}
 use Rattle.session.specs.declared.Kind.{Kind}
 use Rattle.session.specs.declared.Kind.the-variants.{Refused, Ignored, FragmentConsumed, MessageComplete}
-use Rattle.receive_call.specs.View.{receiveOf}
-use Rattle.assembler.specs.Forms.{receiveWithLengthOf}
 use Rattle.pool.specs.declared.Pool.{Pool}
 use Rattle.pool.specs.declared.Made.{Made}
 use Rattle.receive_call.specs.declared.Received.{Received}
-use Rattle.assembler.specs.declared.HeardWithLength.{HeardWithLength}
 use Rattle.numbers.specs.Numbers.{isSet, flagOn, byteOn, wordOn}
 
 -- a head is eight numbers, each read in the width of its field
@@ -112,15 +108,6 @@ pub record Left (r : Received) (old was : List ℕ) (code : ℕ) (heads bytes co
   pub counted : counters ≡ counterNumbers (r .counters)
   pub delivered : payload ≡ deliveredOn (r .kind) (r .payload) was
   pub measured : len ≡ r .length
-
--- the receive call on a pool and counters of numbers
-unfoldable pub calledWith : ℕ → List ℕ → List ℕ → List ℕ → List ℕ → Heard → Received
-calledWith size heads bytes counters pgns heard = receiveOf base pgns heard (poolFrom size heads bytes) (countersFrom counters)
-
--- and of a frame with a length
-unfoldable pub calledWithLength : ℕ → List ℕ → List ℕ → List ℕ → List ℕ → Heard → ℕ → Received
-calledWithLength size heads bytes counters pgns heard len =
-    receiveWithLengthOf base pgns (record { heard = heard; length = len }) (poolFrom size heads bytes) (countersFrom counters)
 
 -- a fresh pool is laid on 64 zeros
 unfoldable pub blank : List ℕ
