@@ -10,17 +10,6 @@ use Rattle.base.specs.Pick.{pick}
 use Rattle.session.specs.Rules.{poolLimit}
 use Rattle.batch.specs.inner.Ways.{refusalOf}
 
--- two tests of which one passes exactly where the other does
-pub same-test : (a b c d : ℕ) → (a < b → c < d) → (c < d → a < b) → ltb a b ≡ ltb c d
-same-test a b c d f g =
-    less? a b (λ l. rw (lt-ltb a b l, lt-ltb c d (f l)))
-    (λ l. less? c d (λ m. absurd (omega (arith, g m))) (λ m. rw (le-ltb a b l, le-ltb c d m)))
-
-pub room-left : (room used n : ℕ) → used ≤ room → ltb (room - used) n ≡ ltb room (used + n)
-room-left room used n h = same-test (room - used) n room (used + n) (λ l. omega arith) (λ l. omega arith)
-
-pub ruleset short-rules = (room-left)
-
 -- a message that has room fits
 pub has-room : (room used n : ℕ) (b : Bool) → b ≡ ltb room (used + n) → b ≡ false → used + n ≤ room
 has-room room used n b eb y = ltb-false room (used + n) (sym eb ∙ y)

@@ -2,7 +2,6 @@
 ghost use mathlib.Core.Path.{_≡_};
 ghost use Prim.Native.Nat.{_+_, _*_, _<_, _≤_};
 ghost use lib.ListN.{length, take, drop};
-ghost use lib.Dec.{ltb};
 ghost use Rattle.batch.specs.Rows.{frameAt, kindNumber};
 use session::Heard;
 use session::Kind;
@@ -42,12 +41,4 @@ pub(crate) fn number_of(kind: Kind) -> u8
         Kind::MessageComplete => 2,
         Kind::Refused(_) => 3,
     }
-}
-
-// Whether a message of n bytes has no room, where `used` of `room` bytes are taken.
-pub(crate) fn no_room(room: usize, used: usize, n: usize) -> bool
-    requires { ⌜ used ≤ room ⌝ }
-    ensures { λ r. ⌜ r ≡ ltb room (used + n) ⌝ }
-{
-    room - used < n
 }

@@ -1,6 +1,6 @@
-// Whether the rows that a batch is lent are long enough.
+// Whether the rows that a batch is lent are long enough, and its arena for one message more.
 ghost use mathlib.Core.Path.{_≡_};
-ghost use Rattle.row_lengths.specs.Lengths.{tooShort};
+ghost use Rattle.row_lengths.specs.Lengths.{tooShort, noRoom};
 
 // Whether a row is shorter than the n frames ask: one entry for each of them, and eight bytes.
 pub fn too_short(
@@ -26,4 +26,11 @@ pub fn too_short(
         return true;
     }
     lengths < n
+}
+
+// Whether a message of n bytes has no room, where `used` of `room` bytes are taken; no sum is taken, so none is too large.
+pub fn no_room(room: usize, used: usize, n: usize) -> bool
+    ensures { λ r. ⌜ r ≡ noRoom room used n ⌝ }
+{
+    if used <= room { room - used < n } else { true }
 }

@@ -73,9 +73,6 @@ loop-less c = nearer _ _ (c .before .before .before .before .before .before .bef
 loop-again : tie.Need-loop-again Inv-loop μ-loop
 loop-again c = (step-missed _ _ _ _ _ _ _ _ _ _ _ _ _ _ _ _ _ (c .before .before .before .before .before .before .before .before .before .before .before .before .before .before .before .loop .inv .0) (c .before .before .before .before .before .before .before .before .before .before .before .before .before .before .loop-test .taken) _ (c .before .before .before .before .before .before .before .before .before .before .before .before .before .frame-at .ensures) _ (looked-right _ _ _ (c .before .before .before .before .before .before .before .before .before .before .before .before .before .before .before .loop .inv .1) _ _ _ _ (c .before .before .before .before .before .before .before .before .before .before .looked-up .ensures) .0) _ (c .before .before .before .before .before .before .before .before .before .key-of-frame .ensures) _ (c .before .before .before .before .before .seek .ensures) (c .before .before .before .if2 .taken) _ (c .before .before .short-in .ensures .0) (c .before .if3 .taken) _ (c .missed .ensures), looked-right _ _ _ (c .before .before .before .before .before .before .before .before .before .before .before .before .before .before .before .loop .inv .1) _ _ _ _ (c .before .before .before .before .before .before .before .before .before .before .looked-up .ensures) .1)
 
-no-room-requires : tie.Need-no-room-requires Inv-loop μ-loop
-no-room-requires c κs = c .before .before .before .before .before .before .before .before .before .before .before .before .before .before .loop .inv .0 .run .room
-
 same-length : tie.Need-same-length Inv-loop μ-loop
 same-length c = search (needs, c .before .before .before .before .before .before .before .before .before .before .before .before .before .before .before .before .loop .inv .0 .run .kinds)
 
@@ -137,9 +134,6 @@ loop-less-3 c = nearer _ _ (c .before .before .before .before .before .before .b
 
 loop-again-3 : tie.Need-loop-again-3 Inv-loop μ-loop
 loop-again-3 c = (step-running _ _ _ _ _ _ _ _ _ _ _ _ _ _ _ _ _ (c .before .before .before .before .before .before .before .before .before .before .before .before .before .before .before .before .before .before .loop .inv .0) (c .before .before .before .before .before .before .before .before .before .before .before .before .before .before .before .before .before .loop-test .taken) _ (c .before .before .before .before .before .before .before .before .before .before .before .before .before .before .before .before .frame-at .ensures) _ (looked-right _ _ _ (c .before .before .before .before .before .before .before .before .before .before .before .before .before .before .before .before .before .before .loop .inv .1) _ _ _ _ (c .before .before .before .before .before .before .before .before .before .before .before .before .before .looked-up .ensures) .0) _ (c .before .before .before .before .before .before .before .before .before .before .before .before .key-of-frame .ensures) _ (c .before .before .before .before .before .before .before .before .seek .ensures) (c .before .before .before .before .before .before .if2 .left) _ _ (c .before .before .before .before .runs-on .ensures) (c .before .before .before .if5 .taken) _ (c .before .before .ran-on .ensures) _ (c .keep .ensures), looked-right _ _ _ (c .before .before .before .before .before .before .before .before .before .before .before .before .before .before .before .before .before .before .loop .inv .1) _ _ _ _ (c .before .before .before .before .before .before .before .before .before .before .before .before .before .looked-up .ensures) .1)
-
-no-room-requires-2 : tie.Need-no-room-requires-2 Inv-loop μ-loop
-no-room-requires-2 c κs = c .before .before .before .before .before .before .before .before .before .before .before .before .before .before .before .before .loop .inv .0 .run .room
 
 same-length-4 : tie.Need-same-length-4 Inv-loop μ-loop
 same-length-4 c = search (needs, c .before .before .before .before .before .before .before .before .before .before .before .before .before .before .before .before .before .before .loop .inv .0 .run .kinds)
@@ -222,7 +216,7 @@ process-frames-spec =
     add-i
     loop-less
     loop-again
-    no-room-requires
+    (λ c κs. search needs)
     same-length
     same-length-2
     same-length-3
@@ -250,7 +244,7 @@ process-frames-spec =
     loop-less-3
     loop-again-3
     (λ c κs. search needs)
-    no-room-requires-2
+    (λ c κs. search needs)
     same-length-4
     same-length-5
     same-length-6
