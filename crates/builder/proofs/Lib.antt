@@ -1,3 +1,5 @@
+pub mod Copies
+pub mod LaidLaws
 pub mod NextLaws
 pub mod Unique
 pub mod NoThree

@@ -15,8 +15,8 @@ use Rattle.can_id.specs.declared.CanId.{CanId}
 use Rattle.can_id.specs.declared.CanIdBuildError.{CanIdBuildError}
 use Rattle.can_id.specs.declared.Destination.{Destination}
 use Rattle.fast_packet.specs.FastPacket.{listedIn, maxPayload}
-use Rattle.frame_bytes.specs.Laid.{laidOf}
-use Rattle.frame_bytes.specs.declared.Laid.{Laid}
+use Rattle.builder.specs.Laid.{laidOf}
+use Rattle.builder.specs.declared.frame_bytes.Laid.{Laid}
 use Rattle.builder.specs.Builder.{madeOf, idBuilder}
 use Rattle.builder.specs.Next.{Step, laidStep, endStep, refusedStep, framedStep, builtStep, nextOf}
 use Rattle.builder.specs.declared.FastPacketBuilder.{FastPacketBuilder}

@@ -8,8 +8,8 @@ use Rattle.base.specs.Answer.{Answer, gives, refuses}
 use Rattle.can_id.specs.Build.{numberOf, carriedOf, buildOf}
 use Rattle.can_id.specs.declared.CanFrame.{CanFrame}
 use Rattle.fast_packet.specs.FastPacket.{maxPayload}
-use Rattle.frame_bytes.specs.Laid.{firstLaid, laterLaid, rawLaid}
-use Rattle.frame_bytes.specs.declared.Laid.{Laid}
+use Rattle.builder.specs.Laid.{firstLaid, laterLaid, rawLaid}
+use Rattle.builder.specs.declared.frame_bytes.Laid.{Laid}
 use Rattle.builder.specs.Builder.{idBuilder}
 use Rattle.builder.specs.declared.FastPacketBuilder.{FastPacketBuilder}
 use Rattle.builder.specs.declared.NextKind.{NextKind}

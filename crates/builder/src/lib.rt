@@ -4,6 +4,11 @@ ghost use Rattle.can_id.specs.Build.{answerOf, buildOf, numberOf, carriedOf};
 ghost use Rattle.builder.specs.Builder.{madeOf, withSequence, withPriority, withDestination, idBuilder};
 ghost use Rattle.builder.specs.Next.{noFrame, laidStep, stepOf, nextOf, endStep, refusedStep, framedStep};
 ghost use Rattle.builder.specs.Frames.{started, turnOf, nextTurn};
+
+mod frame_bytes;
+
+use crate::frame_bytes::Laid;
+use crate::frame_bytes::lay;
 use can_id::Built;
 use can_id::CanFrame;
 use can_id::CanId;
@@ -11,8 +16,6 @@ use can_id::CanIdBuildError;
 use can_id::CanIdBuilder;
 use can_id::Destination;
 use fast_packet::MAX_FAST_PACKET_PAYLOAD;
-use frame_bytes::Laid;
-use frame_bytes::lay;
 
 // ---- what goes in and what comes out
 

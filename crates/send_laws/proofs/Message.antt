@@ -16,7 +16,7 @@ use Rattle.can_id.specs.Build.{buildOf}
 use Rattle.can_id.specs.declared.Destination.{Destination}
 use Rattle.fast_packet.specs.FastPacket.{maxPayload, listedIn}
 use Rattle.builder.specs.Builder.{fastOf, madeOf, idBuilder}
-use Rattle.frame_bytes.specs.Laid.{headerOf}
+use Rattle.builder.specs.Laid.{headerOf}
 use Rattle.builder.specs.Next.{Step, frameOf, nextOf, sentStep, endStep, framedStep, rawStep}
 use Rattle.builder.specs.Frames.{started, nextTurn}
 use Rattle.send_laws.specs.Message.{iteratorOf, after, answerAt, framesOf, sentBefore, bytesAt, fastAnswer, rawAnswer, messageAnswer}

@@ -5,7 +5,7 @@ use lib.ListN.{length, drop}
 use lib.Dec.{ltb}
 use Rattle.base.specs.Pick.{pick}
 use Rattle.base.specs.Lists.{fill}
-use Rattle.frame_bytes.specs.Laid.{headerOf}
+use Rattle.builder.specs.Laid.{headerOf}
 use Rattle.builder.specs.Next.{Step, frameOf, sentStep, endStep, rawStep}
 use Rattle.builder.specs.Frames.{Turn, started, nextTurn}
 use Rattle.builder.specs.declared.FastPacketBuilder.{FastPacketBuilder}

@@ -7,7 +7,7 @@ use native.Mathlib.Omega.{arith}
 use lib.ListN.{length, getD, take, drop, set, replicate, length-drop}
 use lib.Seq.{drop-drop, getD-drop, paste, paste-zero, paste-suc}
 use Rattle.base.specs.Lists.{fill}
-use Rattle.frame_bytes.specs.inner.Placed.{headed, laidAt}
+use Rattle.builder.specs.inner.Placed.{headed, laidAt}
 
 fill-nil : (m : ℕ) → replicate m 255 ≡ fill m []
 unfolding fill

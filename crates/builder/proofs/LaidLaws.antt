@@ -7,9 +7,9 @@ use native.Mathlib.Omega.{arith}
 use borrow.Author.Tests.{eq-eqb, ne-eqb}
 use lib.ListN.{length}
 use Rattle.base.specs.Pick.{pick}
-use Rattle.frame_bytes.specs.Laid.{headerOf, indexAfter, laidOf}
-use Rattle.frame_bytes.specs.inner.Placed.{laidAt}
-use Rattle.frame_bytes.specs.declared.Laid.{Laid}
+use Rattle.builder.specs.Laid.{headerOf, indexAfter, laidOf}
+use Rattle.builder.specs.inner.Placed.{laidAt}
+use Rattle.builder.specs.declared.frame_bytes.Laid.{Laid}
 
 module _ (fast : Bool) (sequence index sent : ℕ) (p : List ℕ) {x : Laid} where
   pub laid-raw : fast ≡ false → x ≡ laidAt 255 255 0 index 0 p

@@ -4,7 +4,7 @@ use Prim.Native.Nat.{ℕ, _+_, _-_, min}
 use mathlib.Core.List.{List, _∷_, _++_}
 use lib.ListN.{length, take, drop, replicate}
 use Rattle.base.specs.Lists.{fill}
-use Rattle.frame_bytes.specs.declared.Laid.{Laid}
+use Rattle.builder.specs.declared.frame_bytes.Laid.{Laid}
 
 -- the row that a frame starts from
 abbrev pub headed : ℕ → ℕ → List ℕ

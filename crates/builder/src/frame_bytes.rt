@@ -2,12 +2,12 @@
 ghost use mathlib.Core.Path.{_≡_};
 ghost use Prim.Native.Nat.{_-_, _%_, _≤_, min};
 ghost use lib.ListN.{drop, replicate};
-ghost use Rattle.frame_bytes.specs.Laid.{headerOf, indexAfter, laidOf};
-ghost use Rattle.frame_bytes.specs.inner.Placed.{headed, laidAt};
+ghost use Rattle.builder.specs.Laid.{headerOf, indexAfter, laidOf};
+ghost use Rattle.builder.specs.inner.Placed.{headed, laidAt};
 use fast_packet::FILL;
 
 // What a frame has beside its identifier, with the frame index and the bytes sent that follow.
-pub struct Laid {
+pub(crate) struct Laid {
     pub data: [u8; 8],
     pub len: usize,
     pub frame_index: u8,
@@ -69,7 +69,13 @@ fn placed(head: u8, size: u8, at: usize, frame_index: u8, bytes_sent: usize, pay
 }
 
 // The frame of a payload at a frame index and after some bytes sent: fast, the first or a later one, or else raw.
-pub fn lay(fast: bool, sequence_id: u8, frame_index: u8, bytes_sent: usize, payload: &[u8]) -> Laid
+pub(crate) fn lay(
+    fast: bool,
+    sequence_id: u8,
+    frame_index: u8,
+    bytes_sent: usize,
+    payload: &[u8],
+) -> Laid
     ensures { λ r. ⌜ r ≡ laidOf fast «sequence_id» «frame_index» «bytes_sent» (now (payload .entry)) ⌝ }
 {
     if fast {

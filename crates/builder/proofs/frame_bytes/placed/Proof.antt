@@ -3,9 +3,9 @@ use Prim.Native.Nat.{_≤_, _-_}
 use mathlib.Core.Path.{_≡_}
 use borrow.Author.Needs.{needs}
 use lib.ListN.{length}
-use Rattle.frame_bytes.proofs.Copies.{copied, copying}
-use Rattle.frame_bytes.proofs.placed.Statement.{statement}
-use Rattle.frame_bytes.proofs.placed.Tie as tie
+use Rattle.builder.proofs.Copies.{copied, copying}
+use Rattle.builder.proofs.frame_bytes.placed.Statement.{statement}
+use Rattle.builder.proofs.frame_bytes.placed.Tie as tie
 
 abbrev Inv-loop : tie.InvT-loop
 Inv-loop head size at frame-index bytes-sent payload count out₀ i₀ out i =

@@ -6,7 +6,7 @@ use lib.ListN.{length, drop}
 use lib.Dec.{eqb}
 use Rattle.base.specs.Pick.{pick}
 use Rattle.base.specs.Lists.{fill}
-use Rattle.frame_bytes.specs.declared.Laid.{Laid}
+use Rattle.builder.specs.declared.frame_bytes.Laid.{Laid}
 
 -- ---- step 6: "byte 0 is (sequence modulo 8) times 32 plus (index modulo 32)"
 abbrev pub headerOf : ℕ → ℕ → ℕ

@@ -1,8 +1,8 @@
 -- `lay` meets its contract: each of the three frames by a law of its own. Assumes nothing.
 use borrow.Author.Needs.{needs}
-use Rattle.frame_bytes.proofs.LaidLaws.{laid-raw, laid-first, laid-later}
-use Rattle.frame_bytes.proofs.lay.Statement.{statement}
-use Rattle.frame_bytes.proofs.lay.Tie as tie
+use Rattle.builder.proofs.LaidLaws.{laid-raw, laid-first, laid-later}
+use Rattle.builder.proofs.frame_bytes.lay.Statement.{statement}
+use Rattle.builder.proofs.frame_bytes.lay.Tie as tie
 
 returns : tie.Need-returns
 returns c =
