@@ -16,8 +16,8 @@ use session::Head;
 use session::Heard;
 use session::POOL_LIMIT;
 use session::SESSION_TIMEOUT_MS;
-use slot_search::look;
-use slot_search::nothing_found;
+use session::look;
+use session::nothing_found;
 
 // What the single call's walk sees. The batch asks it once, whether the pool is possible.
 pub(crate) fn walk(heads: [Head; POOL_LIMIT], size: usize, heard: Heard) -> Found

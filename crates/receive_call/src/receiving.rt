@@ -16,10 +16,10 @@ use session::Counters;
 use session::Heard;
 use session::POOL_LIMIT;
 use session::count;
-use slot_search::look;
-use slot_search::nothing_found;
-use slot_search::place_for;
-use slot_search::within_limit;
+use session::look;
+use session::nothing_found;
+use session::place_for;
+use session::within_limit;
 
 // True when the list has the PGN. Branch on this, not on Ignored, which cannot tell a single frame from a lost fragment.
 pub fn handles(pgns: &[u32], pgn: u32) -> bool

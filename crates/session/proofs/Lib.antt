@@ -1,3 +1,5 @@
+pub mod SearchLaws
+pub mod SearchUnique
 pub mod Walks
 pub mod Seen
 pub mod Sound

@@ -2,10 +2,16 @@
 // what it makes of it crate `plan`. specs/ says what the tests and heads are (document 01); specs/inner/ how the code goes about a call.
 mod counting;
 mod heads;
+mod looks;
+mod places;
 
 pub use counting::count;
 pub use heads::fresh_head;
 pub use heads::is_silent;
+pub use looks::look;
+pub use places::nothing_found;
+pub use places::place_for;
+pub use places::within_limit;
 
 // The most sessions that a pool may have.
 pub const POOL_LIMIT: usize = 8;

@@ -1,6 +1,6 @@
 -- `receiving::either` meets its contract: the facts on each way out pick the law of that case. Assumes nothing.
 use borrow.Author.Needs.{needs}
-use Rattle.slot_search.proofs.Laws.{choices}
+use Rattle.session.proofs.SearchLaws.{choices}
 use Rattle.receive_call.proofs.receiving.either.Statement.{statement}
 use Rattle.receive_call.proofs.receiving.either.Tie as tie
 

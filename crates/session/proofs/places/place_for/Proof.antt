@@ -1,8 +1,8 @@
 -- `places::place_for` meets its contract: the facts on each way out pick the law of that case. Assumes nothing.
 use borrow.Author.Needs.{needs}
-use Rattle.slot_search.proofs.Laws.{choices}
-use Rattle.slot_search.proofs.places.place_for.Statement.{statement}
-use Rattle.slot_search.proofs.places.place_for.Tie as tie
+use Rattle.session.proofs.SearchLaws.{choices}
+use Rattle.session.proofs.places.place_for.Statement.{statement}
+use Rattle.session.proofs.places.place_for.Tie as tie
 
 pub place-for-spec : {M : Type 1} → statement M
 place-for-spec =

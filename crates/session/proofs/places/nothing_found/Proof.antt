@@ -1,9 +1,9 @@
 -- `places::nothing_found` meets its contract. Assumes nothing.
 use borrow.Author.Needs.{needs}
 use mathlib.Core.Path.{refl}
 use Rattle.session.specs.inner.Search.{blank}
-use Rattle.slot_search.proofs.places.nothing_found.Statement.{statement}
-use Rattle.slot_search.proofs.places.nothing_found.Tie as tie
+use Rattle.session.proofs.places.nothing_found.Statement.{statement}
+use Rattle.session.proofs.places.nothing_found.Tie as tie
 
 returns : tie.Need-returns
 unfolding blank

@@ -1,11 +1,11 @@
 -- `heads::has_key` meets its contract. Assumes nothing.
 use borrow.Author.Needs.{needs}
 use mathlib.Core.Path.{refl}
 use Rattle.session.specs.Rules.{keysEqual, base}
 use Rattle.session.specs.Frames.{keyOf, sequenceOf}
 use Rattle.session.specs.Heads.{headKey, hasKey}
-use Rattle.slot_search.proofs.heads.has_key.Statement.{statement}
-use Rattle.slot_search.proofs.heads.has_key.Tie as tie
+use Rattle.session.proofs.looks.has_key.Statement.{statement}
+use Rattle.session.proofs.looks.has_key.Tie as tie
 
 returns : tie.Need-returns
 unfolding hasKey base keysEqual headKey keyOf sequenceOf

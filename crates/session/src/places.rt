@@ -1,11 +1,11 @@
 // The place that a frame takes. A walk goes from the last head to the first, so that what is found last stands first.
 ghost use mathlib.Core.Path.{_≡_};
 ghost use Prim.Native.Nat.{_<_};
 ghost use Rattle.session.specs.Rules.{poolLimit};
 ghost use Rattle.session.specs.inner.Search.{blank, firstOf, placeOf, withinLimit};
-use session::Found;
-use session::Heard;
-use session::POOL_LIMIT;
+use crate::Found;
+use crate::Heard;
+use crate::POOL_LIMIT;
 
 // Where the walk begins: `bad` says that the pool itself is too large.
 pub fn nothing_found(bad: bool) -> Found

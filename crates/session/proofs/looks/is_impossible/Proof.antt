@@ -1,9 +1,9 @@
 -- `heads::is_impossible` meets its contract. Assumes nothing.
 use borrow.Author.Needs.{needs}
 use mathlib.Core.Path.{refl}
 use Rattle.session.specs.Heads.{impossibleHead}
-use Rattle.slot_search.proofs.heads.is_impossible.Statement.{statement}
-use Rattle.slot_search.proofs.heads.is_impossible.Tie as tie
+use Rattle.session.proofs.looks.is_impossible.Statement.{statement}
+use Rattle.session.proofs.looks.is_impossible.Tie as tie
 
 returns : tie.Need-returns
 unfolding impossibleHead

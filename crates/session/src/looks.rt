@@ -1,16 +1,16 @@
 // What a frame finds at one head. The tests run without a branch, so that they stand as their definitions do.
 ghost use mathlib.Core.Path.{_≡_};
 ghost use Rattle.base.specs.Pick.{pick};
 ghost use Rattle.session.specs.Rules.{base};
 ghost use Rattle.session.specs.Heads.{impossibleHead, hasKey};
 ghost use Rattle.session.specs.inner.Search.{looked};
+use crate::CONTINUATION_PAYLOAD;
+use crate::FIRST_FRAME_PAYLOAD;
+use crate::Found;
+use crate::Head;
+use crate::Heard;
+use crate::is_silent;
 use fast_packet::MAX_FAST_PACKET_PAYLOAD;
-use session::CONTINUATION_PAYLOAD;
-use session::FIRST_FRAME_PAYLOAD;
-use session::Found;
-use session::Head;
-use session::Heard;
-use session::is_silent;
 
 fn either(b: bool, x: usize, y: usize) -> usize
     ensures { λ r. ⌜ r ≡ pick b x y ⌝ }

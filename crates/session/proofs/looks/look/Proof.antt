@@ -1,8 +1,8 @@
 -- `heads::look` meets its contract: what the seven calls gave is put together by one law. Assumes nothing.
 use borrow.Author.Needs.{needs}
-use Rattle.slot_search.proofs.Laws.{look-is}
-use Rattle.slot_search.proofs.heads.look.Statement.{statement}
-use Rattle.slot_search.proofs.heads.look.Tie as tie
+use Rattle.session.proofs.SearchLaws.{look-is}
+use Rattle.session.proofs.looks.look.Statement.{statement}
+use Rattle.session.proofs.looks.look.Tie as tie
 
 returns : tie.Need-returns
 returns c =

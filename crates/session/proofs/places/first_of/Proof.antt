@@ -1,8 +1,8 @@
 -- `places::first_of` meets its contract: the facts on each way out pick the law of that case. Assumes nothing.
 use borrow.Author.Needs.{needs}
-use Rattle.slot_search.proofs.Laws.{choices}
-use Rattle.slot_search.proofs.places.first_of.Statement.{statement}
-use Rattle.slot_search.proofs.places.first_of.Tie as tie
+use Rattle.session.proofs.SearchLaws.{choices}
+use Rattle.session.proofs.places.first_of.Statement.{statement}
+use Rattle.session.proofs.places.first_of.Tie as tie
 
 pub first-of-spec : {M : Type 1} → statement M
 first-of-spec =
