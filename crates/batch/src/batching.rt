@@ -22,7 +22,6 @@ use crate::ways::short_in;
 use fast_packet::is_listed;
 use list_memory::PLACES;
 use list_memory::looked_up;
-use plan::decide;
 use pool::Pool;
 use row_lengths::no_room;
 use row_lengths::too_short;
@@ -30,6 +29,7 @@ use session::Counters;
 use session::Head;
 use session::Heard;
 use session::POOL_LIMIT;
+use session::decide;
 
 const IMPOSSIBLE_POOL: u8 = 1;
 

@@ -1,9 +1,12 @@
 // One session of the Fast Packet assembler, but for its bytes: its types, its silence and its counters. What a frame finds there is crate `slot_search`,
 // what it makes of it crate `plan`. specs/ says what the tests and heads are (document 01); specs/inner/ how the code goes about a call.
 mod counting;
+mod frames;
 mod heads;
 mod looks;
+mod moved;
 mod places;
+mod plans;
 
 pub use counting::count;
 pub use heads::fresh_head;
@@ -12,6 +15,7 @@ pub use looks::look;
 pub use places::nothing_found;
 pub use places::place_for;
 pub use places::within_limit;
+pub use plans::decide;
 
 // The most sessions that a pool may have.
 pub const POOL_LIMIT: usize = 8;

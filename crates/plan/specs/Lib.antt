@@ -1,1 +1,0 @@
--- No definitions of its own: what it promises stands in specs/ of `session`.

@@ -1,0 +1,113 @@
+-- The cases of the plan, as the code meets them: `search (needs, plans)` finds the case. Assumes nothing.
+use Prim.Native.Nat.{ℕ, _+_, _≤_, _<_}
+use mathlib.Core.Path.{_≡_, refl, _∙_}
+use mathlib.Core.Bool.{Bool, true, false, not, _&&_, _||_}
+use lib.Dec.{eqb, ltb, leb}
+use borrow.Author.Tests.{not-true, not-false, le-leb, lt-leb, eq-eqb, ne-eqb}
+use Rattle.session.specs.declared.Heard.{Heard}
+use Rattle.session.specs.declared.Head.{Head}
+use Rattle.session.specs.declared.Plan.{Plan}
+use Rattle.session.specs.declared.Mark.{Mark}
+use Rattle.session.specs.declared.Kind.the-variants.{Refused, Ignored, FragmentConsumed, MessageComplete}
+use Rattle.session.specs.declared.Mark.the-variants.{Nothing, Expired, Exhausted, Rejected, Lost, Unknown}
+use Rattle.session.specs.Rules.{Rules, silence, base}
+use Rattle.session.specs.Frames.{indexOf, sizeOf, badSize}
+use Rattle.session.specs.Heads.{isSilent, isExpired, inTurn, openedHead, resetHead, wanted, copiedHead, allThere}
+use Rattle.session.specs.Counting.{expiredMark}
+use Rattle.session.specs.inner.Plan.{idle, planOpen, planShort, planSized, planFirst, planCopy, planTurn, planNext, planIndex, planListed, planOf}
+
+module _ (f : Heard) (h : Head) (t : Bool) (e : t ≡ silence (f .«now_ms») (h .«last_seen_ms»)) where
+  pub mark-late : (h .«in_progress» && t) ≡ true → Expired ≡ expiredMark (isExpired base f h)
+  unfolding expiredMark isExpired isSilent base
+  mark-late y = rw (← e, y)
+
+  pub mark-early : (h .«in_progress» && t) ≡ false → Nothing ≡ expiredMark (isExpired base f h)
+  unfolding expiredMark isExpired isSilent base
+  mark-early y = rw (← e, y)
+
+pub turn-is : (f : Heard) (h : Head) (i a b : ℕ) → i ≡ indexOf f → a ≡ i → b ≡ h .«last_frame_index» → eqb a (b + 1) ≡ inTurn f h
+unfolding inTurn
+turn-is f h i a b ei ea eb = rw (ea, ei, eb)
+
+module _ (R : Rules) (f : Heard) (h : Head) where
+  pub open-none : (found : Bool) (r : Plan) → not found ≡ true → r ≡ idle Ignored Exhausted h → r ≡ planOpen found R f h
+  unfolding planOpen
+  open-none found r e er = er ∙ rw (not-true found e)
+
+  pub open-some : (found : Bool) (m : Mark) (t : Head) → not found ≡ false → m ≡ expiredMark (isExpired R f h) → t ≡ openedHead f
+      → record { kind = FragmentConsumed; mark = m; head = t; at = 0; from = 2; count = 6; whole = 0; short = 0 } ≡ planOpen found R f h
+  unfolding planOpen
+  open-some found m t e em et = rw (em, et, not-false found e)
+
+  module _ (found : Bool) (size : ℕ) (es : size ≡ sizeOf f) where
+    pub size-bad : (r : Plan) → (eqb size 0 || ltb 223 size) ≡ true → r ≡ idle Ignored Rejected h → r ≡ planFirst found R f h
+    unfolding planFirst planSized badSize
+    size-bad r b er = er ∙ rw (← es, b)
+
+    module _ (b : (eqb size 0 || ltb 223 size) ≡ false) where
+      pub size-short : size ≤ 6 → record { kind = MessageComplete; mark = Nothing; head = h; at = 0; from = 0; count = 0; whole = 0; short = size } ≡ planFirst found R f h
+      unfolding planFirst planSized planShort badSize
+      size-short s = simp (← es, b, le-leb size 6 s)
+
+      pub size-long : (r : Plan) → 6 < size → r ≡ planOpen found R f h → r ≡ planFirst found R f h
+      unfolding planFirst planSized planShort badSize
+      size-long r s er = er ∙ simp (← es, b, lt-leb size 6 s)
+
+module _ (f : Heard) (h : Head) where
+  pub copy-last : (u v : Head) (n : ℕ) → u ≡ copiedHead f h → v ≡ resetHead u → n ≡ wanted h
+      → record { kind = MessageComplete; mark = Nothing; head = v; at = h .«current_size»; from = 1; count = n; whole = h .«expected_size»; short = 0 } ≡ planCopy true f h
+  unfolding planCopy
+  copy-last u v n eu ev en = rw (ev, eu, en)
+
+  pub copy-more : (u : Head) (n : ℕ) → u ≡ copiedHead f h → n ≡ wanted h
+      → record { kind = FragmentConsumed; mark = Nothing; head = u; at = h .«current_size»; from = 1; count = n; whole = 0; short = 0 } ≡ planCopy false f h
+  unfolding planCopy
+  copy-more u n eu en = rw (eu, en)
+
+  module _ (u : Head) (eu : u ≡ copiedHead f h) (r : Plan) where
+    pub copy-full : u .«expected_size» ≤ u .«current_size» → r ≡ planCopy true f h → r ≡ planCopy (allThere (copiedHead f h)) f h
+    unfolding allThere
+    copy-full l er = er ∙ rw (← eu, le-leb (u .«expected_size») (u .«current_size») l)
+
+    pub copy-open : u .«current_size» < u .«expected_size» → r ≡ planCopy false f h → r ≡ planCopy (allThere (copiedHead f h)) f h
+    unfolding allThere
+    copy-open l er = er ∙ rw (← eu, lt-leb (u .«expected_size») (u .«current_size») l)
+
+  module _ (found : Bool) (r : Plan) where
+    pub next-none : not found ≡ true → r ≡ idle Ignored Lost h → r ≡ planNext found f h
+    unfolding planNext
+    next-none e er = er ∙ rw (not-true found e)
+
+    module _ (e : not found ≡ false) (t : Bool) (et : t ≡ inTurn f h) where
+      pub next-broken : (u : Head) → not t ≡ true → u ≡ resetHead h → r ≡ idle Ignored Lost u → r ≡ planNext found f h
+      unfolding planNext planTurn
+      next-broken u y eu er = er ∙ rw (eu, not-false found e, ← et, not-true t y)
+
+      pub next-turn : not t ≡ false → r ≡ planCopy (allThere (copiedHead f h)) f h → r ≡ planNext found f h
+      unfolding planNext planTurn
+      next-turn y er = er ∙ rw (not-false found e, ← et, not-false t y)
+
+module _ (R : Rules) (f : Heard) (h : Head) where
+  module _ (found : Bool) (r : Plan) (i : ℕ) (ei : i ≡ indexOf f) where
+    pub listed-first : i ≡ 0 → r ≡ planFirst found R f h → r ≡ planListed true found R f h
+    unfolding planListed planIndex
+    listed-first z er = er ∙ rw (← ei, eq-eqb i 0 z)
+
+    pub listed-next : (i ≡ 0 → ⊥) → r ≡ planNext found f h → r ≡ planListed true found R f h
+    unfolding planListed planIndex
+    listed-next z er = er ∙ rw (← ei, ne-eqb i 0 z)
+
+  module _ (bad listed found : Bool) (r : Plan) where
+    pub decided-bad : bad ≡ true → r ≡ idle (Refused 1) Nothing h → r ≡ planOf bad listed found R f h
+    unfolding planOf
+    decided-bad e er = er ∙ rw e
+
+    pub decided-unlisted : bad ≡ false → not listed ≡ true → r ≡ idle Ignored Unknown h → r ≡ planOf bad listed found R f h
+    unfolding planOf planListed
+    decided-unlisted e l er = er ∙ rw (e, not-true listed l)
+
+    pub decided-listed : bad ≡ false → not listed ≡ false → r ≡ planListed true found R f h → r ≡ planOf bad listed found R f h
+    unfolding planOf
+    decided-listed e l er = er ∙ rw (e, not-false listed l)
+
+pub ruleset plans = (mark-late, mark-early, turn-is, open-none, open-some, size-bad, size-short, size-long, copy-last, copy-more, copy-full, copy-open, next-none, next-broken, next-turn, listed-first, listed-next, decided-bad, decided-unlisted, decided-listed)

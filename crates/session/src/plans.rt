@@ -1,0 +1,177 @@
+// The plan of a frame: decided on one head, and carried out by whoever has the buffer. Where the slot was not found nothing is asked of the head.
+ghost use mathlib.Core.Path.{_≡_};
+ghost use mathlib.Core.Bool.{true, false};
+ghost use Rattle.session.specs.declared.Kind.the-variants.{Ignored};
+ghost use Rattle.session.specs.Rules.{base};
+ghost use Rattle.session.specs.Heads.{isExpired, allThere, copiedHead};
+ghost use Rattle.session.specs.Counting.{expiredMark};
+ghost use Rattle.session.specs.inner.Plan.{idle, planOpen, planFirst, planCopy, planNext, planListed, planOf};
+use crate::FIRST_FRAME_PAYLOAD;
+use crate::Head;
+use crate::Heard;
+use crate::IMPOSSIBLE_POOL;
+use crate::Kind;
+use crate::Mark;
+use crate::Plan;
+use crate::frames::index_of;
+use crate::frames::size_of;
+use crate::is_silent;
+use crate::moved::copied_head;
+use crate::moved::is_in_turn;
+use crate::moved::opened_head;
+use crate::moved::reset_head;
+use crate::moved::wanted_by;
+use fast_packet::MAX_FAST_PACKET_PAYLOAD;
+
+// The message of a first frame starts after sequence and size, that of a continuation after the sequence.
+const FIRST_DATA: usize = 2;
+
+const NEXT_DATA: usize = 1;
+
+fn stay(kind: Kind, mark: Mark, h: Head) -> Plan
+    ensures { λ r. ⌜ r ≡ idle kind mark h ⌝ }
+{
+    Plan {
+        kind: kind,
+        mark: mark,
+        head: h,
+        at: 0,
+        from: 0,
+        count: 0,
+        whole: 0,
+        short: 0,
+    }
+}
+
+fn ignore(mark: Mark, h: Head) -> Plan
+    ensures { λ r. ⌜ r ≡ idle Ignored mark h ⌝ }
+{
+    stay(Kind::Ignored, mark, h)
+}
+
+// A slot that is taken while in progress and silent is counted.
+fn mark_expired(h: Head, heard: Heard) -> Mark
+    ensures { λ r. ⌜ r ≡ expiredMark (isExpired base heard h) ⌝ }
+{
+    if h.in_progress & is_silent(heard.now_ms, h.last_seen_ms) {
+        Mark::Expired
+    } else {
+        Mark::Nothing
+    }
+}
+
+fn plan_open(found: bool, h: Head, heard: Heard) -> Plan
+    ensures { λ r. ⌜ r ≡ planOpen found base heard h ⌝ }
+{
+    if !found {
+        return ignore(Mark::Exhausted, h);
+    }
+    Plan {
+        kind: Kind::FragmentConsumed,
+        mark: mark_expired(h, heard),
+        head: opened_head(heard),
+        at: 0,
+        from: FIRST_DATA,
+        count: FIRST_FRAME_PAYLOAD,
+        whole: 0,
+        short: 0,
+    }
+}
+
+// First frame: carries the total expected size. One of six bytes or less is delivered without touching the session.
+fn plan_first(found: bool, h: Head, heard: Heard) -> Plan
+    ensures { λ r. ⌜ r ≡ planFirst found base heard h ⌝ }
+{
+    let size = size_of(heard);
+    if (size == 0) | (MAX_FAST_PACKET_PAYLOAD < size) {
+        return ignore(Mark::Rejected, h);
+    }
+    if size <= FIRST_FRAME_PAYLOAD {
+        return Plan {
+            kind: Kind::MessageComplete,
+            mark: Mark::Nothing,
+            head: h,
+            at: 0,
+            from: 0,
+            count: 0,
+            whole: 0,
+            short: size,
+        };
+    }
+    plan_open(found, h, heard)
+}
+
+fn plan_last(h: Head, heard: Heard) -> Plan
+    ensures { λ r. ⌜ r ≡ planCopy true heard h ⌝ }
+{
+    Plan {
+        kind: Kind::MessageComplete,
+        mark: Mark::Nothing,
+        head: reset_head(copied_head(h, heard)),
+        at: h.current_size,
+        from: NEXT_DATA,
+        count: wanted_by(h),
+        whole: h.expected_size,
+        short: 0,
+    }
+}
+
+fn plan_more(h: Head, heard: Heard) -> Plan
+    ensures { λ r. ⌜ r ≡ planCopy false heard h ⌝ }
+{
+    Plan {
+        kind: Kind::FragmentConsumed,
+        mark: Mark::Nothing,
+        head: copied_head(h, heard),
+        at: h.current_size,
+        from: NEXT_DATA,
+        count: wanted_by(h),
+        whole: 0,
+        short: 0,
+    }
+}
+
+fn plan_copy(h: Head, heard: Heard) -> Plan
+    ensures { λ r. ⌜ r ≡ planCopy (allThere (copiedHead heard h)) heard h ⌝ }
+{
+    let t = copied_head(h, heard);
+    if t.expected_size <= t.current_size {
+        return plan_last(h, heard);
+    }
+    plan_more(h, heard)
+}
+
+// Continuation frame: a stray, out of turn, or copied, and perhaps the last.
+fn plan_next(found: bool, h: Head, heard: Heard) -> Plan
+    ensures { λ r. ⌜ r ≡ planNext found heard h ⌝ }
+{
+    if !found {
+        return ignore(Mark::Lost, h);
+    }
+    if !is_in_turn(h, heard) {
+        return ignore(Mark::Lost, reset_head(h));
+    }
+    plan_copy(h, heard)
+}
+
+fn plan_listed(found: bool, h: Head, heard: Heard) -> Plan
+    ensures { λ r. ⌜ r ≡ planListed true found base heard h ⌝ }
+{
+    if index_of(heard) == 0 {
+        return plan_first(found, h, heard);
+    }
+    plan_next(found, h, heard)
+}
+
+// What the frame does: `bad` says that the pool is impossible, `listed` that its PGN is listed, `found` that `h` is the head of the slot it takes.
+pub fn decide(bad: bool, listed: bool, found: bool, h: Head, heard: Heard) -> Plan
+    ensures { λ r. ⌜ r ≡ planOf bad listed found base heard h ⌝ }
+{
+    if bad {
+        return stay(Kind::Refused(IMPOSSIBLE_POOL), Mark::Nothing, h);
+    }
+    if !listed {
+        return ignore(Mark::Unknown, h);
+    }
+    plan_listed(found, h, heard)
+}
