@@ -19,16 +19,16 @@ use Rattle.session.specs.Rules.{base, poolLimit}
 use Rattle.session.specs.Heads.{freshHead, impossibleHead}
 use Rattle.pool.specs.declared.Pool.{Pool}
 use Rattle.assembler.specs.declared.HeardWithLength.{HeardWithLength}
-use Rattle.receive_call.specs.Call.{CallOk}
-use Rattle.receive_call.specs.Slots.{within, onHead, impossible}
-use Rattle.receive_call.specs.Step.{eventOf, saidOf, outcome, stepIf, step}
+use Rattle.assembler.specs.Call.{CallOk}
+use Rattle.assembler.specs.Slots.{within, onHead, impossible}
+use Rattle.assembler.specs.Step.{eventOf, saidOf, outcome, stepIf, step}
 use Rattle.pool.specs.Making.{freshPool, madeIf, madeOf}
-use Rattle.receive_call.specs.View.{slotsFrom, slotsOf, shown, replyOf, receiveOf}
+use Rattle.assembler.specs.View.{slotsFrom, slotsOf, shown, replyOf, receiveOf}
 use Rattle.assembler.specs.Forms.{filledFrame, receiveWithLengthOf}
 use Rattle.assembler.specs.Possible.{ByCalls, made, byDefault, left, leftWithLength}
-use Rattle.receive_call.proofs.Unique.{replied}
-use Rattle.receive_call.proofs.Views.{Sized, sized-view, view-forth}
-use Rattle.receive_call.proofs.Keeps.{keeps}
+use Rattle.assembler.proofs.ReceiveUnique.{replied}
+use Rattle.assembler.proofs.Views.{Sized, sized-view, view-forth}
+use Rattle.assembler.proofs.Keeps.{keeps}
 
 -- the slots of a pool: of 223 bytes each, and none impossible
 record Good (p : Pool) : Type 0 where

@@ -1,3 +1,8 @@
+pub mod Copies
+pub mod Views
+pub mod Carries
+pub mod ReceiveUnique
+pub mod Keeps
 pub mod Types
 pub mod Unique
 pub mod ByCalls

@@ -8,8 +8,8 @@ use Rattle.pool.proofs.Pool as Pool
 use Rattle.pool.proofs.Pool.Laws as Pool′
 use Rattle.assembler.proofs.HeardWithLength as HeardWithLength
 use Rattle.assembler.proofs.HeardWithLength.Laws as HeardWithLength′
-use Rattle.receive_call.proofs.Received as Received
-use Rattle.receive_call.proofs.Received.Laws as Received′
+use Rattle.assembler.proofs.Received as Received
+use Rattle.assembler.proofs.Received.Laws as Received′
 use Rattle.assembler.proofs.Answer as Answer
 use Rattle.assembler.proofs.Answer.Laws as Answer′
 

@@ -6,9 +6,9 @@ use Rattle.session.specs.declared.Heard.{Heard}
 use Rattle.session.specs.Rules.{base}
 use Rattle.pool.specs.declared.Pool.{Pool}
 use Rattle.assembler.specs.declared.HeardWithLength.{HeardWithLength}
-use Rattle.receive_call.specs.Call.{CallOk}
+use Rattle.assembler.specs.Call.{CallOk}
 use Rattle.pool.specs.Making.{madeOf, freshPool}
-use Rattle.receive_call.specs.View.{receiveOf}
+use Rattle.assembler.specs.View.{receiveOf}
 use Rattle.assembler.specs.Forms.{receiveWithLengthOf}
 
 pub data ByCalls : Pool → Type 0 where

@@ -1,14 +1,14 @@
 // The calls with the counters lent: one thin function over each by-value core reads the record, and writes back what the core says of it.
 ghost use mathlib.Core.Path.{_≡_};
 ghost use Rattle.session.specs.Rules.{base};
-ghost use Rattle.receive_call.specs.View.{receiveOf};
+ghost use Rattle.assembler.specs.View.{receiveOf};
 ghost use Rattle.assembler.specs.Forms.{receiveWithLengthOf, answerOf, receivedOf};
 use crate::Answer;
 use crate::HeardWithLength;
+use crate::Received;
 use crate::lengths::receive_with_length;
+use crate::receiving::receive;
 use pool::Pool;
-use receive_call::Received;
-use receive_call::receive;
 use session::Counters;
 use session::Heard;
 

@@ -3,10 +3,10 @@ ghost use mathlib.Core.Path.{_≡_};
 ghost use Rattle.session.specs.Rules.{base};
 ghost use Rattle.assembler.specs.Forms.{filledFrame, receiveWithLengthOf};
 use crate::HeardWithLength;
+use crate::Received;
+use crate::receiving::receive;
 use fast_packet::fill_short;
 use pool::Pool;
-use receive_call::Received;
-use receive_call::receive;
 use session::Counters;
 use session::Heard;
 

@@ -1,6 +1,8 @@
 // NMEA 2000 Fast Packet assembler: the receive call of crate `receive_call`, and its other forms, for a frame with a length and with the counters lent.
+mod bytes;
 mod lending;
 mod lengths;
+mod receiving;
 
 use fast_packet::MAX_FAST_PACKET_PAYLOAD;
 pub use lending::process_frame;
@@ -12,9 +14,9 @@ pub use pool::DEFAULT_SESSIONS;
 pub use pool::Made;
 pub use pool::POOL_BYTES;
 pub use pool::Pool;
-pub use receive_call::Received;
-pub use receive_call::handles;
-pub use receive_call::receive;
+pub use receiving::handles;
+pub use receiving::receive;
+use session::Counters;
 use session::Heard;
 use session::Kind;
 
@@ -30,4 +32,13 @@ pub struct Answer {
     pub payload: [u8; MAX_FAST_PACKET_PAYLOAD],
     pub length: usize,
     pub pool: Pool,
+}
+
+// What a call answers, with the counters after it. Without a message the payload is zeros and the length 0.
+pub struct Received {
+    pub kind: Kind,
+    pub payload: [u8; MAX_FAST_PACKET_PAYLOAD],
+    pub length: usize,
+    pub pool: Pool,
+    pub counters: Counters,
 }

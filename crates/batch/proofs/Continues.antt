@@ -14,7 +14,7 @@ use Rattle.base.specs.Pick.{pick}
 use Rattle.session.specs.declared.Counters.{Counters}
 use Rattle.session.specs.Rules.{Rules}
 use Rattle.pool.specs.declared.Pool.{Pool}
-use Rattle.receive_call.specs.declared.Received.{Received}
+use Rattle.assembler.specs.declared.Received.{Received}
 use Rattle.batch.specs.Rows.{Rows, frameAt, Run, start, took, answerTo, runFrom, runOf}
 use Rattle.batch.specs.Calls.{calls, rest, joined}
 

@@ -27,10 +27,10 @@ use Rattle.session.specs.inner.Plan.{idle}
 use Rattle.session.proofs.Seen.{seen-bad}
 use Rattle.session.proofs.Sound.{or-left, or-right}
 use Rattle.pool.specs.declared.Pool.{Pool}
-use Rattle.receive_call.specs.Slots.{onHead, impossible}
-use Rattle.receive_call.specs.View.{slotsFrom, slotsOf, receiveOf}
-use Rattle.receive_call.proofs.Views.{Whole, any-view}
-use Rattle.receive_call.proofs.Carries.{carried, Does, slot-long}
+use Rattle.assembler.specs.Slots.{onHead, impossible}
+use Rattle.assembler.specs.View.{slotsFrom, slotsOf, receiveOf}
+use Rattle.assembler.proofs.Views.{Whole, any-view}
+use Rattle.assembler.proofs.Carries.{carried, Does, slot-long}
 use Rattle.batch.proofs.WayLaws.{shortPlan, runPlan}
 use Rattle.batch.specs.inner.Ways.{refusalOf}
 use Rattle.row_lengths.specs.Lengths.{tooShort}

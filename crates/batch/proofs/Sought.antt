@@ -31,15 +31,15 @@ use Rattle.session.specs.inner.Plan.{idle, planOpen, planShort, planSized, plan
 use Rattle.session.proofs.Sound.{or-left, or-right}
 use Rattle.session.proofs.Seen.{place, seen-key, seen-live, seen-own, seen-free}
 use Rattle.pool.specs.declared.Pool.{Pool}
-use Rattle.receive_call.specs.declared.Received.{Received}
-use Rattle.receive_call.specs.Slots.{impossible}
-use Rattle.receive_call.specs.Step.{step}
-use Rattle.receive_call.specs.View.{slotsOf, shown, receiveOf}
-use Rattle.receive_call.proofs.Copies.{copy-none}
-use Rattle.receive_call.proofs.Views.{Whole, Sized, view-forth}
-use Rattle.receive_call.proofs.Views.{sized-view}
-use Rattle.receive_call.proofs.Keeps.{keeps}
-use Rattle.receive_call.proofs.Carries.{carried, Fits, Does, receives}
+use Rattle.assembler.specs.declared.Received.{Received}
+use Rattle.assembler.specs.Slots.{impossible}
+use Rattle.assembler.specs.Step.{step}
+use Rattle.assembler.specs.View.{slotsOf, shown, receiveOf}
+use Rattle.assembler.proofs.Copies.{copy-none}
+use Rattle.assembler.proofs.Views.{Whole, Sized, view-forth}
+use Rattle.assembler.proofs.Views.{sized-view}
+use Rattle.assembler.proofs.Keeps.{keeps}
+use Rattle.assembler.proofs.Carries.{carried, Fits, Does, receives}
 use Rattle.batch.specs.inner.Mirror.{packed, keyNumber, frameKey, InRange, Shows, Mirrors, firstFrom, keyAt, openAt, ownAt, liveAt, chosenIn, liveIn, quiet, sought}
 use Rattle.batch.specs.inner.Ways.{shortIn, missMark, runsOn}
 use Rattle.batch.proofs.WayLaws.{plan-missed, shortPlan, plan-short, runPlan, plan-runs}

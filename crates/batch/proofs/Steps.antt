@@ -18,9 +18,9 @@ use Rattle.session.specs.Heads.{freshHead, copiedHead}
 use Rattle.session.specs.Counting.{raised}
 use Rattle.session.specs.inner.Plan.{planOf}
 use Rattle.pool.specs.declared.Pool.{Pool}
-use Rattle.receive_call.specs.Slots.{impossible}
-use Rattle.receive_call.specs.View.{slotsOf, receiveOf}
-use Rattle.receive_call.proofs.Carries.{Fits, Does}
+use Rattle.assembler.specs.Slots.{impossible}
+use Rattle.assembler.specs.View.{slotsOf, receiveOf}
+use Rattle.assembler.proofs.Carries.{Fits, Does}
 use Rattle.batch.specs.Rows.{Rows, frameAt, kindNumber, Left, leaves, runOf}
 use Rattle.batch.specs.inner.Mirror.{InRange, Shows, Mirrors, frameKey, sought}
 use Rattle.batch.specs.inner.Ways.{shortIn, missMark, runsOn}

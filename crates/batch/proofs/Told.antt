@@ -17,12 +17,12 @@ use Rattle.session.specs.Rules.{base, poolLimit}
 use Rattle.session.specs.Heads.{freshHead}
 use Rattle.session.specs.inner.Search.{withinLimit}
 use Rattle.pool.specs.declared.Pool.{Pool}
-use Rattle.receive_call.specs.declared.Received.{Received}
-use Rattle.receive_call.specs.Slots.{impossible}
-use Rattle.receive_call.specs.Step.{Said, ignored, consumed, complete, outcome, stepIf, step}
-use Rattle.receive_call.specs.View.{slotsOf, kindOf, shown, receiveOf}
-use Rattle.receive_call.proofs.Views.{Whole}
-use Rattle.receive_call.proofs.Carries.{carried, Does, receives, slot-long}
+use Rattle.assembler.specs.declared.Received.{Received}
+use Rattle.assembler.specs.Slots.{impossible}
+use Rattle.assembler.specs.Step.{Said, ignored, consumed, complete, outcome, stepIf, step}
+use Rattle.assembler.specs.View.{slotsOf, kindOf, shown, receiveOf}
+use Rattle.assembler.proofs.Views.{Whole}
+use Rattle.assembler.proofs.Carries.{carried, Does, receives, slot-long}
 use Rattle.batch.specs.Rows.{Rows, frameAt, kindNumber, Run, start, took, answerTo, runFrom, runOf}
 use Rattle.batch.proofs.Sought.{call-possible}
 

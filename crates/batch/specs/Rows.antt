@@ -10,9 +10,9 @@ use Rattle.session.specs.declared.Kind.{Kind}
 use Rattle.session.specs.declared.Kind.the-variants.{Refused, Ignored, FragmentConsumed, MessageComplete}
 use Rattle.session.specs.Rules.{Rules}
 use Rattle.pool.specs.declared.Pool.{Pool}
-use Rattle.receive_call.specs.declared.Received.{Received}
-use Rattle.receive_call.specs.Slots.{impossible}
-use Rattle.receive_call.specs.View.{slotsOf, receiveOf}
+use Rattle.assembler.specs.declared.Received.{Received}
+use Rattle.assembler.specs.Slots.{impossible}
+use Rattle.assembler.specs.View.{slotsOf, receiveOf}
 use Rattle.row_lengths.specs.Lengths.{tooShort}
 use Rattle.batch.specs.declared.Batch.{Batch}
 

@@ -4,8 +4,8 @@ use mathlib.Core.Path.{_≡_, refl, sym, ap, _∙_}
 use Prim.Native.Nat.{ℕ, zero, suc, _≤_}
 use lib.ListN.{length}
 use Rattle.session.specs.Rules.{Rules, base, poolLimit}
-use Rattle.receive_call.specs.Call.{Call}
-use Rattle.receive_call.specs.View.{receiveOf}
+use Rattle.assembler.specs.Call.{Call}
+use Rattle.assembler.specs.View.{receiveOf}
 use Rattle.batch.specs.Rows.{Rows, Run, frameAt, took, answerTo}
 use Rattle.batch.specs.Rows as rows
 use Rattle.batch.specs.Calls.{calls}

@@ -4,8 +4,8 @@ use mathlib.Core.Path.{_≡_}
 use Prim.Native.Nat.{ℕ, zero, suc}
 use lib.ListN.{length}
 use Rattle.session.specs.Rules.{base}
-use Rattle.receive_call.specs.Call.{Call}
-use Rattle.receive_call.specs.View.{receiveOf}
+use Rattle.assembler.specs.Call.{Call}
+use Rattle.assembler.specs.View.{receiveOf}
 use Rattle.batch.specs.Rows.{Rows, frameAt, Run, runOf}
 use Rattle.ledger.specs.Ledger.{ledgerOf}
 use Rattle.ledger.specs.Demand3.{Agreed}

@@ -13,9 +13,9 @@ use Rattle.builder.specs.Frames.{Turn, nextTurn}
 use Rattle.builder.specs.declared.FrameIterator.{FrameIterator}
 use Rattle.builder.specs.declared.FastPacketBuilder.{FastPacketBuilder}
 use Rattle.session.specs.declared.Heard.{Heard}
-use Rattle.receive_call.specs.View.{receiveOf}
+use Rattle.assembler.specs.View.{receiveOf}
 use Rattle.assembler.specs.Forms.{receiveWithLengthOf}
-use Rattle.receive_call.specs.declared.Received.{Received}
+use Rattle.assembler.specs.declared.Received.{Received}
 use Rattle.pool.specs.declared.Made.{Made}
 use Rattle.session.specs.Rules.{base}
 use Rattle.session.specs.declared.Counters.{Counters}

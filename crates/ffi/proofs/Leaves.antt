@@ -15,15 +15,15 @@ use Rattle.session.specs.declared.Head.{Head}
 use Rattle.session.specs.declared.Heard.{Heard}
 use Rattle.session.specs.declared.Kind.the-variants.{Refused}
 use Rattle.session.specs.declared.Counters.{Counters}
-use Rattle.receive_call.specs.Call.{Call}
-use Rattle.receive_call.specs.Slots.{within}
-use Rattle.receive_call.specs.Step.{Said, ignored, consumed, complete, saidOf, eventOf, step, stepIf, outcome}
-use Rattle.receive_call.specs.View.{slotsOf, poolOf, zeros, kindOf, payloadOf, lengthOf, shown, receiveOf}
+use Rattle.assembler.specs.Call.{Call}
+use Rattle.assembler.specs.Slots.{within}
+use Rattle.assembler.specs.Step.{Said, ignored, consumed, complete, saidOf, eventOf, step, stepIf, outcome}
+use Rattle.assembler.specs.View.{slotsOf, poolOf, zeros, kindOf, payloadOf, lengthOf, shown, receiveOf}
 use Rattle.assembler.specs.Forms.{receiveWithLengthOf, filledFrame}
 use Rattle.pool.specs.declared.Pool.{Pool}
 use Rattle.pool.specs.declared.Made.{Made}
-use Rattle.receive_call.specs.declared.Received.{Received}
-use Rattle.receive_call.proofs.Views.{view-back}
+use Rattle.assembler.specs.declared.Received.{Received}
+use Rattle.assembler.proofs.Views.{view-back}
 use Rattle.batch.specs.Rows.{Rows, Run, batchOf, leaves, refusedBy, Left as Rowed}
 use Rattle.numbers.specs.Numbers.{isSet, laidOn, flagOn, byteOn, wordOn}
 use Rattle.pool_numbers.specs.Pool.{headAt, putFlag, putByte, putWord, keyLaid, sizesLaid, headLaid, headsFrom, laid, poolFrom, countersFrom, counterNumbers, kindCode, Left, MadeAs}

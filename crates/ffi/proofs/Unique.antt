@@ -13,7 +13,7 @@ use Rattle.builder.specs.declared.FrameIterator.{FrameIterator}
 use Rattle.builder.specs.declared.Made.{Made as Begun}
 use Rattle.fast_packet.specs.FastPacket.{listedIn, filledFrom}
 use Rattle.pool.specs.declared.Made.{Made}
-use Rattle.receive_call.specs.declared.Received.{Received}
+use Rattle.assembler.specs.declared.Received.{Received}
 use Rattle.base.specs.Answer.{Answer}
 use Rattle.batch.specs.Rows.{Left as Rowed}
 use Rattle.oracle.specs.Strict.{Message}

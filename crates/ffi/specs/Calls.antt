@@ -3,8 +3,8 @@ use Prim.Native.Nat.{ℕ}
 use mathlib.Core.List.{List}
 use Rattle.session.specs.Rules.{base}
 use Rattle.session.specs.declared.Heard.{Heard}
-use Rattle.receive_call.specs.View.{receiveOf}
-use Rattle.receive_call.specs.declared.Received.{Received}
+use Rattle.assembler.specs.View.{receiveOf}
+use Rattle.assembler.specs.declared.Received.{Received}
 use Rattle.assembler.specs.Forms.{receiveWithLengthOf}
 use Rattle.assembler.specs.declared.HeardWithLength.{HeardWithLength}
 use Rattle.pool_numbers.specs.Pool.{poolFrom, countersFrom}

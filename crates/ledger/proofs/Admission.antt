@@ -16,10 +16,10 @@ use Rattle.session.specs.declared.Head.{Head}
 use Rattle.session.specs.Rules.{Rules}
 use Rattle.session.specs.Frames.{indexOf, sizeOf, badSize}
 use Rattle.session.specs.Heads.{hasKey, isFree, isFreeOfSource, isSilent}
-use Rattle.receive_call.specs.Call.{Call, listed, isOpener}
-use Rattle.receive_call.specs.Slots.{Slot, within, onHead, chosen}
-use Rattle.receive_call.specs.Runs.{World}
-use Rattle.receive_call.specs.View.{headOf}
+use Rattle.assembler.specs.Call.{Call, listed, isOpener}
+use Rattle.assembler.specs.Slots.{Slot, within, onHead, chosen}
+use Rattle.assembler.specs.Runs.{World}
+use Rattle.assembler.specs.View.{headOf}
 use Rattle.ledger.specs.Ledger.{Message, Place, idle, holds, late, itsTurn, full, grown, liveHeld, takenBy, Event}
 use Rattle.ledger.specs.Ledger.{nothingMoved, endLate, openingAt, tellOpen, tellShort, tellSized, tellFull, tellTurn, tellHeld, tellContinue, tellIndex, tellListed, tellOne, Ledger, numbered, nextEvent}
 use Rattle.ledger.specs.Ledger.{Opened, Refused, columnNumber, post, posts, posted, one, asNumber, onlyIf, weighs}

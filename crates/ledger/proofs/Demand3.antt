@@ -7,13 +7,13 @@ use lib.ListN.{length}
 use Rattle.session.specs.Rules.{Rules, poolLimit, base}
 use Rattle.session.specs.Counting.{most}
 use Rattle.session.specs.declared.Counters.{Counters}
-use Rattle.receive_call.specs.Call.{Call}
-use Rattle.receive_call.specs.Slots.{freshSlots}
-use Rattle.receive_call.specs.Step.{step}
-use Rattle.receive_call.specs.Runs.{fresh, calls}
-use Rattle.receive_call.specs.declared.Received.{Received}
+use Rattle.assembler.specs.Call.{Call}
+use Rattle.assembler.specs.Slots.{freshSlots}
+use Rattle.assembler.specs.Step.{step}
+use Rattle.assembler.specs.Runs.{fresh, calls}
+use Rattle.assembler.specs.declared.Received.{Received}
 use Rattle.assembler.specs.declared.Answer.{Answer}
-use Rattle.receive_call.specs.View.{receiveOf}
+use Rattle.assembler.specs.View.{receiveOf}
 use Rattle.assembler.specs.Forms.{receivedOf}
 use Rattle.ledger.specs.Ledger.{ledgerOf}
 use Rattle.ledger.specs.Demand3.{Demand3, AllOk, Agreed, Admitted}

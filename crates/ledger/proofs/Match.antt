@@ -20,11 +20,11 @@ use Rattle.session.specs.Rules.{Rules}
 use Rattle.session.specs.Frames.{indexOf, sizeOf, badSize}
 use Rattle.session.specs.Heads.{impossibleHead, hasKey, isFree, isFreeOfSource, hasLiveKey, isExpired, inTurn}
 use Rattle.session.specs.Counting.{expiredMark}
-use Rattle.receive_call.specs.Call.{Call, CallOk, listed}
-use Rattle.receive_call.specs.Slots.{Slot, slotAt, freshSlot, onHead, chosen, live, copiedSlot}
-use Rattle.receive_call.specs.Step as act
-use Rattle.receive_call.specs.Step.{message, saidOf, slotsAfter, opensAt, firstShort, firstSized, copyAt, turnAt, continuesAt, byIndex, byList, eventOf}
-use Rattle.receive_call.specs.View.{kindOf, payloadOf, lengthOf}
+use Rattle.assembler.specs.Call.{Call, CallOk, listed}
+use Rattle.assembler.specs.Slots.{Slot, slotAt, freshSlot, onHead, chosen, live, copiedSlot}
+use Rattle.assembler.specs.Step as act
+use Rattle.assembler.specs.Step.{message, saidOf, slotsAfter, opensAt, firstShort, firstSized, copyAt, turnAt, continuesAt, byIndex, byList, eventOf}
+use Rattle.assembler.specs.View.{kindOf, payloadOf, lengthOf}
 use Rattle.ledger.specs.Ledger.{Message, Place, idle, holds, keyHeld, late, free, freeOfSource, liveHeld, takenBy, grown}
 use Rattle.ledger.specs.Ledger.{Event, unlisted, badly, refused, stray, atOnce, opening, restarting, reclaiming, copied, delivered, broken}
 use Rattle.ledger.specs.Ledger.{Told, nothingMoved, endLate, openingAt, full, itsTurn, tellOpen, tellShort, tellSized, tellFull, tellTurn, tellHeld, tellContinue, tellIndex, tellListed, tellOne}

@@ -8,8 +8,8 @@ use native.Mathlib.Omega.{arith}
 use lib.ListN.{length, drop, length-append}
 use lib.Seq.{drop-drop}
 use Rattle.session.specs.Rules.{Rules, poolLimit, base}
-use Rattle.receive_call.specs.Call.{Call}
-use Rattle.receive_call.specs.View.{receiveOf}
+use Rattle.assembler.specs.Call.{Call}
+use Rattle.assembler.specs.View.{receiveOf}
 use Rattle.ledger.specs.Ledger.{Ledger, tellOne, tell, tells, written, blank, ledgerOf, tally, held, is, Opened, Delivered, Broken, Restarted, Reclaimed}
 use Rattle.ledger.specs.Demand3.{Seen, Demand3, AllOk, none, more, Agreed, Admitted}
 use Rattle.ledger.specs.Runs.{Receive, State, start, next, receives, seenIn, received}

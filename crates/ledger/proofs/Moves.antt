@@ -11,7 +11,7 @@ use Rattle.base.specs.Lists.{firstAt}
 use Rattle.book.proofs.Moves.{Within, within-or, within-first, is-unlisted, is-badly, is-refused, is-stray, is-atOnce, Move, stays, opens, grows, delivers, breaks, Moves}
 use Rattle.session.specs.Rules.{Rules}
 use Rattle.session.specs.Frames.{indexOf, sizeOf, badSize}
-use Rattle.receive_call.specs.Call.{Call, listed}
+use Rattle.assembler.specs.Call.{Call, listed}
 use Rattle.ledger.specs.Ledger.{Message, grown, Place, idle, holds, keyHeld, freeOfSource, free, late, takenBy, liveHeld, full, itsTurn}
 use Rattle.ledger.specs.Ledger.{nothingMoved, left, tellOpen, tellShort, tellSized, tellFull, tellTurn, tellHeld, tellContinue, tellIndex, tellListed, tellOne}
 

@@ -14,10 +14,10 @@ use Rattle.session.specs.Rules.{base}
 use Rattle.session.specs.Frames.{sizeOf, firstBytes}
 use Rattle.session.specs.Counting.{raised, expiredMark}
 use Rattle.pool.specs.declared.Pool.{Pool}
-use Rattle.receive_call.specs.Call.{Call}
-use Rattle.receive_call.specs.Slots.{Slot, Slots, within, slotAt, impossible, openedSlot, resetSlot, copiedSlot}
-use Rattle.receive_call.specs.Step.{Event, notListed, rejected, shortMessage, poolFull, opened, stray, outOfTurn, copied, completed, eventOf, slotsAfter, markOf, Said, ignored, consumed, message, saidOf, Outcome, outcome, stepIf, step}
-use Rattle.receive_call.specs.View.{slotsOf, shown, receiveOf}
+use Rattle.assembler.specs.Call.{Call}
+use Rattle.assembler.specs.Slots.{Slot, Slots, within, slotAt, impossible, openedSlot, resetSlot, copiedSlot}
+use Rattle.assembler.specs.Step.{Event, notListed, rejected, shortMessage, poolFull, opened, stray, outOfTurn, copied, completed, eventOf, slotsAfter, markOf, Said, ignored, consumed, message, saidOf, Outcome, outcome, stepIf, step}
+use Rattle.assembler.specs.View.{slotsOf, shown, receiveOf}
 use Rattle.ledger.specs.Runs.{Receive}
 
 pub record Parts : Type 0 where

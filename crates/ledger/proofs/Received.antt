@@ -11,13 +11,13 @@ use Rattle.fast_packet.specs.FastPacket.{maxPayload}
 use Rattle.session.specs.declared.Head.{Head}
 use Rattle.session.specs.Rules.{Rules, poolLimit}
 use Rattle.session.specs.Counting.{most}
-use Rattle.receive_call.specs.Call.{Call}
-use Rattle.receive_call.specs.Slots.{Slot, Slots, freshSlot}
-use Rattle.receive_call.specs.Step.{step}
-use Rattle.receive_call.specs.Runs.{World, after, call, calls}
+use Rattle.assembler.specs.Call.{Call}
+use Rattle.assembler.specs.Slots.{Slot, Slots, freshSlot}
+use Rattle.assembler.specs.Step.{step}
+use Rattle.assembler.specs.Runs.{World, after, call, calls}
 use Rattle.pool.specs.Making.{freshPool, madeIf, madeOf}
-use Rattle.receive_call.specs.View.{slotsFrom, slotsOf, headOf, shown, receiveOf}
-use Rattle.receive_call.proofs.Views.{Sized, none, more, sized-append, view-forth}
+use Rattle.assembler.specs.View.{slotsFrom, slotsOf, headOf, shown, receiveOf}
+use Rattle.assembler.proofs.Views.{Sized, none, more, sized-append, view-forth}
 use Rattle.ledger.specs.Ledger.{Ledger, Place, tellOne, tell, numbered, blank}
 use Rattle.ledger.specs.Demand3 as demand
 use Rattle.ledger.specs.Demand3.{AllOk}

@@ -19,12 +19,12 @@ use Rattle.session.specs.declared.Counters.{Counters}
 use Rattle.session.specs.Rules.{Rules}
 use Rattle.session.specs.Heads.{freshHead}
 use Rattle.session.specs.Counting.{freshCounters, most, raise, raised}
-use Rattle.receive_call.specs.Call.{Call, CallOk}
-use Rattle.receive_call.specs.Slots.{Slot, freshSlot, within, impossible}
-use Rattle.receive_call.specs.Step as act
-use Rattle.receive_call.specs.Step.{eventOf, slotsAfter, outcome, stepIf, step}
-use Rattle.receive_call.specs.Runs.{World, after, call, calls}
-use Rattle.receive_call.specs.View.{headOf}
+use Rattle.assembler.specs.Call.{Call, CallOk}
+use Rattle.assembler.specs.Slots.{Slot, freshSlot, within, impossible}
+use Rattle.assembler.specs.Step as act
+use Rattle.assembler.specs.Step.{eventOf, slotsAfter, outcome, stepIf, step}
+use Rattle.assembler.specs.Runs.{World, after, call, calls}
+use Rattle.assembler.specs.View.{headOf}
 use Rattle.ledger.specs.Ledger.{Place, idle, holds, late, Told, tellOne, Entry, Ledger, numbered, written, tell, tells, blank, ledgerOf, briefly, wholly, delivery, answerTo, answerOf, lengthOwed, lengthSaid}
 use Rattle.ledger.specs.Ledger.{Event, unlisted, badly, refused, stray, atOnce, opening, restarting, reclaiming, copied, delivered, broken}
 use Rattle.ledger.specs.Ledger.{Broken, Reclaimed, Refused, Stray, BadSize, Unlisted, columnNumber, post, posts, one, asNumber, onlyIf, weighs, posted, entryWeight, tally, heldAt, held}

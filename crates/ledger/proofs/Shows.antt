@@ -13,8 +13,8 @@ use Rattle.fast_packet.specs.FastPacket.{maxPayload}
 use Rattle.session.specs.Rules.{Key, Rules}
 use Rattle.session.specs.Frames.{sequenceOf, indexOf, sizeOf, firstBytes, nextBytes, keyOf}
 use Rattle.session.specs.Heads.{headKey, impossibleHead, hasKey, isSilent, isFree, isFreeOfSource, hasLiveKey, inTurn, openedHead, resetHead, wanted, copiedHead, allThere}
-use Rattle.receive_call.specs.Call.{Call, CallOk}
-use Rattle.receive_call.specs.Slots.{Slot, openedSlot, resetSlot, copiedSlot}
+use Rattle.assembler.specs.Call.{Call, CallOk}
+use Rattle.assembler.specs.Slots.{Slot, openedSlot, resetSlot, copiedSlot}
 use Rattle.ledger.specs.Ledger.{Message, newMessage, grown, latestOf, latest, bytesOf, ownBytes, announced, Place, idle, holds, keyHeld, late, free, sourceAt, freeOfSource, liveHeld, left, full, itsTurn}
 
 module _ (R : Rules) where

@@ -6,7 +6,7 @@ use Prim.Native.Nat.{ℕ, _<_}
 use lib.ListN.{getD}
 use lib.Dec.{lit<}
 use Rattle.session.specs.Rules.{base}
-use Rattle.receive_call.specs.Call.{Call, CallOk}
+use Rattle.assembler.specs.Call.{Call, CallOk}
 use Rattle.ledger.specs.Ledger.{Saying}
 use Rattle.ledger.specs.Demand3.{AllOk, none, more}
 use Rattle.ledger.proofs.Bench.{frame, announces, goes-on}

@@ -17,9 +17,9 @@ use Rattle.session.specs.Frames.{firstBytes, nextBytes}
 use Rattle.session.specs.Heads.{openedHead}
 use Rattle.session.specs.Counting.{freshCounters}
 use Rattle.pool.specs.declared.Pool.{Pool}
-use Rattle.receive_call.specs.declared.Received.{Received}
-use Rattle.receive_call.specs.Slots.{Slot, openedSlot, resetSlot}
-use Rattle.receive_call.specs.View.{zeros, receiveOf}
+use Rattle.assembler.specs.declared.Received.{Received}
+use Rattle.assembler.specs.Slots.{Slot, openedSlot, resetSlot}
+use Rattle.assembler.specs.View.{zeros, receiveOf}
 use Rattle.ledger.specs.Ledger.{answerOf, ledgerOf, tally, held, one, Reclaimed, BadSize}
 use Rattle.ledger.specs.Demand3.{Demand3, inProgress}
 use Rattle.ledger.specs.Runs.{Receive, received}

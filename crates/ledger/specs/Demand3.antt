@@ -11,7 +11,7 @@ use Rattle.session.specs.declared.Kind.{Kind}
 use Rattle.session.specs.declared.Kind.the-variants as kind
 use Rattle.session.specs.Rules.{Rules}
 use Rattle.session.specs.Heads.{hasKey, isSilent}
-use Rattle.receive_call.specs.Call.{Call, CallOk, isOpener}
+use Rattle.assembler.specs.Call.{Call, CallOk, isOpener}
 use Rattle.ledger.specs.Ledger.{Ledger, Saying, numbered, nextEvent, answerOf, lengthOwed, lengthSaid, OwnBook, ledgerOf, posted, tally, held, is, one, asNumber, Opened, Delivered, Broken, Restarted, Reclaimed, Refused, Stray, BadSize, Unlisted}
 
 -- what is seen after a run: all that was said, the latest first; the heads of the slots within the size; the counters

@@ -17,9 +17,9 @@ use Rattle.session.specs.declared.Kind.{Kind}
 use Rattle.session.specs.declared.Kind.the-variants.{Ignored, FragmentConsumed, MessageComplete}
 use Rattle.session.specs.Rules.{Rules}
 use Rattle.session.specs.Frames.{keyOf, indexOf, sizeOf, badSize, firstBytes, nextBytes}
-use Rattle.receive_call.specs.Call.{Call, listed}
-use Rattle.receive_call.specs.Step.{padded}
-use Rattle.receive_call.specs.View.{zeros}
+use Rattle.assembler.specs.Call.{Call, listed}
+use Rattle.assembler.specs.Step.{padded}
+use Rattle.assembler.specs.View.{zeros}
 
 abbrev pub Message : Type 0
 Message = book.Message Call

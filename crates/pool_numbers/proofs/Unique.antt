@@ -7,7 +7,7 @@ use Rattle.session.specs.declared.Counters.{Counters}
 use Rattle.session.specs.declared.Head.{Head}
 use Rattle.pool.specs.declared.Made.{Made}
 use Rattle.pool.specs.declared.Pool.{Pool}
-use Rattle.receive_call.specs.declared.Received.{Received}
+use Rattle.assembler.specs.declared.Received.{Received}
 use Rattle.pool_numbers.specs.Pool.{laid, poolFrom, countersFrom, counterNumbers, Left, MadeAs}
 
 pub pool-from-unique : (size : ℕ) (heads bytes : List ℕ) (r s : Pool) → r ≡ poolFrom size heads bytes → s ≡ poolFrom size heads bytes → r ≡ s

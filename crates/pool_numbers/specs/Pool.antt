@@ -14,7 +14,7 @@ use Rattle.session.specs.declared.Kind.{Kind}
 use Rattle.session.specs.declared.Kind.the-variants.{Refused, Ignored, FragmentConsumed, MessageComplete}
 use Rattle.pool.specs.declared.Pool.{Pool}
 use Rattle.pool.specs.declared.Made.{Made}
-use Rattle.receive_call.specs.declared.Received.{Received}
+use Rattle.assembler.specs.declared.Received.{Received}
 use Rattle.numbers.specs.Numbers.{isSet, flagOn, byteOn, wordOn}
 
 -- a head is eight numbers, each read in the width of its field

@@ -9,10 +9,10 @@ use Rattle.session.specs.Rules.{silence, keysEqual, base}
 use Rattle.session.specs.Frames.{sequenceOf, indexOf, sizeOf, firstBytes, nextBytes, badSize, keyOf}
 use Rattle.session.specs.Heads.{freshHead, headKey, impossibleHead, hasKey, isSilent, isFree, isFreeOfSource, hasLiveKey, isExpired, inTurn, openedHead, resetHead, wanted, copiedHead, allThere}
 use Rattle.session.specs.Counting.{freshCounters, most, raise, raised, expiredMark}
-use Rattle.receive_call.specs.Slots.{freshSlot, slotAt, impossible, chosen, live, openedSlot, resetSlot, copiedSlot}
-use Rattle.receive_call.specs.Step.{opensAt, firstShort, firstSized, copyAt, turnAt, continuesAt, byIndex, byList, eventOf, slotsAfter, markOf, padded, message, saidOf, outcome, stepIf, step}
+use Rattle.assembler.specs.Slots.{freshSlot, slotAt, impossible, chosen, live, openedSlot, resetSlot, copiedSlot}
+use Rattle.assembler.specs.Step.{opensAt, firstShort, firstSized, copyAt, turnAt, continuesAt, byIndex, byList, eventOf, slotsAfter, markOf, padded, message, saidOf, outcome, stepIf, step}
 use Rattle.pool.specs.Making.{freshPool}
-use Rattle.receive_call.specs.View.{slotsFrom, headOf, flat, slotsOf, poolOf, zeros, kindOf, payloadOf, lengthOf, shown, receiveOf}
+use Rattle.assembler.specs.View.{slotsFrom, headOf, flat, slotsOf, poolOf, zeros, kindOf, payloadOf, lengthOf, shown, receiveOf}
 use Rattle.values.specs.Values.{Values}
 
 pub values : Values

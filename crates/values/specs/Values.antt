@@ -13,11 +13,11 @@ use Rattle.session.specs.declared.Counters.{Counters}
 use Rattle.session.specs.declared.Kind.the-variants.{Ignored, FragmentConsumed, MessageComplete}
 use Rattle.session.specs.Rules.{base}
 use Rattle.session.specs.Counting.{freshCounters}
-use Rattle.receive_call.specs.declared.Received.{Received}
-use Rattle.receive_call.specs.Slots.{slotAt}
-use Rattle.receive_call.specs.Step.{padded}
+use Rattle.assembler.specs.declared.Received.{Received}
+use Rattle.assembler.specs.Slots.{slotAt}
+use Rattle.assembler.specs.Step.{padded}
 use Rattle.pool.specs.Making.{freshPool}
-use Rattle.receive_call.specs.View.{slotsOf, receiveOf}
+use Rattle.assembler.specs.View.{slotsOf, receiveOf}
 
 -- what the next call gives on what the last one left: PGN 127489, listed, from source 35, at this reading, with these bytes
 abbrev pub then : Received → ℕ → List ℕ → Received

@@ -9,7 +9,7 @@ use Rattle.walk.proofs.Walk as walk
 use Rattle.walk.proofs.Walk.{result}
 use Rattle.walk.proofs.Through.{lent-ps, through}
 use Rattle.session.specs.Rules.{base}
-use Rattle.receive_call.specs.View.{receiveOf}
+use Rattle.assembler.specs.View.{receiveOf}
 use Rattle.assembler.specs.Forms.{answerOf, receivedOf}
 use Rattle.assembler.proofs.Types.{pool, counters, heard, received, answer}
 use Rattle.assembler.proofs.lending.process_frame.Symbol as lent-def

@@ -5,8 +5,8 @@ use mathlib.Core.Path.{_≡_, refl, sym, _∙_}
 use lib.ListN.{length}
 use native.Mathlib.Omega.{arith}
 use Rattle.session.specs.Rules.{base, poolLimit}
-use Rattle.receive_call.proofs.Copies.{length-unmap}
-use Rattle.receive_call.proofs.Views.{Whole}
+use Rattle.assembler.proofs.Copies.{length-unmap}
+use Rattle.assembler.proofs.Views.{Whole}
 use Rattle.batch.specs.Rows.{refusedBy}
 use Rattle.batch.specs.inner.Memory.{Remembers}
 use Rattle.batch.specs.inner.Ways.{blankHeard}

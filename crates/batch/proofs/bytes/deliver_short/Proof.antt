@@ -5,7 +5,7 @@ use mathlib.Core.Path.{_≡_, refl}
 use lib.ListN.{length, drop, length-set}
 use lib.Seq.{paste}
 use native.Mathlib.Omega.{arith}
-use Rattle.receive_call.proofs.Copies.{copy-none, copy-turn}
+use Rattle.assembler.proofs.Copies.{copy-none, copy-turn}
 use Rattle.batch.proofs.bytes.deliver_short.Statement.{statement}
 use Rattle.batch.proofs.bytes.deliver_short.Tie as tie
 

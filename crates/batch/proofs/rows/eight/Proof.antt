@@ -6,7 +6,7 @@ use mathlib.Core.List.{append-nil}
 use lib.ListN.{drop, replicate}
 use lib.Seq.{paste}
 use native.Mathlib.Omega.{arith}
-use Rattle.receive_call.proofs.Copies.{front-turn}
+use Rattle.assembler.proofs.Copies.{front-turn}
 use Rattle.batch.proofs.rows.eight.Statement.{statement}
 use Rattle.batch.proofs.rows.eight.Tie as tie
 

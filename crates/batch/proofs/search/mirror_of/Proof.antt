@@ -4,7 +4,7 @@ use Prim.Native.Nat.{_-_, _≤_}
 use mathlib.Core.Path.{_≡_, refl}
 use lib.ListN.{length}
 use native.Mathlib.Omega.{arith}
-use Rattle.receive_call.proofs.Copies.{length-unmap}
+use Rattle.assembler.proofs.Copies.{length-unmap}
 use Rattle.batch.specs.inner.Mirror.{Mirrors}
 use Rattle.batch.proofs.Mirrors.{mirrors-none, mirrors-turn}
 use Rattle.batch.proofs.search.mirror_of.Statement.{statement}

@@ -8,7 +8,7 @@ use borrow.Author.Tests.{le-ltb}
 use Rattle.base.specs.Pick.{pick}
 use Rattle.session.specs.Rules.{base, poolLimit}
 use Rattle.session.specs.inner.Search.{blank}
-use Rattle.receive_call.proofs.Copies.{length-unmap}
+use Rattle.assembler.proofs.Copies.{length-unmap}
 use Rattle.session.proofs.Walks.{Walk, crowded, walk-start, walk-turn, walk-done}
 use Rattle.batch.proofs.search.walk.Statement.{statement}
 use Rattle.batch.proofs.search.walk.Tie as tie

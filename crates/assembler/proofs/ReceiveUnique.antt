@@ -11,11 +11,11 @@ use Rattle.session.specs.declared.Counters.{Counters}
 use Rattle.session.specs.declared.Heard.{Heard}
 use Rattle.session.specs.Rules.{Rules, base}
 use Rattle.pool.specs.declared.Pool.{Pool}
-use Rattle.receive_call.specs.declared.Received.{Received}
-use Rattle.receive_call.specs.Call.{Call}
-use Rattle.receive_call.specs.Slots.{Slots, impossible}
-use Rattle.receive_call.specs.Step.{Said, ignored, consumed, complete, outcome, stepIf, step}
-use Rattle.receive_call.specs.View.{slotsOf, kindOf, payloadOf, lengthOf, shown, replyBy, replyOf, receiveOf}
+use Rattle.assembler.specs.declared.Received.{Received}
+use Rattle.assembler.specs.Call.{Call}
+use Rattle.assembler.specs.Slots.{Slots, impossible}
+use Rattle.assembler.specs.Step.{Said, ignored, consumed, complete, outcome, stepIf, step}
+use Rattle.assembler.specs.View.{slotsOf, kindOf, payloadOf, lengthOf, shown, replyBy, replyOf, receiveOf}
 
 pub handles-unique : (pgns : List ℕ) (pgn : ℕ) (r s : Bool) → r ≡ listedIn pgn pgns → s ≡ listedIn pgn pgns → r ≡ s
 handles-unique pgns pgn r s = determined

@@ -4,9 +4,9 @@ use Prim.Native.Nat.{ℕ}
 use Rattle.session.specs.declared.Counters.{Counters}
 use Rattle.session.specs.Rules.{Rules}
 use Rattle.session.specs.Counting.{freshCounters}
-use Rattle.receive_call.specs.Call.{Call}
-use Rattle.receive_call.specs.Slots.{Slots, freshSlots}
-use Rattle.receive_call.specs.Step.{Reply, Outcome}
+use Rattle.assembler.specs.Call.{Call}
+use Rattle.assembler.specs.Slots.{Slots, freshSlots}
+use Rattle.assembler.specs.Step.{Reply, Outcome}
 
 -- an assembler: what one call gives
 abbrev pub Assembler : Type 0

@@ -5,12 +5,12 @@ use mathlib.Core.Path.{_≡_, refl}
 use lib.ListN.{length}
 use native.Mathlib.Omega.{arith}
 use Rattle.session.specs.Rules.{base, poolLimit}
-use Rattle.receive_call.proofs.Copies.{length-unmap}
-use Rattle.receive_call.proofs.Views.{Whole}
+use Rattle.assembler.proofs.Copies.{length-unmap}
+use Rattle.assembler.proofs.Views.{Whole}
 use Rattle.session.proofs.Walks.{Walk, walk-start, walk-low, walk-turn, walk-done}
-use Rattle.receive_call.proofs.Carries.{planned, answered, slot-long, payload-long}
-use Rattle.receive_call.proofs.receiving.receive.Statement.{statement}
-use Rattle.receive_call.proofs.receiving.receive.Tie as tie
+use Rattle.assembler.proofs.Carries.{planned, answered, slot-long, payload-long}
+use Rattle.assembler.proofs.receiving.receive.Statement.{statement}
+use Rattle.assembler.proofs.receiving.receive.Tie as tie
 
 limit : base .limit ≡ poolLimit
 unfolding base

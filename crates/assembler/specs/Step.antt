@@ -16,8 +16,8 @@ use Rattle.session.specs.Rules.{Rules}
 use Rattle.session.specs.Frames.{indexOf, sizeOf, badSize, firstBytes}
 use Rattle.session.specs.Heads.{isExpired, inTurn, copiedHead, allThere}
 use Rattle.session.specs.Counting.{raised, expiredMark}
-use Rattle.receive_call.specs.Call.{Call, listed}
-use Rattle.receive_call.specs.Slots.{Slot, Slots, within, slotAt, impossible, chosen, live, openedSlot, resetSlot, copiedSlot}
+use Rattle.assembler.specs.Call.{Call, listed}
+use Rattle.assembler.specs.Slots.{Slot, Slots, within, slotAt, impossible, chosen, live, openedSlot, resetSlot, copiedSlot}
 
 -- ---- what happens
 

@@ -19,10 +19,10 @@ use Rattle.session.specs.Rules.{Rules}
 use Rattle.session.specs.Frames.{sequenceOf, indexOf, sizeOf, badSize, firstBytes, nextBytes}
 use Rattle.session.specs.Heads.{impossibleHead, hasLiveKey, inTurn, openedHead, resetHead, wanted, copiedHead, allThere}
 use Rattle.session.proofs.Sound.{Sound, sound, none-at, busy-live, or-left, or-right}
-use Rattle.receive_call.specs.Call.{Call, CallOk, listed}
-use Rattle.receive_call.specs.Slots.{Slot, Slots, freshSlot, slotAt, within, onHead, impossible, chosen, live, openedSlot, resetSlot, copiedSlot}
-use Rattle.receive_call.specs.Step.{Event, notListed, rejected, shortMessage, poolFull, opened, stray, outOfTurn, copied, completed, opensAt, firstShort, firstSized, copyAt, turnAt, continuesAt, byIndex, byList, eventOf, slotsAfter, outcome, stepIf, step}
-use Rattle.receive_call.proofs.Views.{Sized, none, more, sized-append}
+use Rattle.assembler.specs.Call.{Call, CallOk, listed}
+use Rattle.assembler.specs.Slots.{Slot, Slots, freshSlot, slotAt, within, onHead, impossible, chosen, live, openedSlot, resetSlot, copiedSlot}
+use Rattle.assembler.specs.Step.{Event, notListed, rejected, shortMessage, poolFull, opened, stray, outOfTurn, copied, completed, opensAt, firstShort, firstSized, copyAt, turnAt, continuesAt, byIndex, byList, eventOf, slotsAfter, outcome, stepIf, step}
+use Rattle.assembler.proofs.Views.{Sized, none, more, sized-append}
 
 -- ---- lists
 

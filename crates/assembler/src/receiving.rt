@@ -3,7 +3,7 @@ ghost use mathlib.Core.Path.{_≡_};
 ghost use Rattle.base.specs.Pick.{pick};
 ghost use Rattle.fast_packet.specs.FastPacket.{listedIn};
 ghost use Rattle.session.specs.Rules.{base};
-ghost use Rattle.receive_call.specs.View.{receiveOf};
+ghost use Rattle.assembler.specs.View.{receiveOf};
 use crate::Received;
 use crate::bytes::deliver;
 use crate::bytes::deliver_short;

@@ -32,13 +32,13 @@ use Rattle.session.specs.inner.Plan.{idle, planOpen, planShort, planSized, plan
 use Rattle.session.proofs.Seen.{found, place, spot, Inside, placed-found, placed-spot, inside-first, inside-or, first-of, seen-bad, seen-key, seen-live, seen-own, seen-free}
 use Rattle.session.proofs.Sound.{Sound, sound, none-at, busy-live}
 use Rattle.pool.specs.declared.Pool.{Pool}
-use Rattle.receive_call.specs.declared.Received.{Received}
-use Rattle.receive_call.specs.Call.{Call}
-use Rattle.receive_call.specs.Slots.{Slot, Slots, freshSlot, onHead, impossible, chosen, live, openedSlot, resetSlot, copiedSlot}
-use Rattle.receive_call.specs.Step.{Event, notListed, rejected, shortMessage, poolFull, opened, stray, outOfTurn, copied, completed, opensAt, firstShort, firstSized, copyAt, turnAt, continuesAt, byIndex, byList, eventOf, slotsAfter, markOf, ignored, padded, message, saidOf, outcome, stepIf, step}
-use Rattle.receive_call.specs.View.{slotsFrom, slotsOf, poolOf, zeros, kindOf, payloadOf, lengthOf, shown, receiveOf}
-use Rattle.receive_call.proofs.Copies.{copy-none, paste-over}
-use Rattle.receive_call.proofs.Views.{Whole, slots-long, slot-at, view-back, view-same, view-set, read-back, first-view, any-view}
+use Rattle.assembler.specs.declared.Received.{Received}
+use Rattle.assembler.specs.Call.{Call}
+use Rattle.assembler.specs.Slots.{Slot, Slots, freshSlot, onHead, impossible, chosen, live, openedSlot, resetSlot, copiedSlot}
+use Rattle.assembler.specs.Step.{Event, notListed, rejected, shortMessage, poolFull, opened, stray, outOfTurn, copied, completed, opensAt, firstShort, firstSized, copyAt, turnAt, continuesAt, byIndex, byList, eventOf, slotsAfter, markOf, ignored, padded, message, saidOf, outcome, stepIf, step}
+use Rattle.assembler.specs.View.{slotsFrom, slotsOf, poolOf, zeros, kindOf, payloadOf, lengthOf, shown, receiveOf}
+use Rattle.assembler.proofs.Copies.{copy-none, paste-over}
+use Rattle.assembler.proofs.Views.{Whole, slots-long, slot-at, view-back, view-same, view-set, read-back, first-view, any-view}
 
 -- the code's last lines: the plan d at place g
 unfoldable pub carried : Plan → ℕ → Heard → Pool → Counters → Received

@@ -9,8 +9,8 @@ use native.Mathlib.Omega.{arith}
 use Rattle.base.specs.Lists.{here, firstAt, any}
 use Rattle.session.specs.declared.Head.{Head}
 use Rattle.pool.specs.declared.Pool.{Pool}
-use Rattle.receive_call.specs.Slots.{Slot, Slots, onHead}
-use Rattle.receive_call.specs.View.{slotsFrom, headOf, flat, slotsOf, poolOf}
+use Rattle.assembler.specs.Slots.{Slot, Slots, onHead}
+use Rattle.assembler.specs.View.{slotsFrom, headOf, flat, slotsOf, poolOf}
 
 heads-set : (ss : List Slot) (i : ℕ) (s : Slot) → map headOf (set ss i s) ≡ set (map headOf ss) i (s .head)
 unfolding headOf

@@ -1,8 +1,8 @@
 -- `receiving::either` meets its contract: the facts on each way out pick the law of that case. Assumes nothing.
 use borrow.Author.Needs.{needs}
 use Rattle.session.proofs.SearchLaws.{choices}
-use Rattle.receive_call.proofs.receiving.either.Statement.{statement}
-use Rattle.receive_call.proofs.receiving.either.Tie as tie
+use Rattle.assembler.proofs.receiving.either.Statement.{statement}
+use Rattle.assembler.proofs.receiving.either.Tie as tie
 
 pub either-spec : {M : Type 1} → statement M
 either-spec =

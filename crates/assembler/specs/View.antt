@@ -11,10 +11,10 @@ use Rattle.session.specs.declared.Kind.{Kind}
 use Rattle.session.specs.declared.Kind.the-variants.{Refused, Ignored, FragmentConsumed, MessageComplete}
 use Rattle.session.specs.Rules.{Rules}
 use Rattle.pool.specs.declared.Pool.{Pool}
-use Rattle.receive_call.specs.declared.Received.{Received}
-use Rattle.receive_call.specs.Call.{Call}
-use Rattle.receive_call.specs.Slots.{Slot, Slots}
-use Rattle.receive_call.specs.Step.{Said, ignored, consumed, complete, Reply, Outcome, step}
+use Rattle.assembler.specs.declared.Received.{Received}
+use Rattle.assembler.specs.Call.{Call}
+use Rattle.assembler.specs.Slots.{Slot, Slots}
+use Rattle.assembler.specs.Step.{Said, ignored, consumed, complete, Reply, Outcome, step}
 
 -- ---- the pool as slots
 

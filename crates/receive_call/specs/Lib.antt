@@ -1,5 +1,0 @@
-pub mod Call
-pub mod Slots
-pub mod Step
-pub mod Runs
-pub mod View
