@@ -17,12 +17,12 @@ use Rattle.session.specs.declared.Heard.{Heard}
 use Rattle.session.specs.declared.Head.{Head}
 use Rattle.session.specs.Rules.{base, poolLimit}
 use Rattle.session.specs.Heads.{freshHead, impossibleHead}
-use Rattle.pool.specs.declared.Pool.{Pool}
+use Rattle.assembler.specs.declared.pool.Pool.{Pool}
 use Rattle.assembler.specs.declared.HeardWithLength.{HeardWithLength}
 use Rattle.assembler.specs.Call.{CallOk}
 use Rattle.assembler.specs.Slots.{within, onHead, impossible}
 use Rattle.assembler.specs.Step.{eventOf, saidOf, outcome, stepIf, step}
-use Rattle.pool.specs.Making.{freshPool, madeIf, madeOf}
+use Rattle.assembler.specs.Making.{freshPool, madeIf, madeOf}
 use Rattle.assembler.specs.View.{slotsFrom, slotsOf, shown, replyOf, receiveOf}
 use Rattle.assembler.specs.Forms.{filledFrame, receiveWithLengthOf}
 use Rattle.assembler.specs.Possible.{ByCalls, made, byDefault, left, leftWithLength}

@@ -31,7 +31,7 @@ use Rattle.session.specs.inner.Search.{blank, seen, seenIf, seenIn, firstOf, pl
 use Rattle.session.specs.inner.Plan.{idle, planOpen, planShort, planSized, planFirst, planCopy, planTurn, planNext, planIndex, planListed, planOf}
 use Rattle.session.proofs.Seen.{found, place, spot, Inside, placed-found, placed-spot, inside-first, inside-or, first-of, seen-bad, seen-key, seen-live, seen-own, seen-free}
 use Rattle.session.proofs.Sound.{Sound, sound, none-at, busy-live}
-use Rattle.pool.specs.declared.Pool.{Pool}
+use Rattle.assembler.specs.declared.pool.Pool.{Pool}
 use Rattle.assembler.specs.declared.Received.{Received}
 use Rattle.assembler.specs.Call.{Call}
 use Rattle.assembler.specs.Slots.{Slot, Slots, freshSlot, onHead, impossible, chosen, live, openedSlot, resetSlot, copiedSlot}

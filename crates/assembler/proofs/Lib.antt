@@ -1,3 +1,4 @@
+pub mod PoolUnique
 pub mod Copies
 pub mod Views
 pub mod Carries

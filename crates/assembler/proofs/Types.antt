@@ -4,8 +4,8 @@ use Rattle.session.proofs.Counters as Counters
 use Rattle.session.proofs.Counters.Laws as Counters′
 use Rattle.session.proofs.Heard as Heard
 use Rattle.session.proofs.Heard.Laws as Heard′
-use Rattle.pool.proofs.Pool as Pool
-use Rattle.pool.proofs.Pool.Laws as Pool′
+use Rattle.assembler.proofs.pool.Pool as Pool
+use Rattle.assembler.proofs.pool.Pool.Laws as Pool′
 use Rattle.assembler.proofs.HeardWithLength as HeardWithLength
 use Rattle.assembler.proofs.HeardWithLength.Laws as HeardWithLength′
 use Rattle.assembler.proofs.Received as Received

@@ -1,3 +1,4 @@
+pub mod Making
 pub mod Call
 pub mod Slots
 pub mod Step

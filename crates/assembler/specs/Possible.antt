@@ -4,10 +4,10 @@ use Prim.Native.Nat.{ℕ}
 use Rattle.session.specs.declared.Counters.{Counters}
 use Rattle.session.specs.declared.Heard.{Heard}
 use Rattle.session.specs.Rules.{base}
-use Rattle.pool.specs.declared.Pool.{Pool}
+use Rattle.assembler.specs.declared.pool.Pool.{Pool}
 use Rattle.assembler.specs.declared.HeardWithLength.{HeardWithLength}
 use Rattle.assembler.specs.Call.{CallOk}
-use Rattle.pool.specs.Making.{madeOf, freshPool}
+use Rattle.assembler.specs.Making.{madeOf, freshPool}
 use Rattle.assembler.specs.View.{receiveOf}
 use Rattle.assembler.specs.Forms.{receiveWithLengthOf}
 

@@ -7,8 +7,8 @@ use crate::Answer;
 use crate::HeardWithLength;
 use crate::Received;
 use crate::lengths::receive_with_length;
+use crate::pool::Pool;
 use crate::receiving::receive;
-use pool::Pool;
 use session::Counters;
 use session::Heard;
 

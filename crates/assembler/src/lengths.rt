@@ -4,9 +4,9 @@ ghost use Rattle.session.specs.Rules.{base};
 ghost use Rattle.assembler.specs.Forms.{filledFrame, receiveWithLengthOf};
 use crate::HeardWithLength;
 use crate::Received;
+use crate::pool::Pool;
 use crate::receiving::receive;
 use fast_packet::fill_short;
-use pool::Pool;
 use session::Counters;
 use session::Heard;
 

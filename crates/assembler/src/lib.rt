@@ -2,6 +2,7 @@
 mod bytes;
 mod lending;
 mod lengths;
+mod pool;
 mod receiving;
 
 use fast_packet::MAX_FAST_PACKET_PAYLOAD;

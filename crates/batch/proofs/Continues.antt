@@ -13,7 +13,7 @@ use borrow.Author.Tests.{ltb-true}
 use Rattle.base.specs.Pick.{pick}
 use Rattle.session.specs.declared.Counters.{Counters}
 use Rattle.session.specs.Rules.{Rules}
-use Rattle.pool.specs.declared.Pool.{Pool}
+use Rattle.assembler.specs.declared.pool.Pool.{Pool}
 use Rattle.assembler.specs.declared.Received.{Received}
 use Rattle.batch.specs.Rows.{Rows, frameAt, Run, start, took, answerTo, runFrom, runOf}
 use Rattle.batch.specs.Calls.{calls, rest, joined}

@@ -26,7 +26,7 @@ use Rattle.session.specs.inner.Search.{blank, seenIf, seenIn}
 use Rattle.session.specs.inner.Plan.{idle}
 use Rattle.session.proofs.Seen.{seen-bad}
 use Rattle.session.proofs.Sound.{or-left, or-right}
-use Rattle.pool.specs.declared.Pool.{Pool}
+use Rattle.assembler.specs.declared.pool.Pool.{Pool}
 use Rattle.assembler.specs.Slots.{onHead, impossible}
 use Rattle.assembler.specs.View.{slotsFrom, slotsOf, receiveOf}
 use Rattle.assembler.proofs.Views.{Whole, any-view}

@@ -30,7 +30,7 @@ use Rattle.session.specs.inner.Search.{seen, seenIf, seenIn, firstOf, placeOf, 
 use Rattle.session.specs.inner.Plan.{idle, planOpen, planShort, planSized, planFirst, planCopy, planTurn, planNext, planIndex, planListed, planOf}
 use Rattle.session.proofs.Sound.{or-left, or-right}
 use Rattle.session.proofs.Seen.{place, seen-key, seen-live, seen-own, seen-free}
-use Rattle.pool.specs.declared.Pool.{Pool}
+use Rattle.assembler.specs.declared.pool.Pool.{Pool}
 use Rattle.assembler.specs.declared.Received.{Received}
 use Rattle.assembler.specs.Slots.{impossible}
 use Rattle.assembler.specs.Step.{step}

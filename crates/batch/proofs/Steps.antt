@@ -17,7 +17,7 @@ use Rattle.session.specs.Rules.{base, poolLimit}
 use Rattle.session.specs.Heads.{freshHead, copiedHead}
 use Rattle.session.specs.Counting.{raised}
 use Rattle.session.specs.inner.Plan.{planOf}
-use Rattle.pool.specs.declared.Pool.{Pool}
+use Rattle.assembler.specs.declared.pool.Pool.{Pool}
 use Rattle.assembler.specs.Slots.{impossible}
 use Rattle.assembler.specs.View.{slotsOf, receiveOf}
 use Rattle.assembler.proofs.Carries.{Fits, Does}

@@ -16,7 +16,7 @@ use Rattle.session.specs.declared.Counters.{Counters}
 use Rattle.session.specs.Rules.{base, poolLimit}
 use Rattle.session.specs.Heads.{freshHead}
 use Rattle.session.specs.inner.Search.{withinLimit}
-use Rattle.pool.specs.declared.Pool.{Pool}
+use Rattle.assembler.specs.declared.pool.Pool.{Pool}
 use Rattle.assembler.specs.declared.Received.{Received}
 use Rattle.assembler.specs.Slots.{impossible}
 use Rattle.assembler.specs.Step.{Said, ignored, consumed, complete, outcome, stepIf, step}

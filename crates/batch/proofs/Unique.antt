@@ -5,7 +5,7 @@ use mathlib.Core.Path.{_≡_, ap}
 use Rattle.base.proofs.Cases.{determined}
 use Rattle.session.specs.declared.Counters.{Counters}
 use Rattle.session.specs.Rules.{base}
-use Rattle.pool.specs.declared.Pool.{Pool}
+use Rattle.assembler.specs.declared.pool.Pool.{Pool}
 use Rattle.batch.specs.declared.Batch.{Batch}
 use Rattle.batch.specs.Rows.{Rows, Left, batchOf}
 

@@ -5,9 +5,9 @@ ghost use lib.ListN.{length, drop};
 ghost use lib.Seq.{paste};
 ghost use Rattle.fast_packet.specs.FastPacket.{maxPayload};
 ghost use Rattle.session.specs.Rules.{poolLimit};
-ghost use Rattle.pool.specs.Making.{poolBytes};
+ghost use Rattle.assembler.specs.Making.{poolBytes};
+use assembler::POOL_BYTES;
 use fast_packet::MAX_FAST_PACKET_PAYLOAD;
-use pool::POOL_BYTES;
 use session::CONTINUATION_PAYLOAD;
 use session::FIRST_FRAME_PAYLOAD;
 

@@ -7,8 +7,8 @@ mod search;
 mod taking;
 mod ways;
 
+use assembler::Pool;
 pub use batching::process_frames;
-use pool::Pool;
 use session::Counters;
 
 // What a batch answers: the refusal's number, or 0; how many frames were taken, and how many bytes of the arena their messages take.

@@ -16,10 +16,10 @@ use Rattle.session.specs.declared.Heard.{Heard}
 use Rattle.assembler.specs.View.{receiveOf}
 use Rattle.assembler.specs.Forms.{receiveWithLengthOf}
 use Rattle.assembler.specs.declared.Received.{Received}
-use Rattle.pool.specs.declared.Made.{Made}
+use Rattle.assembler.specs.declared.pool.Made.{Made}
 use Rattle.session.specs.Rules.{base}
 use Rattle.session.specs.declared.Counters.{Counters}
-use Rattle.pool.specs.declared.Pool.{Pool}
+use Rattle.assembler.specs.declared.pool.Pool.{Pool}
 use Rattle.batch.specs.Rows.{Rows, batchOf, Left as Rowed}
 use Rattle.batch.specs.declared.Batch.{Batch}
 use Rattle.ffi.specs.Batches.{LeftPool, LeftBy, batchWith}

@@ -12,7 +12,7 @@ use Rattle.builder.specs.declared.FastPacketBuilder.{FastPacketBuilder}
 use Rattle.builder.specs.declared.FrameIterator.{FrameIterator}
 use Rattle.builder.specs.declared.Made.{Made as Begun}
 use Rattle.fast_packet.specs.FastPacket.{listedIn, filledFrom}
-use Rattle.pool.specs.declared.Made.{Made}
+use Rattle.assembler.specs.declared.pool.Made.{Made}
 use Rattle.assembler.specs.declared.Received.{Received}
 use Rattle.base.specs.Answer.{Answer}
 use Rattle.batch.specs.Rows.{Left as Rowed}

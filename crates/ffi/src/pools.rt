@@ -1,6 +1,6 @@
 // The receive call: a pool as its size, 64 numbers for the heads of its slots and their bytes, the counters as five numbers.
 ghost use mathlib.Core.Path.{_≡_};
-ghost use Rattle.pool.specs.Making.{freshPool, madeOf};
+ghost use Rattle.assembler.specs.Making.{freshPool, madeOf};
 ghost use Rattle.fast_packet.specs.FastPacket.{listedIn};
 ghost use Rattle.pool_numbers.specs.Pool.{heardOf, Left, MadeAs, plainly};
 ghost use Rattle.ffi.specs.Calls.{calledWith, calledWithLength};

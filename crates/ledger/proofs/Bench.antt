@@ -13,7 +13,7 @@ use Rattle.assembler.specs.Call.{Call}
 use Rattle.assembler.specs.Slots.{freshSlot, freshSlots, impossible, chosen, live, openedSlot, resetSlot, copiedSlot}
 use Rattle.assembler.specs.Step.{opensAt, firstShort, firstSized, copyAt, turnAt, continuesAt, byIndex, byList, eventOf, slotsAfter, markOf, padded, message, saidOf, outcome, stepIf, step}
 use Rattle.assembler.specs.Runs.{fresh, after, call, calls}
-use Rattle.pool.specs.Making.{freshPool, madeIf, madeOf}
+use Rattle.assembler.specs.Making.{freshPool, madeIf, madeOf}
 use Rattle.assembler.specs.View.{slotsFrom, slotsOf, headOf, flat, poolOf, zeros, kindOf, payloadOf, lengthOf, shown, receiveOf}
 use Rattle.ledger.specs.Ledger.{Ledger, ledgerOf, answerOf, tells, tell, written, numbered, blank, tellOne, tellListed, tellIndex, tellSized, tellShort, tellOpen, tellContinue, tellHeld, tellTurn, tellFull, nothingMoved, openingAt, endLate, newMessage, left, full, itsTurn, grown, takenBy, keyHeld, late, free, sourceAt, freeOfSource, liveHeld, latest, latestOf, ownBytes, bytesOf, announced, briefly, wholly, delivery, answerTo}
 use Rattle.ledger.specs.Ledger.{tally, entryWeight, posted, posts, post, weighs, onlyIf, columnNumber, one, is, asNumber, held, heldAt, Opened, Delivered, Broken, Restarted, Reclaimed, Refused, Stray, BadSize, Unlisted, AtOnce}

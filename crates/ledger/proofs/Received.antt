@@ -15,7 +15,7 @@ use Rattle.assembler.specs.Call.{Call}
 use Rattle.assembler.specs.Slots.{Slot, Slots, freshSlot}
 use Rattle.assembler.specs.Step.{step}
 use Rattle.assembler.specs.Runs.{World, after, call, calls}
-use Rattle.pool.specs.Making.{freshPool, madeIf, madeOf}
+use Rattle.assembler.specs.Making.{freshPool, madeIf, madeOf}
 use Rattle.assembler.specs.View.{slotsFrom, slotsOf, headOf, shown, receiveOf}
 use Rattle.assembler.proofs.Views.{Sized, none, more, sized-append, view-forth}
 use Rattle.ledger.specs.Ledger.{Ledger, Place, tellOne, tell, numbered, blank}

@@ -16,7 +16,7 @@ use Rattle.session.specs.Rules.{base}
 use Rattle.session.specs.Frames.{firstBytes, nextBytes}
 use Rattle.session.specs.Heads.{openedHead}
 use Rattle.session.specs.Counting.{freshCounters}
-use Rattle.pool.specs.declared.Pool.{Pool}
+use Rattle.assembler.specs.declared.pool.Pool.{Pool}
 use Rattle.assembler.specs.declared.Received.{Received}
 use Rattle.assembler.specs.Slots.{Slot, openedSlot, resetSlot}
 use Rattle.assembler.specs.View.{zeros, receiveOf}

@@ -8,14 +8,14 @@ use Rattle.session.specs.declared.Heard.{Heard}
 use Rattle.session.specs.declared.Counters.{Counters}
 use Rattle.session.specs.Rules.{Rules}
 use Rattle.session.specs.Counting.{freshCounters}
-use Rattle.pool.specs.declared.Pool.{Pool}
+use Rattle.assembler.specs.declared.pool.Pool.{Pool}
 use Rattle.assembler.specs.declared.Received.{Received}
 use Rattle.assembler.specs.declared.Answer.{Answer}
 use Rattle.assembler.specs.Call.{Call}
 use Rattle.assembler.specs.Slots.{within}
 use Rattle.assembler.specs.Step.{Reply}
 use Rattle.assembler.specs.Runs.{Assembler, World, fresh, calls}
-use Rattle.pool.specs.Making.{madeOf}
+use Rattle.assembler.specs.Making.{madeOf}
 use Rattle.assembler.specs.View.{headOf, kindOf, payloadOf, lengthOf, receiveOf}
 use Rattle.assembler.specs.Forms.{answerOf, receivedOf}
 use Rattle.ledger.specs.Ledger.{Saying}

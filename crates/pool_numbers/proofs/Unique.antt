@@ -5,8 +5,8 @@ use mathlib.Core.Path.{_≡_}
 use Rattle.base.proofs.Cases.{determined}
 use Rattle.session.specs.declared.Counters.{Counters}
 use Rattle.session.specs.declared.Head.{Head}
-use Rattle.pool.specs.declared.Made.{Made}
-use Rattle.pool.specs.declared.Pool.{Pool}
+use Rattle.assembler.specs.declared.pool.Made.{Made}
+use Rattle.assembler.specs.declared.pool.Pool.{Pool}
 use Rattle.assembler.specs.declared.Received.{Received}
 use Rattle.pool_numbers.specs.Pool.{laid, poolFrom, countersFrom, counterNumbers, Left, MadeAs}
 

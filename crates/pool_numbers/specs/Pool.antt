@@ -12,8 +12,8 @@ use Rattle.session.specs.declared.Heard.{Heard}
 use Rattle.session.specs.declared.Counters.{Counters}
 use Rattle.session.specs.declared.Kind.{Kind}
 use Rattle.session.specs.declared.Kind.the-variants.{Refused, Ignored, FragmentConsumed, MessageComplete}
-use Rattle.pool.specs.declared.Pool.{Pool}
-use Rattle.pool.specs.declared.Made.{Made}
+use Rattle.assembler.specs.declared.pool.Pool.{Pool}
+use Rattle.assembler.specs.declared.pool.Made.{Made}
 use Rattle.assembler.specs.declared.Received.{Received}
 use Rattle.numbers.specs.Numbers.{isSet, flagOn, byteOn, wordOn}
 

@@ -11,7 +11,7 @@ use Rattle.session.specs.Heads.{freshHead, headKey, impossibleHead, hasKey, isS
 use Rattle.session.specs.Counting.{freshCounters, most, raise, raised, expiredMark}
 use Rattle.assembler.specs.Slots.{freshSlot, slotAt, impossible, chosen, live, openedSlot, resetSlot, copiedSlot}
 use Rattle.assembler.specs.Step.{opensAt, firstShort, firstSized, copyAt, turnAt, continuesAt, byIndex, byList, eventOf, slotsAfter, markOf, padded, message, saidOf, outcome, stepIf, step}
-use Rattle.pool.specs.Making.{freshPool}
+use Rattle.assembler.specs.Making.{freshPool}
 use Rattle.assembler.specs.View.{slotsFrom, headOf, flat, slotsOf, poolOf, zeros, kindOf, payloadOf, lengthOf, shown, receiveOf}
 use Rattle.values.specs.Values.{Values}
 

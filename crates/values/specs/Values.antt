@@ -16,7 +16,7 @@ use Rattle.session.specs.Counting.{freshCounters}
 use Rattle.assembler.specs.declared.Received.{Received}
 use Rattle.assembler.specs.Slots.{slotAt}
 use Rattle.assembler.specs.Step.{padded}
-use Rattle.pool.specs.Making.{freshPool}
+use Rattle.assembler.specs.Making.{freshPool}
 use Rattle.assembler.specs.View.{slotsOf, receiveOf}
 
 -- what the next call gives on what the last one left: PGN 127489, listed, from source 35, at this reading, with these bytes

@@ -1,8 +1,8 @@
 -- `fresh_pool` meets its contract. Assumes nothing.
 use borrow.Author.Needs.{needs}
-use Rattle.pool.specs.Making.{freshPool}
-use Rattle.pool.proofs.fresh_pool.Statement.{statement}
-use Rattle.pool.proofs.fresh_pool.Tie as tie
+use Rattle.assembler.specs.Making.{freshPool}
+use Rattle.assembler.proofs.pool.fresh_pool.Statement.{statement}
+use Rattle.assembler.proofs.pool.fresh_pool.Tie as tie
 
 returns : tie.Need-returns
 unfolding freshPool

@@ -1,7 +1,7 @@
 -- `Pool::default` meets its contract: the code is the definition. Assumes nothing.
 use borrow.Author.Needs.{needs}
-use Rattle.pool.proofs.Pool.default.Statement.{statement}
-use Rattle.pool.proofs.Pool.default.Tie as tie
+use Rattle.assembler.proofs.pool.Pool.default.Statement.{statement}
+use Rattle.assembler.proofs.pool.Pool.default.Tie as tie
 
 pub default-spec : {M : Type 1} → statement M
 default-spec =

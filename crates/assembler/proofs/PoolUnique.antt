@@ -2,9 +2,9 @@
 use Prim.Native.Nat.{ℕ}
 use mathlib.Core.Path.{_≡_}
 use Rattle.base.proofs.Cases.{determined}
-use Rattle.pool.specs.declared.Pool.{Pool}
-use Rattle.pool.specs.declared.Made.{Made}
-use Rattle.pool.specs.Making.{freshPool, madeOf}
+use Rattle.assembler.specs.declared.pool.Pool.{Pool}
+use Rattle.assembler.specs.declared.pool.Made.{Made}
+use Rattle.assembler.specs.Making.{freshPool, madeOf}
 
 pub new-unique : (size : ℕ) (r s : Made) → r ≡ madeOf size → s ≡ madeOf size → r ≡ s
 new-unique size r s = determined

@@ -1,6 +1,6 @@
 // The pool of the Fast Packet assembler as memory, and making one. What a call does to it is crate `receive_call`.
 ghost use mathlib.Core.Path.{_≡_};
-ghost use Rattle.pool.specs.Making.{freshPool, madeOf};
+ghost use Rattle.assembler.specs.Making.{freshPool, madeOf};
 use fast_packet::MAX_FAST_PACKET_PAYLOAD;
 use session::Head;
 use session::IMPOSSIBLE_POOL;

@@ -5,8 +5,8 @@ use lib.ListN.{replicate}
 use lib.Dec.{ltb}
 use Rattle.session.specs.Rules.{poolLimit}
 use Rattle.session.specs.Heads.{freshHead}
-use Rattle.pool.specs.declared.Pool.{Pool}
-use Rattle.pool.specs.declared.Made.{Made}
+use Rattle.assembler.specs.declared.pool.Pool.{Pool}
+use Rattle.assembler.specs.declared.pool.Made.{Made}
 
 -- eight buffers of 223 bytes
 abbrev pub poolBytes : ℕ

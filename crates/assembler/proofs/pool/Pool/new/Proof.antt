@@ -1,9 +1,9 @@
 -- `Pool::new` meets its contract. Assumes nothing.
 use borrow.Author.Needs.{needs}
 use borrow.Author.Tests.{lt-ltb, le-ltb}
-use Rattle.pool.specs.Making.{madeOf, madeIf}
-use Rattle.pool.proofs.Pool.new.Statement.{statement}
-use Rattle.pool.proofs.Pool.new.Tie as tie
+use Rattle.assembler.specs.Making.{madeOf, madeIf}
+use Rattle.assembler.proofs.pool.Pool.new.Statement.{statement}
+use Rattle.assembler.proofs.pool.Pool.new.Tie as tie
 
 returns : tie.Need-returns
 unfolding madeOf madeIf
