@@ -33,7 +33,7 @@ use Rattle.assembler.proofs.Views.{Whole, any-view}
 use Rattle.assembler.proofs.Carries.{carried, Does, slot-long}
 use Rattle.batch.proofs.WayLaws.{shortPlan, runPlan}
 use Rattle.batch.specs.inner.Ways.{refusalOf}
-use Rattle.row_lengths.specs.Lengths.{tooShort}
+use Rattle.batch.specs.Lengths.{tooShort}
 use Rattle.batch.specs.Rows.{Rows, frameAt, kindNumber, Run, start, took, answerTo, runFrom, runOf, Left, over, leaves, refusedBy, batchOf}
 
 -- ---- the bytes of a message, in the arena and as the answer has them

@@ -13,7 +13,7 @@ use Rattle.assembler.specs.declared.pool.Pool.{Pool}
 use Rattle.assembler.specs.declared.Received.{Received}
 use Rattle.assembler.specs.Slots.{impossible}
 use Rattle.assembler.specs.View.{slotsOf, receiveOf}
-use Rattle.row_lengths.specs.Lengths.{tooShort}
+use Rattle.batch.specs.Lengths.{tooShort}
 use Rattle.batch.specs.declared.Batch.{Batch}
 
 -- ---- the frames

@@ -1,8 +1,8 @@
 -- `too_short` meets its contract: each way out is a case of the definition. Assumes nothing.
 use borrow.Author.Needs.{needs}
-use Rattle.row_lengths.proofs.Laws.{short-rules}
-use Rattle.row_lengths.proofs.too_short.Statement.{statement}
-use Rattle.row_lengths.proofs.too_short.Tie as tie
+use Rattle.batch.proofs.LengthLaws.{short-rules}
+use Rattle.batch.proofs.row_lengths.too_short.Statement.{statement}
+use Rattle.batch.proofs.row_lengths.too_short.Tie as tie
 
 pub too-short-spec : {M : Type 1} → statement M
 too-short-spec =

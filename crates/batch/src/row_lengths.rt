@@ -1,9 +1,9 @@
 // Whether the rows that a batch is lent are long enough, and its arena for one message more.
 ghost use mathlib.Core.Path.{_≡_};
-ghost use Rattle.row_lengths.specs.Lengths.{tooShort, noRoom};
+ghost use Rattle.batch.specs.Lengths.{tooShort, noRoom};
 
 // Whether a row is shorter than the n frames ask: one entry for each of them, and eight bytes.
-pub fn too_short(
+pub(crate) fn too_short(
     n: usize,
     pgns: usize,
     sources: usize,
@@ -29,7 +29,7 @@ pub fn too_short(
 }
 
 // Whether a message of n bytes has no room, where `used` of `room` bytes are taken; no sum is taken, so none is too large.
-pub fn no_room(room: usize, used: usize, n: usize) -> bool
+pub(crate) fn no_room(room: usize, used: usize, n: usize) -> bool
     ensures { λ r. ⌜ r ≡ noRoom room used n ⌝ }
 {
     if used <= room { room - used < n } else { true }
