@@ -1,3 +1,4 @@
+pub mod MemoryLaws
 pub mod LengthLaws
 pub mod RowLaws
 pub mod SearchLaws

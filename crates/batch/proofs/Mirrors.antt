@@ -13,8 +13,8 @@ use Rattle.session.specs.declared.Head.{Head}
 use Rattle.session.specs.declared.Heard.{Heard}
 use Rattle.session.specs.Rules.{poolLimit}
 use Rattle.session.specs.Heads.{copiedHead}
-use Rattle.list_memory.specs.Memory.{Looked, recalled, learnt, lookedOf}
-use Rattle.list_memory.proofs.Laws.{looked-known, looked-new}
+use Rattle.batch.specs.inner.Looked.{Looked, recalled, learnt, lookedOf}
+use Rattle.batch.proofs.MemoryLaws.{looked-known, looked-new}
 use Rattle.batch.specs.inner.Mirror.{keyNumber, Shows, Mirrors}
 use Rattle.batch.specs.inner.Memory.{places, Remembers}
 

@@ -2,3 +2,4 @@
 pub mod Mirror
 pub mod Memory
 pub mod Ways
+pub mod Looked

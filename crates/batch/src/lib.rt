@@ -2,6 +2,7 @@
 // call does, frame by frame (specs/Rows).
 mod batching;
 mod bytes;
+mod list_memory;
 mod row_lengths;
 mod rows;
 mod search;

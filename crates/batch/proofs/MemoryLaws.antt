@@ -7,7 +7,7 @@ use lib.ListN.{getD, set}
 use borrow.Author.Tests.{eq-eqb, ne-eqb}
 use Rattle.base.specs.Pick.{pick}
 use Rattle.fast_packet.specs.FastPacket.{listedIn}
-use Rattle.list_memory.specs.Memory.{Looked, recalled, learnt, lookedOf}
+use Rattle.batch.specs.inner.Looked.{Looked, recalled, learnt, lookedOf}
 
 module _ (list ps : List ℕ) (bs : List Bool) (pgn : ℕ) where
   pub looked-known : getD ps (pgn % 64) 0 ≡ pgn → recalled ps bs (pgn % 64) ≡ lookedOf list ps bs pgn

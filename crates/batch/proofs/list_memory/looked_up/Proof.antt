@@ -2,10 +2,10 @@
 use borrow.Author.Needs.{needs}
 use Prim.Native.Nat.{_%_}
 use mathlib.Core.Path.{_≡_, refl, _∙_}
-use Rattle.list_memory.specs.Memory.{Looked, recalled, learnt}
-use Rattle.list_memory.proofs.Laws.{looked-known, looked-new}
-use Rattle.list_memory.proofs.looked_up.Statement.{statement}
-use Rattle.list_memory.proofs.looked_up.Tie as tie
+use Rattle.batch.specs.inner.Looked.{Looked, recalled, learnt}
+use Rattle.batch.proofs.MemoryLaws.{looked-known, looked-new}
+use Rattle.batch.proofs.list_memory.looked_up.Statement.{statement}
+use Rattle.batch.proofs.list_memory.looked_up.Tie as tie
 
 returns : tie.Need-returns
 unfolding recalled
