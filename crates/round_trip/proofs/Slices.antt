@@ -14,7 +14,7 @@ use Rattle.base.specs.Lists.{fill}
 use Rattle.base.proofs.Cases.{pick-all}
 use Rattle.base.proofs.Fills.{length-fill}
 use Rattle.bench_frames.specs.Frames.{eight, bytesOf, countIn}
-use Rattle.split_frame.specs.Bytes.{bytesAt, frameAt, countOf}
+use Rattle.splitter.specs.Bytes.{bytesAt, frameAt, countOf}
 use Rattle.splitter.specs.Split.{framesFrom, framesOf, idsOf, bytesAll, lensOf, idsWith, bytesWith, lensWith}
 use Rattle.bench_frames.specs.declared.Frame.{Frame}
 use Rattle.bench_frames.proofs.FrameLaws.{eight-same, eight-long}

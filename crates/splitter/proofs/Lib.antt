@@ -1,3 +1,5 @@
+pub mod ByteLaws
+pub mod SplitTypes
 pub mod SplitLaws
 pub mod Walked
 pub mod Unique

@@ -14,18 +14,18 @@ use Rattle.base.proofs.Cases.{pick-all}
 use mathlib.Core.Bool.{Bool, true, false}
 use Rattle.base.specs.Answer.{Answer, gives, refuses}
 use Rattle.bench_frames.specs.Frames.{bytesOf, countIn}
-use Rattle.split_frame.specs.Bytes.{bytesAt, frameAt, countOf}
-use Rattle.split_frame.specs.inner.Job.{toldOf, frameOf}
+use Rattle.splitter.specs.Bytes.{bytesAt, frameAt, countOf}
+use Rattle.splitter.specs.inner.OneFrame.{toldOf, frameOf}
 use Rattle.splitter.specs.Split.{framesFrom, framesOf, splitOf, rowWith, idsOf, bytesAll, lensOf, idsWith, bytesWith, lensWith}
 use Rattle.splitter.specs.Split.{ofSplit}
 use Rattle.base.specs.Answer.{counted}
-use Rattle.split_frame.specs.declared.Split.the-variants.{Frames, BadSplit, Short}
+use Rattle.splitter.specs.declared.split_frame.Split.the-variants.{Frames, BadSplit, Short}
 use Rattle.base.proofs.Laying.{sets-append}
 use Rattle.bench_frames.proofs.FrameLaws.{eight-same, eight-more}
 use Rattle.splitter.specs.inner.Job.{isUnsplit, afterOne, jobFrames, Made}
-use Rattle.split_frame.specs.declared.Job.{Job}
+use Rattle.splitter.specs.declared.split_frame.Job.{Job}
 use Rattle.bench_frames.specs.declared.Frame.{Frame}
-use Rattle.split_frame.specs.declared.Split.{Split}
+use Rattle.splitter.specs.declared.split_frame.Split.{Split}
 
 -- ---- the payload is copied
 module _ (out p : List ℕ) (i : ℕ) (e : take i out ≡ take i p) where

@@ -8,8 +8,8 @@ use Rattle.base.proofs.Cases.{determined, determined-by}
 use Rattle.bench_frames.specs.Frames.{countIn}
 use Rattle.splitter.specs.Split.{splitOf, ofSplit, rowWith, idsWith, bytesWith, lensWith}
 use Rattle.bench_frames.specs.declared.Frame.{Frame}
-use Rattle.split_frame.specs.declared.Split.{Split}
-use Rattle.split_frame.specs.declared.Split.the-variants.{Frames, BadSplit, Short}
+use Rattle.splitter.specs.declared.split_frame.Split.{Split}
+use Rattle.splitter.specs.declared.split_frame.Split.the-variants.{Frames, BadSplit, Short}
 
 -- the answer that has these numbers
 backSplit : Answer ℕ → Split

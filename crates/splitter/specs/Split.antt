@@ -8,9 +8,9 @@ use Rattle.base.specs.Answer.{Answer, gives, refuses}
 use Rattle.base.specs.Pick.{pick}
 use Rattle.bench_frames.specs.Frames.{bytesOf}
 use Rattle.bench_frames.specs.declared.Frame.{Frame}
-use Rattle.split_frame.specs.Bytes.{frameAt, countOf}
-use Rattle.split_frame.specs.declared.Split.{Split}
-use Rattle.split_frame.specs.declared.Split.the-variants.{Frames, BadSplit, Short}
+use Rattle.splitter.specs.Bytes.{frameAt, countOf}
+use Rattle.splitter.specs.declared.split_frame.Split.{Split}
+use Rattle.splitter.specs.declared.split_frame.Split.the-variants.{Frames, BadSplit, Short}
 
 -- n frames from an index on
 abbrev pub framesFrom : ℕ → ℕ → List ℕ → ℕ → ℕ → List Frame

@@ -5,17 +5,20 @@ ghost use lib.ListN.{length};
 ghost use lib.Seq.{sets};
 ghost use Rattle.base.specs.Answer.{counted};
 ghost use Rattle.bench_frames.specs.Frames.{countIn};
-ghost use Rattle.split_frame.specs.Bytes.{countOf};
+ghost use Rattle.splitter.specs.Bytes.{countOf};
 ghost use Rattle.splitter.specs.Split.{splitOf, ofSplit, rowWith, idsOf, bytesAll, lensOf, idsWith, bytesWith, lensWith};
 ghost use Rattle.splitter.specs.inner.Job.{isUnsplit, Made, afterOne, jobEnd, jobFrames};
+
+mod split_frame;
+
+use crate::split_frame::Job;
+use crate::split_frame::LATER_BYTES;
+use crate::split_frame::frame_of;
+use crate::split_frame::split_of;
 use bench_frames::FRAME_BYTES;
 pub use bench_frames::Frame;
 pub use bench_frames::frame_count;
-use split_frame::Job;
-use split_frame::LATER_BYTES;
 pub use split_frame::Split;
-use split_frame::frame_of;
-use split_frame::split_of;
 
 fn unsplit(s: Split) -> bool
     ensures { λ r. ⌜ r ≡ isUnsplit s ⌝ }

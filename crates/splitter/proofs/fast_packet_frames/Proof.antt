@@ -31,15 +31,15 @@ use Rattle.splitter.specs.Split.{splitOf, rowWith}
 use Rattle.splitter.specs.Split.{ofSplit}
 use Rattle.base.specs.Answer.{counted}
 use Rattle.bench_frames.specs.declared.Frame.{Frame}
-use Rattle.split_frame.proofs.Types.{job, split}
+use Rattle.splitter.proofs.SplitTypes.{job, split}
 use Rattle.bench_frames.proofs.Types.{frame}
 use Rattle.splitter.proofs.SplitLaws.{unsplit-stops, split-small, split-room, split-goes-on}
 use Rattle.splitter.proofs.Walked.{lay-ps, lay-asks, lay-says, knows-lay}
 use Rattle.splitter.proofs.lay.Symbol as lay-def
-use Rattle.split_frame.proofs.split_of.Kinds as split-kinds
-use Rattle.split_frame.proofs.split_of.Reads as split-reads
-use Rattle.split_frame.proofs.split_of.Symbol as split-def
-use Rattle.split_frame.proofs.split_of.Met as split-thm
+use Rattle.splitter.proofs.split_frame.split_of.Kinds as split-kinds
+use Rattle.splitter.proofs.split_frame.split_of.Reads as split-reads
+use Rattle.splitter.proofs.split_frame.split_of.Symbol as split-def
+use Rattle.splitter.proofs.split_frame.split_of.Met as split-thm
 use Rattle.splitter.proofs.unsplit.Kinds as unsplit-kinds
 use Rattle.splitter.proofs.unsplit.Reads as unsplit-reads
 use Rattle.splitter.proofs.unsplit.Symbol as unsplit-def
@@ -100,7 +100,7 @@ derives w κs qs bs =
     -- s = split_of(sequence, payload.len(), row.len())
     next (assigns (oFld 3 (field 1 ∷ []) word 8 lenV) 9 (sInt w64) (reads-sslice-len (K .𝓤) (K .H) (K .A) (K .W) u8 τ 0 8 refl, refl) (empty K word) refl (λ u. refl) (λ u. tt)) ∵
     next (assigns (oFld 4 (field 1 ∷ []) word 8 lenV) 10 (sInt w64) (reads-mslice-len (K .𝓤) (K .H) (K .A) (K .W) (ty frame) τr 1 8 refl, refl) (empty K word) refl (λ u. refl) (λ u. tt)) ∵
-    next (calls split-kinds.ps split-kinds.r split-reads.Asked split-reads.Learnt split-def.name (split-reads.known w code.env split-def.name split-def.routine code.calls-split-frame·split-of (split-thm.met (w .𝓤) (w .H) (w .𝓜) (w .𝓖) (w .𝓡)))
+    next (calls split-kinds.ps split-kinds.r split-reads.Asked split-reads.Learnt split-def.name (split-reads.known w code.env split-def.name split-def.routine code.calls-splitter·split-frame·split-of (split-thm.met (w .𝓤) (w .H) (w .𝓜) (w .𝓖) (w .𝓡)))
     (vAt 2 (λ x. x), (vAt 9 (λ x. x), (vAt 10 (λ x. x), tt))) 5 [] ((number K w8, refl), ((number K w64, refl), ((number K w64, refl), tt))) (empty K (mirOf split)) tt refl) ∵
     gone 9 word (scalar K (sInt w64)) ∵
     gone 10 word (scalar K (sInt w64)) ∵

@@ -4,11 +4,11 @@ use mathlib.Core.Bool.{Bool, true, false}
 use mathlib.Core.List.{List, [], _∷_}
 use mathlib.Core.Path.{_≡_}
 use lib.ListN.{take}
-use Rattle.split_frame.specs.inner.Job.{frameOf}
+use Rattle.splitter.specs.inner.OneFrame.{frameOf}
 use Rattle.bench_frames.specs.declared.Frame.{Frame}
-use Rattle.split_frame.specs.declared.Job.{Job}
-use Rattle.split_frame.specs.declared.Split.{Split}
-use Rattle.split_frame.specs.declared.Split.the-variants.{Frames, BadSplit, Short}
+use Rattle.splitter.specs.declared.split_frame.Job.{Job}
+use Rattle.splitter.specs.declared.split_frame.Split.{Split}
+use Rattle.splitter.specs.declared.split_frame.Split.the-variants.{Frames, BadSplit, Short}
 
 abbrev pub isUnsplit : Split → Bool
 isUnsplit (Frames n) = false

@@ -1,9 +1,9 @@
 -- `byte` meets its contract: the facts on each way out pick the law of that case. Assumes nothing.
 use borrow.Author.Needs.{needs}
 use native.Mathlib.Omega.{arith}
-use Rattle.split_frame.proofs.FrameLaws.{byte-in, byte-past}
-use Rattle.split_frame.proofs.byte.Statement.{statement}
-use Rattle.split_frame.proofs.byte.Tie as tie
+use Rattle.splitter.proofs.ByteLaws.{byte-in, byte-past}
+use Rattle.splitter.proofs.split_frame.byte.Statement.{statement}
+use Rattle.splitter.proofs.split_frame.byte.Tie as tie
 
 pub byte-spec : {M : Type 1} → statement M
 byte-spec =

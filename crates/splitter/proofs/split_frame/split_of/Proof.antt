@@ -1,9 +1,9 @@
 -- `split_of` meets its contract: the facts on each way out pick the law of that case. Assumes nothing.
 use borrow.Author.Needs.{needs}
 use Rattle.base.proofs.Cases.{cases}
-use Rattle.split_frame.specs.inner.Job.{toldOf}
-use Rattle.split_frame.proofs.split_of.Statement.{statement}
-use Rattle.split_frame.proofs.split_of.Tie as tie
+use Rattle.splitter.specs.inner.OneFrame.{toldOf}
+use Rattle.splitter.proofs.split_frame.split_of.Statement.{statement}
+use Rattle.splitter.proofs.split_frame.split_of.Tie as tie
 
 pub split-of-spec : {M : Type 1} → statement M
 unfolding toldOf

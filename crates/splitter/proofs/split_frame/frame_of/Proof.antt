@@ -1,9 +1,9 @@
 -- `frame_of` meets its contract: what follows the header is the law of that index. Assumes nothing.
 use borrow.Author.Needs.{needs}
 use native.Mathlib.Omega.{arith}
-use Rattle.split_frame.proofs.FrameLaws.{frame-first, frame-later}
-use Rattle.split_frame.proofs.frame_of.Statement.{statement}
-use Rattle.split_frame.proofs.frame_of.Tie as tie
+use Rattle.splitter.proofs.ByteLaws.{frame-first, frame-later}
+use Rattle.splitter.proofs.split_frame.frame_of.Statement.{statement}
+use Rattle.splitter.proofs.split_frame.frame_of.Tie as tie
 
 pub frame-of-spec : {M : Type 1} → statement M
 frame-of-spec =

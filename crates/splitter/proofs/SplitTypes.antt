@@ -1,9 +1,9 @@
 -- The types that the walked functions pass on, each with the laws that Rattle makes of it.
 use Rattle.walk.proofs.Walk.{Plain, struct, enum}
-use Rattle.split_frame.proofs.Job as Job
-use Rattle.split_frame.proofs.Job.Laws as Job′
-use Rattle.split_frame.proofs.Split as Split
-use Rattle.split_frame.proofs.Split.Laws as Split′
+use Rattle.splitter.proofs.split_frame.Job as Job
+use Rattle.splitter.proofs.split_frame.Job.Laws as Job′
+use Rattle.splitter.proofs.split_frame.Split as Split
+use Rattle.splitter.proofs.split_frame.Split.Laws as Split′
 
 abbrev pub job : Plain
 job = struct Job.the-type Job′.the-laws Job′.the-copy Job′.the-plain

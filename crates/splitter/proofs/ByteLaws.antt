@@ -9,9 +9,9 @@ use lib.Seq.{getD-take, getD-drop}
 use Rattle.base.specs.Lists.{fill}
 use Rattle.base.proofs.Fills.{getD-in, pasted, fill-turn, fill-done}
 use Rattle.base.proofs.Cases.{when-eq, when-ne}
-use Rattle.split_frame.specs.Bytes.{bytesAt, frameAt}
-use Rattle.split_frame.specs.inner.Job.{frameOf}
-use Rattle.split_frame.specs.declared.Job.{Job}
+use Rattle.splitter.specs.Bytes.{bytesAt, frameAt}
+use Rattle.splitter.specs.inner.OneFrame.{frameOf}
+use Rattle.splitter.specs.declared.split_frame.Job.{Job}
 
 -- ---- a byte of the payload, or the filling
 getD-past : (l : List ℕ) (i d : ℕ) → length l ≤ i → d ≡ getD l i d

@@ -4,10 +4,10 @@ use lib.ListN.{take}
 use lib.Dec.{eqb, ltb}
 use Rattle.base.specs.Pick.{pick}
 use Rattle.bench_frames.specs.declared.Frame.{Frame}
-use Rattle.split_frame.specs.Bytes.{frameAt, countOf}
-use Rattle.split_frame.specs.declared.Job.{Job}
-use Rattle.split_frame.specs.declared.Split.{Split}
-use Rattle.split_frame.specs.declared.Split.the-variants.{Frames, BadSplit, Short}
+use Rattle.splitter.specs.Bytes.{frameAt, countOf}
+use Rattle.splitter.specs.declared.split_frame.Job.{Job}
+use Rattle.splitter.specs.declared.split_frame.Split.{Split}
+use Rattle.splitter.specs.declared.split_frame.Split.the-variants.{Frames, BadSplit, Short}
 
 -- the answer, from the sizes alone
 unfoldable pub toldOf : ℕ → ℕ → ℕ → Split

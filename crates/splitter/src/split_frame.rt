@@ -4,7 +4,7 @@ ghost use Prim.Native.Nat.{_-_, _≤_};
 ghost use mathlib.Core.List.{_++_};
 ghost use lib.ListN.{take, drop, getD};
 ghost use Rattle.base.specs.Lists.{fill};
-ghost use Rattle.split_frame.specs.inner.Job.{toldOf, frameOf};
+ghost use Rattle.splitter.specs.inner.OneFrame.{toldOf, frameOf};
 use bench_frames::FILL;
 use bench_frames::FRAME_BYTES;
 use bench_frames::Frame;
@@ -16,7 +16,7 @@ use bench_frames::SEQUENCES;
 const LAST_SEQUENCE: u8 = 7;
 
 // A first frame has its length and six bytes; any other has up to this many.
-pub const LATER_BYTES: usize = 7;
+pub(crate) const LATER_BYTES: usize = 7;
 
 // What the splitter answers: the number of frames, or why there is none.
 pub enum Split {
@@ -26,7 +26,7 @@ pub enum Split {
 }
 
 // A payload that is being laid out, with the index of its next frame.
-pub struct Job {
+pub(crate) struct Job {
     pub id: u32,
     pub sequence: u8,
     pub index: u8,
@@ -35,7 +35,7 @@ pub struct Job {
 }
 
 // What the splitter answers, from the sizes alone.
-pub fn split_of(sequence: u8, size: usize, room: usize) -> Split
+pub(crate) fn split_of(sequence: u8, size: usize, room: usize) -> Split
     ensures { λ r. ⌜ r ≡ toldOf sequence size room ⌝ }
 {
     if size == 0 {
@@ -78,7 +78,7 @@ fn follow(start: [u8; 8], from: usize, bytes: [u8; 256], size: u8, at: usize) ->
 }
 
 // The next frame of a job: a first frame has its message's length and six bytes, any other has seven.
-pub fn frame_of(j: Job) -> Frame
+pub(crate) fn frame_of(j: Job) -> Frame
     ensures { λ r. ⌜ r ≡ frameOf j ⌝ }
 {
     let b = j.payload;

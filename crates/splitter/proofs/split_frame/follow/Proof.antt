@@ -5,9 +5,9 @@ use borrow.Author.Needs.{needs}
 use lib.ListN.{length, take, drop}
 use native.Mathlib.Omega.{arith}
 use Rattle.base.proofs.Fills.{pasted, fill-none}
-use Rattle.split_frame.proofs.FrameLaws.{follow-turn, follow-done}
-use Rattle.split_frame.proofs.follow.Statement.{statement}
-use Rattle.split_frame.proofs.follow.Tie as tie
+use Rattle.splitter.proofs.ByteLaws.{follow-turn, follow-done}
+use Rattle.splitter.proofs.split_frame.follow.Statement.{statement}
+use Rattle.splitter.proofs.split_frame.follow.Tie as tie
 
 abbrev Inv-loop : tie.InvT-loop
 Inv-loop from bytes size at data₀ k₀ i₀ «data» k i =
