@@ -3,7 +3,7 @@ ghost use mathlib.Core.Path.{_≡_};
 ghost use Rattle.bench_ids.specs.Ids.{pgnOf, isOther};
 ghost use Rattle.bench_ids.specs.Claims.{claimAfter};
 ghost use Rattle.bench_ids.specs.declared.Claim.the-variants.{Awaited};
-use bench_frames::FRAME_BYTES;
+use splitter::FRAME_BYTES;
 
 // From this PF on an identifier has no destination.
 const FIRST_BROADCAST_PF: u32 = 240;

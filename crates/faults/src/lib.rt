@@ -2,10 +2,10 @@
 ghost use mathlib.Core.Path.{_≡_};
 ghost use lib.ListN.{drop};
 ghost use Rattle.faults.specs.Frames.{oddOf, paddingAt, firstThen, laterThen, faultThen, messageEnd, faultAt};
-use bench_frames::FILL;
-use bench_frames::FRAME_BYTES;
-use bench_frames::INDICES;
-use bench_frames::MAX_FAST_PACKET_PAYLOAD;
+use splitter::FILL;
+use splitter::FRAME_BYTES;
+use splitter::INDICES;
+use splitter::MAX_FAST_PACKET_PAYLOAD;
 
 // Why a row of frames is refused, at frame n: 20 to 25 of the paper.
 pub enum Fault {

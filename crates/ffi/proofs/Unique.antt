@@ -17,8 +17,8 @@ use Rattle.assembler.specs.declared.Received.{Received}
 use Rattle.base.specs.Answer.{Answer}
 use Rattle.batch.specs.Rows.{Left as Rowed}
 use Rattle.oracle.specs.Strict.{Message}
-use Rattle.bench_frames.specs.Frames.{countIn}
-use Rattle.bench_frames.specs.declared.Frame.{Frame}
+use Rattle.splitter.specs.Frames.{countIn}
+use Rattle.splitter.specs.declared.bench_frames.Frame.{Frame}
 use Rattle.ffi.specs.Batches.{LeftBy}
 use Rattle.bench_numbers.specs.Fives.{fiveOf}
 use Rattle.ffi.specs.Bench.{Reassembles, Splits}

@@ -6,9 +6,9 @@ use lib.ListN.{length}
 use Rattle.base.specs.Answer.{Answer, counted}
 use Rattle.oracle.specs.Strict.{Message, deliveredTo, listWith, arenaWith}
 use Rattle.slice_rows.specs.Rows.{rowIn}
-use Rattle.bench_frames.specs.Frames.{countIn}
+use Rattle.splitter.specs.Frames.{countIn}
 use Rattle.splitter.specs.Split.{splitOf, idsWith, bytesWith, lensWith}
-use Rattle.bench_frames.specs.declared.Frame.{Frame}
+use Rattle.splitter.specs.declared.bench_frames.Frame.{Frame}
 use Rattle.numbers.specs.Numbers.{codeOf, valueOf}
 use Rattle.bench_numbers.specs.Fives.{fiveOf}
 

@@ -1,12 +1,11 @@
 // The bench: strict reassembly, the splitter and the transmit check, over rows of numbers.
 ghost use mathlib.Core.Path.{_≡_};
-ghost use Rattle.bench_frames.specs.Frames.{countIn};
+ghost use Rattle.splitter.specs.Frames.{countIn};
 ghost use Rattle.oracle.specs.Check.{checkTxOf};
 ghost use Rattle.slice_rows.specs.Rows.{rowIn};
 ghost use Rattle.numbers.specs.Numbers.{codeOf};
 ghost use Rattle.bench_numbers.specs.Fives.{fiveOf};
 ghost use Rattle.ffi.specs.Bench.{Reassembles, Splits, reassembledIn, splitIn};
-use bench_frames::frame_count;
 use bench_numbers::split_count;
 use bench_numbers::split_number;
 use bench_numbers::told_checked;
@@ -14,6 +13,7 @@ use bench_numbers::told_reassembled;
 use oracle::check_tx_rows;
 use oracle::reassemble_rows;
 use splitter::fast_packet_rows;
+use splitter::frame_count;
 
 // The frames are rows of identifiers, eight bytes a frame, and lengths; the shortest row decides. 0 and in values[0] the number of messages, or a
 // refusal and what it carries. The list gets sequence, start and length of each message.

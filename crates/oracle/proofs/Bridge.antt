@@ -17,7 +17,7 @@ use lib.Seq.{sets, length-take-le, take-all, drop-drop, take-append-add, drop-ap
 use Rattle.base.specs.Answer.{Answer, gives, refuses, counted}
 use Rattle.base.specs.Pick.{pick}
 use Rattle.base.proofs.Cases.{tested, less?, same?, when-eq, when-ne, when-lt, when-ge, when-true, when-false}
-use Rattle.bench_frames.specs.Frames.{eight, bytesOf}
+use Rattle.splitter.specs.Frames.{eight, bytesOf}
 use Rattle.bench_ids.specs.Ids.{isOther}
 use Rattle.faults.specs.Frames.{indexOf, sequenceOf, oddOf, paddingAt, firstThen, laterThen, messageEnd, faultAt}
 use Rattle.verdicts.proofs.Laws.{row-passed, row-refused}
@@ -25,7 +25,7 @@ use Rattle.oracle.specs.Strict.{Message, Open, Outcome, refused, waits, 
 use Rattle.faults.specs.Numbers.{numberOf, valuesOf}
 use Rattle.verdicts.specs.Numbers.{ofReassembled}
 use Rattle.oracle.specs.inner.Scan.{headOf, missingOf, faultOf, skipped, refusedAt, taken, isRefused, stepOn, stepOf, scanOf, startOf, Counted, addedOf, rowOf, bytesLaid, rowsLaid, verdictOf, isNone}
-use Rattle.bench_frames.specs.declared.Frame.{Frame}
+use Rattle.splitter.specs.declared.bench_frames.Frame.{Frame}
 use Rattle.oracle.specs.declared.Scan.{Scan}
 use Rattle.faults.specs.declared.Fault.{Fault}
 use Rattle.faults.specs.declared.Fault.the-variants.{Length, Restarted, Announced, Stray, Order, Padding}
@@ -33,7 +33,7 @@ use Rattle.faults.specs.declared.Standing.{Standing}
 use Rattle.faults.specs.declared.Standing.the-variants.{Clear, At}
 use Rattle.verdicts.specs.declared.Reassembled.{Reassembled}
 use Rattle.verdicts.specs.declared.Reassembled.the-variants.{Messages, Refused, Incomplete, NoRoom}
-use Rattle.bench_frames.proofs.FrameLaws.{eight-long}
+use Rattle.splitter.proofs.FrameLaws.{eight-long}
 use Rattle.oracle.proofs.Grows.{head-low, head-high, added-end}
 
 -- ---- what the code knows of an open message: all but its bytes

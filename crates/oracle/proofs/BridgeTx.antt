@@ -16,7 +16,7 @@ use lib.Seq.{sets, sets-eq, length-sets, length-take-le, take-append-seam, getD-
 use Rattle.base.specs.Answer.{Answer, gives, refuses}
 use Rattle.base.specs.Pick.{pick}
 use Rattle.base.proofs.Cases.{tested, less?, same?, pick-all, when-eq, when-ne, when-lt, when-ge, when-true, when-false}
-use Rattle.bench_frames.specs.Frames.{eight, bytesOf}
+use Rattle.splitter.specs.Frames.{eight, bytesOf}
 use Rattle.bench_ids.specs.Ids.{isOther}
 use Rattle.bench_ids.specs.Claims.{claimAfter}
 use Rattle.bench_ids.specs.declared.Claim.{Claim}
@@ -29,7 +29,7 @@ use Rattle.faults.specs.Numbers.{numberOf, valuesOf}
 use Rattle.verdicts.specs.Numbers.{ofReassembled, ofChecked}
 use Rattle.oracle.specs.inner.Scan.{headOf, faultOf, skipped, refusedAt, taken, isRefused, stepOn, stepOf, scanOf, startOf, Counted, addedOf}
 use Rattle.oracle.specs.inner.Tx.{isBad, bufferOf, badOf, lastOf, isUnclaimed, txOf, txAll, txStart, overOf, faultyOf, ranOf, checkedOf}
-use Rattle.bench_frames.specs.declared.Frame.{Frame}
+use Rattle.splitter.specs.declared.bench_frames.Frame.{Frame}
 use Rattle.oracle.specs.declared.Scan.{Scan}
 use Rattle.oracle.specs.declared.Tx.{Tx}
 use Rattle.faults.specs.declared.Fault.{Fault}
@@ -37,7 +37,7 @@ use Rattle.faults.specs.declared.Standing.{Standing}
 use Rattle.faults.specs.declared.Standing.the-variants.{Clear, At}
 use Rattle.verdicts.specs.declared.Checked.{Checked}
 use Rattle.verdicts.specs.declared.Checked.the-variants.{Good, NoCount, Over, NoClaim, Faulty, Open as OpenAt, Count, Size, Hours, Pattern, Sequence}
-use Rattle.bench_frames.proofs.FrameLaws.{eight-long}
+use Rattle.splitter.proofs.FrameLaws.{eight-long}
 use Rattle.oracle.proofs.Grows.{added-end}
 use Rattle.oracle.proofs.Bridge.{Shows, Knows, had, added, Does, Refuses, Waits, Whole, frame-does, Stops, by-fault, by-end, Done, Tells, row-tells, skips, finds, takes, adds, skip-adds, skip-knows}
 

@@ -5,12 +5,12 @@ use mathlib.Core.Path.{_≡_, refl, sym, ap, _∙_}
 use native.Mathlib.Omega.{arith}
 use lib.ListN.{length, getD, drop}
 use lib.Seq.{sets}
-use Rattle.bench_frames.specs.Frames.{countIn}
+use Rattle.splitter.specs.Frames.{countIn}
 use Rattle.slice_rows.specs.Rows.{frameIn, framesIn, rowIn, frameOrNone}
 use Rattle.slice_rows.proofs.Laws.{frame-there}
 use Rattle.oracle.specs.inner.Scan.{stepOf, scanOf, addedOf, rowOf, bytesLaid, rowsLaid, Counted, Small}
 use Rattle.oracle.specs.inner.Tx.{txOf, txAll}
-use Rattle.bench_frames.specs.declared.Frame.{Frame}
+use Rattle.splitter.specs.declared.bench_frames.Frame.{Frame}
 use Rattle.oracle.specs.declared.Scan.{Scan}
 use Rattle.oracle.specs.declared.Tx.{Tx}
 use Rattle.oracle.proofs.Grows.{counts, arena-more, list-more}

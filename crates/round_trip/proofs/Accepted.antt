@@ -18,15 +18,15 @@ use Rattle.base.specs.Pick.{pick}
 use Rattle.base.specs.Lists.{fill}
 use Rattle.base.proofs.Fills.{length-fill, take-fill}
 use Rattle.base.proofs.Cases.{tested, less?, same?, when-eq, when-ne, when-lt, when-ge, when-true, when-false}
-use Rattle.bench_frames.specs.Frames.{eight, bytesOf}
+use Rattle.splitter.specs.Frames.{eight, bytesOf}
 use Rattle.bench_ids.specs.Ids.{isOther}
 use Rattle.faults.specs.Frames.{indexOf, sequenceOf, oddOf}
 use Rattle.oracle.specs.Strict.{Message, Open, Outcome, refused, waits, whole, collectedAt, firstFrame, laterFrame, outcomeOf, before, thenOf, endOf, messagesFrom, messagesOf}
 use Rattle.splitter.specs.Bytes.{bytesAt, frameAt, countOf}
 use Rattle.splitter.specs.Split.{framesFrom, framesOf}
 use Rattle.round_trip.specs.Sent.{own, under, splitAll, AreBytes, AreSplit}
-use Rattle.bench_frames.specs.declared.Frame.{Frame}
-use Rattle.bench_frames.proofs.FrameLaws.{eight-long}
+use Rattle.splitter.specs.declared.bench_frames.Frame.{Frame}
+use Rattle.splitter.proofs.FrameLaws.{eight-long}
 
 -- ---- the frames of a row that are not skipped
 pub owned : (id source pgn : ℕ) (f : Frame) (fs : List Frame) → isOther source pgn (f .id) ≡ false → under id (own source pgn (f ∷ fs)) ≡ record { id = id; «data» = bytesOf f; len = f .len } ∷ under id (own source pgn fs)

@@ -19,15 +19,15 @@ use Rattle.base.specs.Pick.{pick}
 use Rattle.base.specs.Lists.{fill}
 use Rattle.base.proofs.Fills.{length-fill, take-fill}
 use Rattle.base.proofs.Cases.{tested, less?, same?, when-eq, when-ne, when-lt, when-ge, when-true, when-false}
-use Rattle.bench_frames.specs.Frames.{eight, bytesOf}
+use Rattle.splitter.specs.Frames.{eight, bytesOf}
 use Rattle.bench_ids.specs.Ids.{sourceOf, pgnOf, isOther}
 use Rattle.faults.specs.Frames.{indexOf, sequenceOf, oddOf}
 use Rattle.oracle.specs.Strict.{Message, Open, Outcome, refused, waits, whole, collectedAt, firstFrame, laterFrame, outcomeOf, before, thenOf, endOf, messagesFrom, messagesOf, payloadsOf, roomFor, deliveredTo}
 use Rattle.splitter.specs.Bytes.{bytesAt, frameAt, countOf}
 use Rattle.splitter.specs.Split.{framesFrom, framesOf}
 use Rattle.round_trip.specs.Sent.{own, under, splitAll, AreSplit}
-use Rattle.bench_frames.specs.declared.Frame.{Frame}
-use Rattle.bench_frames.proofs.FrameLaws.{eight-same}
+use Rattle.splitter.specs.declared.bench_frames.Frame.{Frame}
+use Rattle.splitter.proofs.FrameLaws.{eight-same}
 use Rattle.splitter.proofs.SplitLaws.{bytes-eight}
 use Rattle.round_trip.proofs.Accepted.{owned, passed}
 

@@ -13,11 +13,11 @@ use Rattle.base.specs.Answer.{gives}
 use Rattle.base.specs.Lists.{fill}
 use Rattle.base.proofs.Cases.{pick-all}
 use Rattle.base.proofs.Fills.{length-fill}
-use Rattle.bench_frames.specs.Frames.{eight, bytesOf, countIn}
+use Rattle.splitter.specs.Frames.{eight, bytesOf, countIn}
 use Rattle.splitter.specs.Bytes.{bytesAt, frameAt, countOf}
 use Rattle.splitter.specs.Split.{framesFrom, framesOf, idsOf, bytesAll, lensOf, idsWith, bytesWith, lensWith}
-use Rattle.bench_frames.specs.declared.Frame.{Frame}
-use Rattle.bench_frames.proofs.FrameLaws.{eight-same, eight-long}
+use Rattle.splitter.specs.declared.bench_frames.Frame.{Frame}
+use Rattle.splitter.proofs.FrameLaws.{eight-same, eight-long}
 use Rattle.splitter.proofs.SplitLaws.{length-frames}
 use Rattle.slice_rows.specs.Rows.{frameIn, framesIn, rowIn}
 

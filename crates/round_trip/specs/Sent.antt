@@ -3,11 +3,11 @@ use Prim.Native.Nat.{ℕ, _<_, _≤_}
 use mathlib.Core.List.{List, [], _∷_, _++_}
 use lib.ListN.{length, getD}
 use Rattle.base.specs.Pick.{pick}
-use Rattle.bench_frames.specs.Frames.{bytesOf}
+use Rattle.splitter.specs.Frames.{bytesOf}
 use Rattle.bench_ids.specs.Ids.{isOther}
 use Rattle.oracle.specs.Strict.{Message}
 use Rattle.splitter.specs.Split.{framesOf}
-use Rattle.bench_frames.specs.declared.Frame.{Frame}
+use Rattle.splitter.specs.declared.bench_frames.Frame.{Frame}
 
 -- the frames of a row that strict reassembly does not skip, in order
 unfoldable pub own : ℕ → ℕ → List Frame → List Frame

@@ -7,8 +7,8 @@ use native.Mathlib.Omega.{arith}
 use lib.ListN.{length, getD, drop, replicate}
 use lib.Seq.{getD-drop}
 use Rattle.base.proofs.Cases.{when-lt, when-ge}
-use Rattle.bench_frames.specs.Frames.{eight, countIn}
-use Rattle.bench_frames.specs.declared.Frame.{Frame}
+use Rattle.splitter.specs.Frames.{eight, countIn}
+use Rattle.splitter.specs.declared.bench_frames.Frame.{Frame}
 use Rattle.slice_rows.specs.Rows.{frameIn, frameOrNone}
 
 -- eight bytes, one by one

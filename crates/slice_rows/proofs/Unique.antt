@@ -3,7 +3,7 @@ use Prim.Native.Nat.{ℕ}
 use mathlib.Core.List.{List}
 use mathlib.Core.Path.{_≡_}
 use Rattle.base.proofs.Cases.{determined}
-use Rattle.bench_frames.specs.declared.Frame.{Frame}
+use Rattle.splitter.specs.declared.bench_frames.Frame.{Frame}
 use Rattle.slice_rows.specs.Rows.{frameOrNone}
 
 pub frame-in-unique : (ids bytes lens : List ℕ) (i : ℕ) {r r′ : Frame} → r ≡ frameOrNone ids bytes lens i → r′ ≡ frameOrNone ids bytes lens i → r ≡ r′

@@ -4,8 +4,8 @@ use mathlib.Core.List.{List, [], _∷_}
 use lib.Dec.{ltb}
 use lib.ListN.{length, getD, drop, replicate}
 use Rattle.base.specs.Pick.{pick}
-use Rattle.bench_frames.specs.Frames.{eight, countIn}
-use Rattle.bench_frames.specs.declared.Frame.{Frame}
+use Rattle.splitter.specs.Frames.{eight, countIn}
+use Rattle.splitter.specs.declared.bench_frames.Frame.{Frame}
 
 -- frame i has the identifier at i, the eight bytes from 8 × i on, and the length at i
 unfoldable pub frameIn : List ℕ → List ℕ → List ℕ → ℕ → Frame

@@ -2,11 +2,11 @@
 ghost use mathlib.Core.Path.{_≡_};
 ghost use Prim.Native.Nat.{_≤_, _+_};
 ghost use lib.ListN.{length, drop};
-ghost use Rattle.bench_frames.specs.Frames.{eight};
+ghost use Rattle.splitter.specs.Frames.{eight};
 ghost use Rattle.slice_rows.specs.Rows.{frameOrNone};
-use bench_frames::FRAME_BYTES;
-use bench_frames::Frame;
-use bench_frames::frame_count;
+use splitter::FRAME_BYTES;
+use splitter::Frame;
+use splitter::frame_count;
 
 fn eight_in(bytes: &[u8], at: usize) -> [u8; 8]
     requires { ⌜ at + 8 ≤ length (now bytes) ⌝ }

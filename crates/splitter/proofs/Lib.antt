@@ -1,3 +1,6 @@
+pub mod FrameLaws
+pub mod Types
+pub mod FrameUnique
 pub mod ByteLaws
 pub mod SplitTypes
 pub mod SplitLaws

@@ -13,7 +13,7 @@ use Rattle.base.proofs.Fills.{length-fill}
 use Rattle.base.proofs.Cases.{pick-all}
 use mathlib.Core.Bool.{Bool, true, false}
 use Rattle.base.specs.Answer.{Answer, gives, refuses}
-use Rattle.bench_frames.specs.Frames.{bytesOf, countIn}
+use Rattle.splitter.specs.Frames.{bytesOf, countIn}
 use Rattle.splitter.specs.Bytes.{bytesAt, frameAt, countOf}
 use Rattle.splitter.specs.inner.OneFrame.{toldOf, frameOf}
 use Rattle.splitter.specs.Split.{framesFrom, framesOf, splitOf, rowWith, idsOf, bytesAll, lensOf, idsWith, bytesWith, lensWith}
@@ -21,10 +21,10 @@ use Rattle.splitter.specs.Split.{ofSplit}
 use Rattle.base.specs.Answer.{counted}
 use Rattle.splitter.specs.declared.split_frame.Split.the-variants.{Frames, BadSplit, Short}
 use Rattle.base.proofs.Laying.{sets-append}
-use Rattle.bench_frames.proofs.FrameLaws.{eight-same, eight-more}
+use Rattle.splitter.proofs.FrameLaws.{eight-same, eight-more}
 use Rattle.splitter.specs.inner.Job.{isUnsplit, afterOne, jobFrames, Made}
 use Rattle.splitter.specs.declared.split_frame.Job.{Job}
-use Rattle.bench_frames.specs.declared.Frame.{Frame}
+use Rattle.splitter.specs.declared.bench_frames.Frame.{Frame}
 use Rattle.splitter.specs.declared.split_frame.Split.{Split}
 
 -- ---- the payload is copied

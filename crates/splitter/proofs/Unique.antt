@@ -5,9 +5,9 @@ use mathlib.Core.Path.{_≡_, refl}
 use lib.ListN.{length, getD}
 use Rattle.base.specs.Answer.{Answer, gives, refuses, counted}
 use Rattle.base.proofs.Cases.{determined, determined-by}
-use Rattle.bench_frames.specs.Frames.{countIn}
+use Rattle.splitter.specs.Frames.{countIn}
 use Rattle.splitter.specs.Split.{splitOf, ofSplit, rowWith, idsWith, bytesWith, lensWith}
-use Rattle.bench_frames.specs.declared.Frame.{Frame}
+use Rattle.splitter.specs.declared.bench_frames.Frame.{Frame}
 use Rattle.splitter.specs.declared.split_frame.Split.{Split}
 use Rattle.splitter.specs.declared.split_frame.Split.the-variants.{Frames, BadSplit, Short}
 

@@ -5,7 +5,7 @@ use lib.ListN.{length, drop}
 use lib.Dec.{eqb}
 use Rattle.base.specs.Pick.{pick}
 use Rattle.base.specs.Lists.{fill}
-use Rattle.bench_frames.specs.declared.Frame.{Frame}
+use Rattle.splitter.specs.declared.bench_frames.Frame.{Frame}
 
 -- "byte 0 is (sequence modulo 8) times 32 plus (index modulo 32). If no byte was sent, byte 1 is the length and up to 6 bytes follow;
 -- else up to 7 follow byte 0. The rest is 0xFF": 7 × index - 1 bytes were sent

@@ -1,3 +1,4 @@
+pub mod Frames
 pub mod Bytes
 pub mod Split
 pub mod inner

@@ -6,8 +6,8 @@ use lib.Seq.{sets}
 use lib.Dec.{eqb, ltb}
 use Rattle.base.specs.Answer.{Answer, gives, refuses}
 use Rattle.base.specs.Pick.{pick}
-use Rattle.bench_frames.specs.Frames.{bytesOf}
-use Rattle.bench_frames.specs.declared.Frame.{Frame}
+use Rattle.splitter.specs.Frames.{bytesOf}
+use Rattle.splitter.specs.declared.bench_frames.Frame.{Frame}
 use Rattle.splitter.specs.Bytes.{frameAt, countOf}
 use Rattle.splitter.specs.declared.split_frame.Split.{Split}
 use Rattle.splitter.specs.declared.split_frame.Split.the-variants.{Frames, BadSplit, Short}

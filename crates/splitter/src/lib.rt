@@ -4,19 +4,24 @@ ghost use Prim.Native.Nat.{_≤_, _+_};
 ghost use lib.ListN.{length};
 ghost use lib.Seq.{sets};
 ghost use Rattle.base.specs.Answer.{counted};
-ghost use Rattle.bench_frames.specs.Frames.{countIn};
+ghost use Rattle.splitter.specs.Frames.{countIn};
 ghost use Rattle.splitter.specs.Bytes.{countOf};
 ghost use Rattle.splitter.specs.Split.{splitOf, ofSplit, rowWith, idsOf, bytesAll, lensOf, idsWith, bytesWith, lensWith};
 ghost use Rattle.splitter.specs.inner.Job.{isUnsplit, Made, afterOne, jobEnd, jobFrames};
 
+mod bench_frames;
 mod split_frame;
 
 use crate::split_frame::Job;
 use crate::split_frame::LATER_BYTES;
 use crate::split_frame::frame_of;
 use crate::split_frame::split_of;
-use bench_frames::FRAME_BYTES;
+pub use bench_frames::FILL;
+pub use bench_frames::FRAME_BYTES;
 pub use bench_frames::Frame;
+pub use bench_frames::INDICES;
+pub use bench_frames::MAX_FAST_PACKET_PAYLOAD;
+pub use bench_frames::SEQUENCES;
 pub use bench_frames::frame_count;
 pub use split_frame::Split;
 

@@ -5,12 +5,12 @@ ghost use mathlib.Core.List.{_++_};
 ghost use lib.ListN.{take, drop, getD};
 ghost use Rattle.base.specs.Lists.{fill};
 ghost use Rattle.splitter.specs.inner.OneFrame.{toldOf, frameOf};
-use bench_frames::FILL;
-use bench_frames::FRAME_BYTES;
-use bench_frames::Frame;
-use bench_frames::INDICES;
-use bench_frames::MAX_FAST_PACKET_PAYLOAD;
-use bench_frames::SEQUENCES;
+use crate::bench_frames::FILL;
+use crate::bench_frames::FRAME_BYTES;
+use crate::bench_frames::Frame;
+use crate::bench_frames::INDICES;
+use crate::bench_frames::MAX_FAST_PACKET_PAYLOAD;
+use crate::bench_frames::SEQUENCES;
 
 // The greatest sequence.
 const LAST_SEQUENCE: u8 = 7;

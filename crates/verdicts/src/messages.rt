@@ -6,9 +6,9 @@ ghost use lib.ListN.{take};
 ghost use Rattle.verdicts.specs.Messages.{hoursOf, wantAt, offFrom, messageOf};
 use crate::Checked;
 use crate::wide;
-use bench_frames::FILL;
-use bench_frames::MAX_FAST_PACKET_PAYLOAD;
-use bench_frames::SEQUENCES;
+use splitter::FILL;
+use splitter::MAX_FAST_PACKET_PAYLOAD;
+use splitter::SEQUENCES;
 
 // Messages of 26 bytes, the hours in four of them from byte 11 on, and a reserved byte.
 const ENGINE_BYTES: usize = 26;

@@ -5,11 +5,11 @@ use mathlib.Core.List.{List, [], _∷_, _++_}
 use lib.ListN.{length, getD, take, drop}
 use lib.Dec.{eqb, ltb}
 use Rattle.base.specs.Pick.{pick}
-use Rattle.bench_frames.specs.Frames.{bytesOf}
+use Rattle.splitter.specs.Frames.{bytesOf}
 use Rattle.bench_ids.specs.Ids.{isOther}
 use Rattle.faults.specs.Frames.{indexOf, sequenceOf, faultAt}
 use Rattle.verdicts.specs.Rows.{verdictAt}
-use Rattle.bench_frames.specs.declared.Frame.{Frame}
+use Rattle.splitter.specs.declared.bench_frames.Frame.{Frame}
 use Rattle.oracle.specs.declared.Scan.{Scan}
 use Rattle.verdicts.specs.declared.Reassembled.{Reassembled}
 use Rattle.verdicts.specs.declared.Reassembled.the-variants.{Messages, Refused, Incomplete, NoRoom}

@@ -11,7 +11,7 @@ use Rattle.bench_ids.specs.declared.Claim.{Claim}
 use Rattle.bench_ids.specs.declared.Claim.the-variants.{Awaited, Made, Missed}
 use Rattle.verdicts.specs.Messages.{messageOf}
 use Rattle.oracle.specs.inner.Scan.{stepOf, addedOf, startOf, isRefused}
-use Rattle.bench_frames.specs.declared.Frame.{Frame}
+use Rattle.splitter.specs.declared.bench_frames.Frame.{Frame}
 use Rattle.oracle.specs.declared.Scan.{Scan}
 use Rattle.oracle.specs.declared.Tx.{Tx}
 use Rattle.verdicts.specs.declared.Checked.{Checked}

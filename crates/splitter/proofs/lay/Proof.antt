@@ -7,7 +7,7 @@ use Rattle.walk.proofs.Lays.{lays}
 use Rattle.splitter.specs.inner.OneFrame.{frameOf}
 use Rattle.splitter.specs.inner.Job.{afterOne, jobFrames, jobEnd}
 use Rattle.splitter.proofs.SplitTypes.{job}
-use Rattle.bench_frames.proofs.Types.{frame}
+use Rattle.splitter.proofs.Types.{frame}
 use Rattle.splitter.proofs.split_frame.frame_of.Reads as make-reads
 use Rattle.splitter.proofs.split_frame.frame_of.Symbol as make-def
 use Rattle.splitter.proofs.split_frame.frame_of.Met as make-thm

@@ -4,7 +4,7 @@ use mathlib.Core.Path.{_≡_}
 use lib.ListN.{length}
 use lib.Seq.{sets}
 use borrow.Author.Needs.{needs}
-use Rattle.bench_frames.specs.Frames.{countIn}
+use Rattle.splitter.specs.Frames.{countIn}
 use Rattle.splitter.specs.Split.{idsOf, bytesAll, lensOf}
 use Rattle.splitter.specs.inner.Job.{jobFrames}
 use Rattle.splitter.proofs.SplitLaws.{idsLeft, bytesLeft, lensLeft, bytes-turn, laying-frames}

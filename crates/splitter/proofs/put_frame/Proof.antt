@@ -4,7 +4,7 @@ use mathlib.Core.Path.{_≡_}
 use borrow.Author.Needs.{needs}
 use lib.ListN.{length}
 use Rattle.base.proofs.Laying.{laid}
-use Rattle.bench_frames.proofs.FrameLaws.{laying-frame}
+use Rattle.splitter.proofs.FrameLaws.{laying-frame}
 use Rattle.splitter.proofs.put_frame.Statement.{statement}
 use Rattle.splitter.proofs.put_frame.Tie as tie
 

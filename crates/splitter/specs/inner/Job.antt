@@ -5,7 +5,7 @@ use mathlib.Core.List.{List, [], _∷_}
 use mathlib.Core.Path.{_≡_}
 use lib.ListN.{take}
 use Rattle.splitter.specs.inner.OneFrame.{frameOf}
-use Rattle.bench_frames.specs.declared.Frame.{Frame}
+use Rattle.splitter.specs.declared.bench_frames.Frame.{Frame}
 use Rattle.splitter.specs.declared.split_frame.Job.{Job}
 use Rattle.splitter.specs.declared.split_frame.Split.{Split}
 use Rattle.splitter.specs.declared.split_frame.Split.the-variants.{Frames, BadSplit, Short}

@@ -3,7 +3,7 @@ use Prim.Native.Nat.{ℕ}
 use lib.ListN.{take}
 use lib.Dec.{eqb, ltb}
 use Rattle.base.specs.Pick.{pick}
-use Rattle.bench_frames.specs.declared.Frame.{Frame}
+use Rattle.splitter.specs.declared.bench_frames.Frame.{Frame}
 use Rattle.splitter.specs.Bytes.{frameAt, countOf}
 use Rattle.splitter.specs.declared.split_frame.Job.{Job}
 use Rattle.splitter.specs.declared.split_frame.Split.{Split}

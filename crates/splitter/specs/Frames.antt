@@ -2,7 +2,7 @@
 use Prim.Native.Nat.{ℕ, _/_, min}
 use mathlib.Core.List.{List, [], _∷_}
 use lib.ListN.{getD}
-use Rattle.bench_frames.specs.declared.Frame.{Frame}
+use Rattle.splitter.specs.declared.bench_frames.Frame.{Frame}
 
 -- the eight bytes of a frame
 unfoldable pub eight : List ℕ → List ℕ

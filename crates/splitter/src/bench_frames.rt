@@ -1,7 +1,7 @@
 // The bench's frame and its numbers, and how many frames separate slices have. The bench shares no code with what it judges.
 ghost use mathlib.Core.Path.{_≡_};
 ghost use Prim.Native.Nat.{min};
-ghost use Rattle.bench_frames.specs.Frames.{countIn};
+ghost use Rattle.splitter.specs.Frames.{countIn};
 
 // Maximum payload a Fast Packet can transport once reassembled. The bench has its own, as it shares no code with what it judges.
 pub const MAX_FAST_PACKET_PAYLOAD: usize = 223;

@@ -1,7 +1,7 @@
 -- `frame_count` meets its contract: the lesser of the three. Assumes nothing.
 use borrow.Author.Needs.{needs}
-use Rattle.bench_frames.proofs.frame_count.Statement.{statement}
-use Rattle.bench_frames.proofs.frame_count.Tie as tie
+use Rattle.splitter.proofs.bench_frames.frame_count.Statement.{statement}
+use Rattle.splitter.proofs.bench_frames.frame_count.Tie as tie
 
 pub frame-count-spec : {M : Type 1} → statement M
 frame-count-spec =

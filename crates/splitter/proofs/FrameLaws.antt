@@ -6,8 +6,8 @@ use native.Mathlib.Omega.{arith}
 use lib.ListN.{length, getD, drop, set, drop-of-length-le}
 use lib.Seq.{drop-cons, sets}
 use Rattle.base.proofs.Laying.{laid, lay-none, lay-turn, lay-done}
-use Rattle.bench_frames.specs.Frames.{eight, bytesOf}
-use Rattle.bench_frames.specs.declared.Frame.{Frame}
+use Rattle.splitter.specs.Frames.{eight, bytesOf}
+use Rattle.splitter.specs.declared.bench_frames.Frame.{Frame}
 
 pub eight-same : (bs : List ℕ) → length bs ≡ 8 → eight bs ≡ bs
 unfolding eight

@@ -2,7 +2,7 @@
 use Prim.Native.Nat.{ℕ}
 use mathlib.Core.Path.{_≡_}
 use Rattle.base.proofs.Cases.{determined}
-use Rattle.bench_frames.specs.Frames.{countIn}
+use Rattle.splitter.specs.Frames.{countIn}
 
 pub frame-count-unique : (ids bytes lens r s : ℕ) → r ≡ countIn ids bytes lens → s ≡ countIn ids bytes lens → r ≡ s
 frame-count-unique ids bytes lens r s = determined
