@@ -1,16 +1,16 @@
 // The answers of the bench as numbers: what is returned, and five numbers lent out.
 ghost use mathlib.Core.Path.{_≡_};
 ghost use mathlib.Core.List.{[], _∷_};
-ghost use Rattle.verdicts.specs.Numbers.{ofReassembled};
+ghost use Rattle.oracle.specs.Numbers.{ofReassembled};
 ghost use Rattle.faults.specs.Numbers.{numberOf, valuesOf};
-ghost use Rattle.verdicts.specs.Numbers.{ofChecked};
+ghost use Rattle.oracle.specs.Numbers.{ofChecked};
 ghost use Rattle.splitter.specs.Split.{ofSplit};
 ghost use Rattle.numbers.specs.Numbers.{codeOf, valueOf};
 ghost use Rattle.bench_numbers.specs.Fives.{five, fiveOf};
 use faults::Fault;
+use oracle::Checked;
+use oracle::Reassembled;
 use splitter::Split;
-use verdicts::Checked;
-use verdicts::Reassembled;
 
 fn one(n: usize) -> [u64; 5]
     ensures { λ r. ⌜ r ≡ (n ∷ 0 ∷ 0 ∷ 0 ∷ 0 ∷ []) ⌝ }

@@ -1,12 +1,12 @@
 // The bench: refusals 20 to 28 of strict reassembly and the splitter, 30 to 37 of the transmit check.
 use crate::say;
 use faults::Fault;
+use oracle::Checked;
+use oracle::Reassembled;
 use oracle::check_tx_rows;
 use oracle::reassemble_rows;
 use splitter::Split;
 use splitter::fast_packet_rows;
-use verdicts::Checked;
-use verdicts::Reassembled;
 
 // PGN 127489, and an address claim, both from source 35.
 const ENGINE: u32 = 0x19F2_0123;

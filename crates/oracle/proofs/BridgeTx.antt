@@ -24,9 +24,9 @@ use Rattle.bench_ids.specs.declared.Claim.the-variants.{Awaited, Made, Missed}
 use Rattle.faults.specs.Frames.{indexOf, sequenceOf, oddOf}
 use Rattle.oracle.specs.Strict.{Message, Open, Outcome, refused, waits, whole, collectedAt, firstFrame, laterFrame, outcomeOf, before, thenOf, endOf, messagesFrom, messagesOf}
 use Rattle.oracle.specs.Check.{follows, eachFrom, isClaimed, sentOf, checkTxOf}
-use Rattle.verdicts.specs.Messages.{hoursOf, offFrom, messageOf}
+use Rattle.oracle.specs.Messages.{hoursOf, offFrom, messageOf}
 use Rattle.faults.specs.Numbers.{numberOf, valuesOf}
-use Rattle.verdicts.specs.Numbers.{ofReassembled, ofChecked}
+use Rattle.oracle.specs.Numbers.{ofReassembled, ofChecked}
 use Rattle.oracle.specs.inner.Scan.{headOf, faultOf, skipped, refusedAt, taken, isRefused, stepOn, stepOf, scanOf, startOf, Counted, addedOf}
 use Rattle.oracle.specs.inner.Tx.{isBad, bufferOf, badOf, lastOf, isUnclaimed, txOf, txAll, txStart, overOf, faultyOf, ranOf, checkedOf}
 use Rattle.splitter.specs.declared.bench_frames.Frame.{Frame}
@@ -35,8 +35,8 @@ use Rattle.oracle.specs.declared.Tx.{Tx}
 use Rattle.faults.specs.declared.Fault.{Fault}
 use Rattle.faults.specs.declared.Standing.{Standing}
 use Rattle.faults.specs.declared.Standing.the-variants.{Clear, At}
-use Rattle.verdicts.specs.declared.Checked.{Checked}
-use Rattle.verdicts.specs.declared.Checked.the-variants.{Good, NoCount, Over, NoClaim, Faulty, Open as OpenAt, Count, Size, Hours, Pattern, Sequence}
+use Rattle.oracle.specs.declared.verdicts.Checked.{Checked}
+use Rattle.oracle.specs.declared.verdicts.Checked.the-variants.{Good, NoCount, Over, NoClaim, Faulty, Open as OpenAt, Count, Size, Hours, Pattern, Sequence}
 use Rattle.splitter.proofs.FrameLaws.{eight-long}
 use Rattle.oracle.proofs.Grows.{added-end}
 use Rattle.oracle.proofs.Bridge.{Shows, Knows, had, added, Does, Refuses, Waits, Whole, frame-does, Stops, by-fault, by-end, Done, Tells, row-tells, skips, finds, takes, adds, skip-adds, skip-knows}

@@ -8,11 +8,11 @@ use Rattle.base.specs.Pick.{pick}
 use Rattle.splitter.specs.Frames.{bytesOf}
 use Rattle.bench_ids.specs.Ids.{isOther}
 use Rattle.faults.specs.Frames.{indexOf, sequenceOf, faultAt}
-use Rattle.verdicts.specs.Rows.{verdictAt}
+use Rattle.oracle.specs.RowVerdict.{verdictAt}
 use Rattle.splitter.specs.declared.bench_frames.Frame.{Frame}
 use Rattle.oracle.specs.declared.Scan.{Scan}
-use Rattle.verdicts.specs.declared.Reassembled.{Reassembled}
-use Rattle.verdicts.specs.declared.Reassembled.the-variants.{Messages, Refused, Incomplete, NoRoom}
+use Rattle.oracle.specs.declared.verdicts.Reassembled.{Reassembled}
+use Rattle.oracle.specs.declared.verdicts.Reassembled.the-variants.{Messages, Refused, Incomplete, NoRoom}
 use Rattle.faults.specs.declared.Standing.{Standing}
 use Rattle.faults.specs.declared.Standing.the-variants.{Clear, At}
 

@@ -9,13 +9,13 @@ use Rattle.base.specs.Pick.{pick}
 use Rattle.bench_ids.specs.Claims.{claimAfter}
 use Rattle.bench_ids.specs.declared.Claim.{Claim}
 use Rattle.bench_ids.specs.declared.Claim.the-variants.{Awaited, Made, Missed}
-use Rattle.verdicts.specs.Messages.{messageOf}
+use Rattle.oracle.specs.Messages.{messageOf}
 use Rattle.oracle.specs.inner.Scan.{stepOf, addedOf, startOf, isRefused}
 use Rattle.splitter.specs.declared.bench_frames.Frame.{Frame}
 use Rattle.oracle.specs.declared.Scan.{Scan}
 use Rattle.oracle.specs.declared.Tx.{Tx}
-use Rattle.verdicts.specs.declared.Checked.{Checked}
-use Rattle.verdicts.specs.declared.Checked.the-variants.{Good, NoCount, Over, NoClaim, Faulty, Open, Count, Size, Hours, Pattern, Sequence}
+use Rattle.oracle.specs.declared.verdicts.Checked.{Checked}
+use Rattle.oracle.specs.declared.verdicts.Checked.the-variants.{Good, NoCount, Over, NoClaim, Faulty, Open, Count, Size, Hours, Pattern, Sequence}
 use Rattle.faults.specs.declared.Standing.{Standing}
 use Rattle.faults.specs.declared.Standing.the-variants.{Clear, At}
 

@@ -1,8 +1,8 @@
 -- `told_checked` meets its contract: case by case. Assumes nothing.
 use borrow.Author.Needs.{needs}
 use mathlib.Core.Path.{refl}
-use Rattle.verdicts.specs.Numbers.{ofChecked}
-use Rattle.verdicts.specs.declared.Checked.{Checked}
+use Rattle.oracle.specs.Numbers.{ofChecked}
+use Rattle.oracle.specs.declared.verdicts.Checked.{Checked}
 use Rattle.numbers.specs.Numbers.{codeOf}
 use Rattle.bench_numbers.specs.Fives.{five, fiveOf}
 use Rattle.bench_numbers.proofs.Cases.{case-by}

@@ -1,8 +1,8 @@
 -- `told_reassembled` meets its contract: case by case. Assumes nothing.
 use borrow.Author.Needs.{needs}
 use mathlib.Core.Path.{refl}
-use Rattle.verdicts.specs.Numbers.{ofReassembled}
-use Rattle.verdicts.specs.declared.Reassembled.{Reassembled}
+use Rattle.oracle.specs.Numbers.{ofReassembled}
+use Rattle.oracle.specs.declared.verdicts.Reassembled.{Reassembled}
 use Rattle.numbers.specs.Numbers.{codeOf}
 use Rattle.bench_numbers.specs.Fives.{five, fiveOf}
 use Rattle.bench_numbers.proofs.Cases.{case-by}

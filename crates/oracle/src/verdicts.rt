@@ -3,13 +3,6 @@ ghost use mathlib.Core.Path.{_≡_};
 ghost use Prim.Native.Nat.{_<_};
 use faults::Fault;
 
-mod messages;
-mod rows;
-
-pub use messages::message_fault;
-pub use rows::LIST_ROW;
-pub use rows::row_verdict;
-
 // What strict reassembly answers: the number of messages, or why there is none.
 pub enum Reassembled {
     Messages(usize),

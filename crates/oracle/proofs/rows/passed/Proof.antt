@@ -1,8 +1,8 @@
 -- `rows::passed` meets its contract: the facts on each way out pick the law of that case. Assumes nothing.
 use borrow.Author.Needs.{needs}
 use Rattle.base.proofs.Cases.{cases}
-use Rattle.verdicts.proofs.rows.passed.Statement.{statement}
-use Rattle.verdicts.proofs.rows.passed.Tie as tie
+use Rattle.oracle.proofs.rows.passed.Statement.{statement}
+use Rattle.oracle.proofs.rows.passed.Tie as tie
 
 pub passed-spec : {M : Type 1} → statement M
 passed-spec =

@@ -1,10 +1,10 @@
 -- `messages::message_fault` meets its contract: the facts on each way out pick the law of that case. Assumes nothing.
 use borrow.Author.Needs.{needs}
 use Rattle.base.proofs.Cases.{cases, said}
-use Rattle.verdicts.proofs.Laws.{dues}
-use Rattle.verdicts.specs.Messages.{messageOf}
-use Rattle.verdicts.proofs.messages.message_fault.Statement.{statement}
-use Rattle.verdicts.proofs.messages.message_fault.Tie as tie
+use Rattle.oracle.proofs.VerdictLaws.{dues}
+use Rattle.oracle.specs.Messages.{messageOf}
+use Rattle.oracle.proofs.messages.message_fault.Statement.{statement}
+use Rattle.oracle.proofs.messages.message_fault.Tie as tie
 
 pub message-fault-spec : {M : Type 1} → statement M
 unfolding messageOf

@@ -3,9 +3,9 @@ ghost use mathlib.Core.Path.{_≡_};
 ghost use Prim.Native.Nat.{_+_};
 ghost use lib.Dec.{eqb};
 ghost use lib.ListN.{take};
-ghost use Rattle.verdicts.specs.Messages.{hoursOf, wantAt, offFrom, messageOf};
-use crate::Checked;
-use crate::wide;
+ghost use Rattle.oracle.specs.Messages.{hoursOf, wantAt, offFrom, messageOf};
+use crate::verdicts::Checked;
+use crate::verdicts::wide;
 use splitter::FILL;
 use splitter::MAX_FAST_PACKET_PAYLOAD;
 use splitter::SEQUENCES;
@@ -64,7 +64,7 @@ fn off_pattern(bytes: [u8; MAX_FAST_PACKET_PAYLOAD]) -> bool
 }
 
 // Message i, whose bytes are the first of these: the first thing wrong with it. `last` is the sequence of the one before it.
-pub fn message_fault(
+pub(crate) fn message_fault(
     base: u32,
     i: usize,
     last: u8,

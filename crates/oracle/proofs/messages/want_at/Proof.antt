@@ -1,9 +1,9 @@
 -- `want_at` meets its contract: the facts on each way out pick the law of that case. Assumes nothing.
 use borrow.Author.Needs.{needs}
 use Rattle.base.proofs.Cases.{cases, said}
-use Rattle.verdicts.specs.Messages.{wantAt}
-use Rattle.verdicts.proofs.messages.want_at.Statement.{statement}
-use Rattle.verdicts.proofs.messages.want_at.Tie as tie
+use Rattle.oracle.specs.Messages.{wantAt}
+use Rattle.oracle.proofs.messages.want_at.Statement.{statement}
+use Rattle.oracle.proofs.messages.want_at.Tie as tie
 
 pub want-at-spec : {M : Type 1} → statement M
 unfolding wantAt

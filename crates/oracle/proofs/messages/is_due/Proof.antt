@@ -1,8 +1,8 @@
 -- `messages::is_due` meets its contract: the facts on each way out pick the law of that case. Assumes nothing.
 use borrow.Author.Needs.{needs}
-use Rattle.verdicts.proofs.Laws.{due}
-use Rattle.verdicts.proofs.messages.is_due.Statement.{statement}
-use Rattle.verdicts.proofs.messages.is_due.Tie as tie
+use Rattle.oracle.proofs.VerdictLaws.{due}
+use Rattle.oracle.proofs.messages.is_due.Statement.{statement}
+use Rattle.oracle.proofs.messages.is_due.Tie as tie
 
 pub is-due-spec : {M : Type 1} → statement M
 is-due-spec =

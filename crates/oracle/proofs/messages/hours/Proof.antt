@@ -1,9 +1,9 @@
 -- `hours` meets its contract: the facts on each way out pick the law of that case. Assumes nothing.
 use borrow.Author.Needs.{needs}
 use Rattle.base.proofs.Cases.{cases, said}
-use Rattle.verdicts.specs.Messages.{hoursOf}
-use Rattle.verdicts.proofs.messages.hours.Statement.{statement}
-use Rattle.verdicts.proofs.messages.hours.Tie as tie
+use Rattle.oracle.specs.Messages.{hoursOf}
+use Rattle.oracle.proofs.messages.hours.Statement.{statement}
+use Rattle.oracle.proofs.messages.hours.Tie as tie
 
 pub hours-spec : {M : Type 1} → statement M
 unfolding hoursOf

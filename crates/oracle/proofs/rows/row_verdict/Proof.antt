@@ -1,8 +1,8 @@
 -- `rows::row_verdict` meets its contract: each variant is its clause. Assumes nothing.
 use borrow.Author.Needs.{needs}
-use Rattle.verdicts.proofs.Laws.{standing}
-use Rattle.verdicts.proofs.rows.row_verdict.Statement.{statement}
-use Rattle.verdicts.proofs.rows.row_verdict.Tie as tie
+use Rattle.oracle.proofs.VerdictLaws.{standing}
+use Rattle.oracle.proofs.rows.row_verdict.Statement.{statement}
+use Rattle.oracle.proofs.rows.row_verdict.Tie as tie
 
 pub row-verdict-spec : {M : Type 1} → statement M
 row-verdict-spec =

@@ -3,10 +3,10 @@ use Prim.Native.Nat.{_≤_, _-_}
 use mathlib.Core.Path.{_≡_}
 use borrow.Author.Needs.{needs}
 use lib.ListN.{length, drop, take}
-use Rattle.verdicts.specs.Messages.{offFrom}
-use Rattle.verdicts.proofs.Laws.{offness}
-use Rattle.verdicts.proofs.messages.off_pattern.Statement.{statement}
-use Rattle.verdicts.proofs.messages.off_pattern.Tie as tie
+use Rattle.oracle.specs.Messages.{offFrom}
+use Rattle.oracle.proofs.VerdictLaws.{offness}
+use Rattle.oracle.proofs.messages.off_pattern.Statement.{statement}
+use Rattle.oracle.proofs.messages.off_pattern.Tie as tie
 
 abbrev Inv-loop : tie.InvT-loop
 Inv-loop bytes k₀ k = (length bytes ≡ 223) × (offFrom k (drop k (take 26 bytes)) ≡ offFrom 0 (take 26 bytes))

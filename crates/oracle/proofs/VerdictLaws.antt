@@ -14,11 +14,11 @@ use Rattle.base.proofs.Cases.{same?, when-eq, when-true, when-false}
 use Rattle.faults.specs.declared.Standing.{Standing}
 use Rattle.faults.specs.declared.Standing.the-variants.{Clear, At}
 use Rattle.faults.specs.declared.Fault.{Fault}
-use Rattle.verdicts.specs.declared.Checked.{Checked}
-use Rattle.verdicts.specs.declared.Reassembled.{Reassembled}
-use Rattle.verdicts.specs.declared.Reassembled.the-variants.{Refused}
-use Rattle.verdicts.specs.Messages.{wantAt, offFrom}
-use Rattle.verdicts.specs.Rows.{passedWith, verdictAt}
+use Rattle.oracle.specs.declared.verdicts.Checked.{Checked}
+use Rattle.oracle.specs.declared.verdicts.Reassembled.{Reassembled}
+use Rattle.oracle.specs.declared.verdicts.Reassembled.the-variants.{Refused}
+use Rattle.oracle.specs.Messages.{wantAt, offFrom}
+use Rattle.oracle.specs.RowVerdict.{passedWith, verdictAt}
 
 -- ---- the walk along the pattern
 module _ (l : List ℕ) (k : ℕ) (n : length l ≡ 223) (e : offFrom k (drop k (take 26 l)) ≡ offFrom 0 (take 26 l)) where

@@ -1,11 +1,11 @@
 // A whole row of frames, judged by what is known after the last.
 ghost use mathlib.Core.Path.{_≡_};
-ghost use Rattle.verdicts.specs.Rows.{passedWith, verdictAt};
-use crate::Reassembled;
+ghost use Rattle.oracle.specs.RowVerdict.{passedWith, verdictAt};
+use crate::verdicts::Reassembled;
 use faults::Standing;
 
 // The list has three numbers for a message: sequence, start and length.
-pub const LIST_ROW: usize = 3;
+pub(crate) const LIST_ROW: usize = 3;
 
 // What a row of which no frame is refused comes to.
 fn passed(
@@ -32,7 +32,7 @@ fn passed(
 
 // What strict reassembly answers: the last message lacks `missing` of its announced bytes, none where it is whole, `messages` are whole with `total` bytes
 // together, and a list of so many numbers and an arena of `room` bytes are lent.
-pub fn row_verdict(
+pub(crate) fn row_verdict(
     fault: Standing,
     missing: u8,
     announced: u8,

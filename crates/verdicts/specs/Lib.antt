@@ -1,3 +1,0 @@
-pub mod Messages
-pub mod Rows
-pub mod Numbers
