@@ -2,13 +2,13 @@
 ghost use mathlib.Core.Path.{_≡_};
 ghost use mathlib.Core.List.{[], _∷_};
 ghost use Rattle.oracle.specs.Numbers.{ofReassembled};
-ghost use Rattle.faults.specs.Numbers.{numberOf, valuesOf};
+ghost use Rattle.oracle.specs.FaultNumbers.{numberOf, valuesOf};
 ghost use Rattle.oracle.specs.Numbers.{ofChecked};
 ghost use Rattle.splitter.specs.Split.{ofSplit};
 ghost use Rattle.numbers.specs.Numbers.{codeOf, valueOf};
 ghost use Rattle.bench_numbers.specs.Fives.{five, fiveOf};
-use faults::Fault;
 use oracle::Checked;
+use oracle::Fault;
 use oracle::Reassembled;
 use splitter::Split;
 

@@ -1,7 +1,7 @@
 // The bench: refusals 20 to 28 of strict reassembly and the splitter, 30 to 37 of the transmit check.
 use crate::say;
-use faults::Fault;
 use oracle::Checked;
+use oracle::Fault;
 use oracle::Reassembled;
 use oracle::check_tx_rows;
 use oracle::reassemble_rows;

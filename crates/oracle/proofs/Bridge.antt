@@ -19,18 +19,18 @@ use Rattle.base.specs.Pick.{pick}
 use Rattle.base.proofs.Cases.{tested, less?, same?, when-eq, when-ne, when-lt, when-ge, when-true, when-false}
 use Rattle.splitter.specs.Frames.{eight, bytesOf}
 use Rattle.bench_ids.specs.Ids.{isOther}
-use Rattle.faults.specs.Frames.{indexOf, sequenceOf, oddOf, paddingAt, firstThen, laterThen, messageEnd, faultAt}
+use Rattle.oracle.specs.Frames.{indexOf, sequenceOf, oddOf, paddingAt, firstThen, laterThen, messageEnd, faultAt}
 use Rattle.oracle.proofs.VerdictLaws.{row-passed, row-refused}
 use Rattle.oracle.specs.Strict.{Message, Open, Outcome, refused, waits, whole, collectedAt, firstFrame, laterFrame, outcomeOf, before, thenOf, endOf, messagesFrom, messagesOf, payloadsOf, listFrom, roomFor, deliveredTo, arenaWith, listWith}
-use Rattle.faults.specs.Numbers.{numberOf, valuesOf}
+use Rattle.oracle.specs.FaultNumbers.{numberOf, valuesOf}
 use Rattle.oracle.specs.Numbers.{ofReassembled}
 use Rattle.oracle.specs.inner.Scan.{headOf, missingOf, faultOf, skipped, refusedAt, taken, isRefused, stepOn, stepOf, scanOf, startOf, Counted, addedOf, rowOf, bytesLaid, rowsLaid, verdictOf, isNone}
 use Rattle.splitter.specs.declared.bench_frames.Frame.{Frame}
 use Rattle.oracle.specs.declared.Scan.{Scan}
-use Rattle.faults.specs.declared.Fault.{Fault}
-use Rattle.faults.specs.declared.Fault.the-variants.{Length, Restarted, Announced, Stray, Order, Padding}
-use Rattle.faults.specs.declared.Standing.{Standing}
-use Rattle.faults.specs.declared.Standing.the-variants.{Clear, At}
+use Rattle.oracle.specs.declared.faults.Fault.{Fault}
+use Rattle.oracle.specs.declared.faults.Fault.the-variants.{Length, Restarted, Announced, Stray, Order, Padding}
+use Rattle.oracle.specs.declared.faults.Standing.{Standing}
+use Rattle.oracle.specs.declared.faults.Standing.the-variants.{Clear, At}
 use Rattle.oracle.specs.declared.verdicts.Reassembled.{Reassembled}
 use Rattle.oracle.specs.declared.verdicts.Reassembled.the-variants.{Messages, Refused, Incomplete, NoRoom}
 use Rattle.splitter.proofs.FrameLaws.{eight-long}

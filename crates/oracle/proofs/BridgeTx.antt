@@ -21,20 +21,20 @@ use Rattle.bench_ids.specs.Ids.{isOther}
 use Rattle.bench_ids.specs.Claims.{claimAfter}
 use Rattle.bench_ids.specs.declared.Claim.{Claim}
 use Rattle.bench_ids.specs.declared.Claim.the-variants.{Awaited, Made, Missed}
-use Rattle.faults.specs.Frames.{indexOf, sequenceOf, oddOf}
+use Rattle.oracle.specs.Frames.{indexOf, sequenceOf, oddOf}
 use Rattle.oracle.specs.Strict.{Message, Open, Outcome, refused, waits, whole, collectedAt, firstFrame, laterFrame, outcomeOf, before, thenOf, endOf, messagesFrom, messagesOf}
 use Rattle.oracle.specs.Check.{follows, eachFrom, isClaimed, sentOf, checkTxOf}
 use Rattle.oracle.specs.Messages.{hoursOf, offFrom, messageOf}
-use Rattle.faults.specs.Numbers.{numberOf, valuesOf}
+use Rattle.oracle.specs.FaultNumbers.{numberOf, valuesOf}
 use Rattle.oracle.specs.Numbers.{ofReassembled, ofChecked}
 use Rattle.oracle.specs.inner.Scan.{headOf, faultOf, skipped, refusedAt, taken, isRefused, stepOn, stepOf, scanOf, startOf, Counted, addedOf}
 use Rattle.oracle.specs.inner.Tx.{isBad, bufferOf, badOf, lastOf, isUnclaimed, txOf, txAll, txStart, overOf, faultyOf, ranOf, checkedOf}
 use Rattle.splitter.specs.declared.bench_frames.Frame.{Frame}
 use Rattle.oracle.specs.declared.Scan.{Scan}
 use Rattle.oracle.specs.declared.Tx.{Tx}
-use Rattle.faults.specs.declared.Fault.{Fault}
-use Rattle.faults.specs.declared.Standing.{Standing}
-use Rattle.faults.specs.declared.Standing.the-variants.{Clear, At}
+use Rattle.oracle.specs.declared.faults.Fault.{Fault}
+use Rattle.oracle.specs.declared.faults.Standing.{Standing}
+use Rattle.oracle.specs.declared.faults.Standing.the-variants.{Clear, At}
 use Rattle.oracle.specs.declared.verdicts.Checked.{Checked}
 use Rattle.oracle.specs.declared.verdicts.Checked.the-variants.{Good, NoCount, Over, NoClaim, Faulty, Open as OpenAt, Count, Size, Hours, Pattern, Sequence}
 use Rattle.splitter.proofs.FrameLaws.{eight-long}

@@ -11,9 +11,9 @@ use lib.ListN.{length, getD, take, drop, length-take, drop-of-length-le}
 use lib.Seq.{drop-cons, getD-take}
 use Rattle.base.specs.Pick.{pick}
 use Rattle.base.proofs.Cases.{same?, when-eq, when-true, when-false}
-use Rattle.faults.specs.declared.Standing.{Standing}
-use Rattle.faults.specs.declared.Standing.the-variants.{Clear, At}
-use Rattle.faults.specs.declared.Fault.{Fault}
+use Rattle.oracle.specs.declared.faults.Standing.{Standing}
+use Rattle.oracle.specs.declared.faults.Standing.the-variants.{Clear, At}
+use Rattle.oracle.specs.declared.faults.Fault.{Fault}
 use Rattle.oracle.specs.declared.verdicts.Checked.{Checked}
 use Rattle.oracle.specs.declared.verdicts.Reassembled.{Reassembled}
 use Rattle.oracle.specs.declared.verdicts.Reassembled.the-variants.{Refused}

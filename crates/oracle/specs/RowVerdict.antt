@@ -2,8 +2,8 @@
 use Prim.Native.Nat.{ℕ, _/_}
 use lib.Dec.{ltb}
 use Rattle.base.specs.Pick.{pick}
-use Rattle.faults.specs.declared.Standing.{Standing}
-use Rattle.faults.specs.declared.Standing.the-variants.{Clear, At}
+use Rattle.oracle.specs.declared.faults.Standing.{Standing}
+use Rattle.oracle.specs.declared.faults.Standing.the-variants.{Clear, At}
 use Rattle.oracle.specs.declared.verdicts.Reassembled.{Reassembled}
 use Rattle.oracle.specs.declared.verdicts.Reassembled.the-variants.{Messages, Refused, Incomplete, NoRoom}
 

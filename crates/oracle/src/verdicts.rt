@@ -1,7 +1,7 @@
 // What the bench makes of a message and of a whole row of frames: each judged by itself, on numbers. The walks along a row of frames are the crate `oracle`'s.
 ghost use mathlib.Core.Path.{_≡_};
 ghost use Prim.Native.Nat.{_<_};
-use faults::Fault;
+use crate::faults::Fault;
 
 // What strict reassembly answers: the number of messages, or why there is none.
 pub enum Reassembled {

@@ -7,14 +7,14 @@ use lib.Dec.{eqb, ltb}
 use Rattle.base.specs.Pick.{pick}
 use Rattle.splitter.specs.Frames.{bytesOf}
 use Rattle.bench_ids.specs.Ids.{isOther}
-use Rattle.faults.specs.Frames.{indexOf, sequenceOf, faultAt}
+use Rattle.oracle.specs.Frames.{indexOf, sequenceOf, faultAt}
 use Rattle.oracle.specs.RowVerdict.{verdictAt}
 use Rattle.splitter.specs.declared.bench_frames.Frame.{Frame}
 use Rattle.oracle.specs.declared.Scan.{Scan}
 use Rattle.oracle.specs.declared.verdicts.Reassembled.{Reassembled}
 use Rattle.oracle.specs.declared.verdicts.Reassembled.the-variants.{Messages, Refused, Incomplete, NoRoom}
-use Rattle.faults.specs.declared.Standing.{Standing}
-use Rattle.faults.specs.declared.Standing.the-variants.{Clear, At}
+use Rattle.oracle.specs.declared.faults.Standing.{Standing}
+use Rattle.oracle.specs.declared.faults.Standing.the-variants.{Clear, At}
 
 -- how many of its bytes stand before the message's
 unfoldable pub headOf : List ℕ → ℕ

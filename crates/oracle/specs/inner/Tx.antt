@@ -16,8 +16,8 @@ use Rattle.oracle.specs.declared.Scan.{Scan}
 use Rattle.oracle.specs.declared.Tx.{Tx}
 use Rattle.oracle.specs.declared.verdicts.Checked.{Checked}
 use Rattle.oracle.specs.declared.verdicts.Checked.the-variants.{Good, NoCount, Over, NoClaim, Faulty, Open, Count, Size, Hours, Pattern, Sequence}
-use Rattle.faults.specs.declared.Standing.{Standing}
-use Rattle.faults.specs.declared.Standing.the-variants.{Clear, At}
+use Rattle.oracle.specs.declared.faults.Standing.{Standing}
+use Rattle.oracle.specs.declared.faults.Standing.the-variants.{Clear, At}
 
 abbrev pub isBad : Checked → Bool
 isBad Good = false

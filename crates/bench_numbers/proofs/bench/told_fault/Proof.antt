@@ -1,8 +1,8 @@
 -- `told_fault` meets its contract: case by case. Assumes nothing.
 use borrow.Author.Needs.{needs}
 use mathlib.Core.Path.{refl}
-use Rattle.faults.specs.Numbers.{numberOf, valuesOf}
-use Rattle.faults.specs.declared.Fault.{Fault}
+use Rattle.oracle.specs.FaultNumbers.{numberOf, valuesOf}
+use Rattle.oracle.specs.declared.faults.Fault.{Fault}
 use Rattle.bench_numbers.specs.Fives.{five}
 use Rattle.bench_numbers.proofs.Cases.{case-by}
 use Rattle.bench_numbers.proofs.bench.told_fault.Statement.{statement}

@@ -1,10 +1,10 @@
 -- `frame_fault` meets its contract: the facts on each way out pick the law of that case. Assumes nothing.
 use borrow.Author.Needs.{needs}
 use Rattle.base.proofs.Cases.{cases}
-use Rattle.faults.proofs.Laws.{fault-then}
-use Rattle.faults.specs.Frames.{faultAt}
-use Rattle.faults.proofs.frame_fault.Statement.{statement}
-use Rattle.faults.proofs.frame_fault.Tie as tie
+use Rattle.oracle.proofs.FaultLaws.{fault-then}
+use Rattle.oracle.specs.Frames.{faultAt}
+use Rattle.oracle.proofs.faults.frame_fault.Statement.{statement}
+use Rattle.oracle.proofs.faults.frame_fault.Tie as tie
 
 pub frame-fault-spec : {M : Type 1} → statement M
 unfolding faultAt

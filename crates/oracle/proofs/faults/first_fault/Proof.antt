@@ -1,8 +1,8 @@
 -- `first_fault` meets its contract: the facts on each way out pick the law of that case. Assumes nothing.
 use borrow.Author.Needs.{needs}
 use Rattle.base.proofs.Cases.{cases}
-use Rattle.faults.proofs.first_fault.Statement.{statement}
-use Rattle.faults.proofs.first_fault.Tie as tie
+use Rattle.oracle.proofs.faults.first_fault.Statement.{statement}
+use Rattle.oracle.proofs.faults.first_fault.Tie as tie
 
 pub first-fault-spec : {M : Type 1} → statement M
 first-fault-spec =

@@ -1,8 +1,8 @@
 -- `fault_then` meets its contract: the facts on each way out pick the law of that case. Assumes nothing.
 use borrow.Author.Needs.{needs}
 use Rattle.base.proofs.Cases.{cases}
-use Rattle.faults.proofs.fault_then.Statement.{statement}
-use Rattle.faults.proofs.fault_then.Tie as tie
+use Rattle.oracle.proofs.faults.fault_then.Statement.{statement}
+use Rattle.oracle.proofs.faults.fault_then.Tie as tie
 
 pub fault-then-spec : {M : Type 1} → statement M
 fault-then-spec =

@@ -1,9 +1,9 @@
 -- `message_end` meets its contract: the facts on each way out pick the law of that case. Assumes nothing.
 use borrow.Author.Needs.{needs}
 use Rattle.base.proofs.Cases.{cases}
-use Rattle.faults.specs.Frames.{messageEnd}
-use Rattle.faults.proofs.message_end.Statement.{statement}
-use Rattle.faults.proofs.message_end.Tie as tie
+use Rattle.oracle.specs.Frames.{messageEnd}
+use Rattle.oracle.proofs.faults.message_end.Statement.{statement}
+use Rattle.oracle.proofs.faults.message_end.Tie as tie
 
 pub message-end-spec : {M : Type 1} → statement M
 unfolding messageEnd

@@ -1,8 +1,8 @@
 -- `later_fault` meets its contract: the facts on each way out pick the law of that case. Assumes nothing.
 use borrow.Author.Needs.{needs}
 use Rattle.base.proofs.Cases.{cases}
-use Rattle.faults.proofs.later_fault.Statement.{statement}
-use Rattle.faults.proofs.later_fault.Tie as tie
+use Rattle.oracle.proofs.faults.later_fault.Statement.{statement}
+use Rattle.oracle.proofs.faults.later_fault.Tie as tie
 
 pub later-fault-spec : {M : Type 1} → statement M
 later-fault-spec =

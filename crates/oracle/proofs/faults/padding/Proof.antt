@@ -1,8 +1,8 @@
 -- `padding` meets its contract: the facts on each way out pick the law of that case. Assumes nothing.
 use borrow.Author.Needs.{needs}
 use Rattle.base.proofs.Cases.{cases}
-use Rattle.faults.proofs.padding.Statement.{statement}
-use Rattle.faults.proofs.padding.Tie as tie
+use Rattle.oracle.proofs.faults.padding.Statement.{statement}
+use Rattle.oracle.proofs.faults.padding.Tie as tie
 
 pub padding-spec : {M : Type 1} → statement M
 padding-spec =

@@ -1,8 +1,8 @@
 -- This paper's number and values for each refusal of a frame.
 use Prim.Native.Nat.{ℕ}
 use mathlib.Core.List.{List, [], _∷_}
-use Rattle.faults.specs.declared.Fault.{Fault}
-use Rattle.faults.specs.declared.Fault.the-variants.{Length, Restarted, Announced, Stray, Order, Padding}
+use Rattle.oracle.specs.declared.faults.Fault.{Fault}
+use Rattle.oracle.specs.declared.faults.Fault.the-variants.{Length, Restarted, Announced, Stray, Order, Padding}
 
 -- "bench, at frame n": 20 to 25, each with n; "20 length, 22 announced, 24 both found and expected, 25 byte"
 unfoldable pub numberOf : Fault → ℕ

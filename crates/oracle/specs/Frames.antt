@@ -4,9 +4,9 @@ use mathlib.Core.List.{List, [], _∷_}
 use lib.ListN.{getD, drop}
 use lib.Dec.{eqb, ltb}
 use Rattle.base.specs.Pick.{pick}
-use Rattle.faults.specs.declared.Fault.the-variants.{Length, Restarted, Announced, Stray, Order, Padding}
-use Rattle.faults.specs.declared.Standing.{Standing}
-use Rattle.faults.specs.declared.Standing.the-variants.{Clear, At}
+use Rattle.oracle.specs.declared.faults.Fault.the-variants.{Length, Restarted, Announced, Stray, Order, Padding}
+use Rattle.oracle.specs.declared.faults.Standing.{Standing}
+use Rattle.oracle.specs.declared.faults.Standing.the-variants.{Clear, At}
 
 -- "Index .. (low 5 bits of byte 0; sequence is the top 3)"
 abbrev pub indexOf : List ℕ → ℕ

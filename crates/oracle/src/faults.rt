@@ -1,7 +1,7 @@
 // Why the bench refuses a frame: it is judged by itself, beside what strict reassembly knows of the open message.
 ghost use mathlib.Core.Path.{_≡_};
 ghost use lib.ListN.{drop};
-ghost use Rattle.faults.specs.Frames.{oddOf, paddingAt, firstThen, laterThen, faultThen, messageEnd, faultAt};
+ghost use Rattle.oracle.specs.Frames.{oddOf, paddingAt, firstThen, laterThen, faultThen, messageEnd, faultAt};
 use splitter::FILL;
 use splitter::FRAME_BYTES;
 use splitter::INDICES;
@@ -18,7 +18,7 @@ pub enum Fault {
 }
 
 // Whether a row was refused so far.
-pub enum Standing {
+pub(crate) enum Standing {
     Clear,
     At(Fault),
 }
@@ -127,7 +127,7 @@ fn message_end(first: u8, second: u8, missing: u8) -> usize
 
 // Why frame n is refused, if it is. The open message lacks `missing` bytes, none where none is open, and its next frame must have that sequence and
 // index.
-pub fn frame_fault(
+pub(crate) fn frame_fault(
     n: usize,
     missing: u8,
     sequence: u8,

@@ -3,10 +3,10 @@ use Prim.Native.Nat.{_≤_, _-_}
 use mathlib.Core.Path.{_≡_}
 use borrow.Author.Needs.{needs}
 use lib.ListN.{length, drop}
-use Rattle.faults.specs.Frames.{oddOf}
-use Rattle.faults.proofs.Laws.{oddness}
-use Rattle.faults.proofs.odd_byte.Statement.{statement}
-use Rattle.faults.proofs.odd_byte.Tie as tie
+use Rattle.oracle.specs.Frames.{oddOf}
+use Rattle.oracle.proofs.FaultLaws.{oddness}
+use Rattle.oracle.proofs.faults.odd_byte.Statement.{statement}
+use Rattle.oracle.proofs.faults.odd_byte.Tie as tie
 
 abbrev Inv-loop : tie.InvT-loop
 Inv-loop from bytes i₀ i = (length bytes ≡ 8) × (oddOf (drop i bytes) ≡ oddOf (drop from bytes))
