@@ -18,7 +18,7 @@ use Rattle.base.specs.Answer.{Answer, gives, refuses, counted}
 use Rattle.base.specs.Pick.{pick}
 use Rattle.base.proofs.Cases.{tested, less?, same?, when-eq, when-ne, when-lt, when-ge, when-true, when-false}
 use Rattle.splitter.specs.Frames.{eight, bytesOf}
-use Rattle.bench_ids.specs.Ids.{isOther}
+use Rattle.oracle.specs.Ids.{isOther}
 use Rattle.oracle.specs.Frames.{indexOf, sequenceOf, oddOf, paddingAt, firstThen, laterThen, messageEnd, faultAt}
 use Rattle.oracle.proofs.VerdictLaws.{row-passed, row-refused}
 use Rattle.oracle.specs.Strict.{Message, Open, Outcome, refused, waits, whole, collectedAt, firstFrame, laterFrame, outcomeOf, before, thenOf, endOf, messagesFrom, messagesOf, payloadsOf, listFrom, roomFor, deliveredTo, arenaWith, listWith}

@@ -17,10 +17,10 @@ use Rattle.base.specs.Answer.{Answer, gives, refuses}
 use Rattle.base.specs.Pick.{pick}
 use Rattle.base.proofs.Cases.{tested, less?, same?, pick-all, when-eq, when-ne, when-lt, when-ge, when-true, when-false}
 use Rattle.splitter.specs.Frames.{eight, bytesOf}
-use Rattle.bench_ids.specs.Ids.{isOther}
-use Rattle.bench_ids.specs.Claims.{claimAfter}
-use Rattle.bench_ids.specs.declared.Claim.{Claim}
-use Rattle.bench_ids.specs.declared.Claim.the-variants.{Awaited, Made, Missed}
+use Rattle.oracle.specs.Ids.{isOther}
+use Rattle.oracle.specs.Claims.{claimAfter}
+use Rattle.oracle.specs.declared.bench_ids.Claim.{Claim}
+use Rattle.oracle.specs.declared.bench_ids.Claim.the-variants.{Awaited, Made, Missed}
 use Rattle.oracle.specs.Frames.{indexOf, sequenceOf, oddOf}
 use Rattle.oracle.specs.Strict.{Message, Open, Outcome, refused, waits, whole, collectedAt, firstFrame, laterFrame, outcomeOf, before, thenOf, endOf, messagesFrom, messagesOf}
 use Rattle.oracle.specs.Check.{follows, eachFrom, isClaimed, sentOf, checkTxOf}

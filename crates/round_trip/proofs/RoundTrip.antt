@@ -20,7 +20,7 @@ use Rattle.base.specs.Lists.{fill}
 use Rattle.base.proofs.Fills.{length-fill, take-fill}
 use Rattle.base.proofs.Cases.{tested, less?, same?, when-eq, when-ne, when-lt, when-ge, when-true, when-false}
 use Rattle.splitter.specs.Frames.{eight, bytesOf}
-use Rattle.bench_ids.specs.Ids.{sourceOf, pgnOf, isOther}
+use Rattle.oracle.specs.Ids.{sourceOf, pgnOf, isOther}
 use Rattle.oracle.specs.Frames.{indexOf, sequenceOf, oddOf}
 use Rattle.oracle.specs.Strict.{Message, Open, Outcome, refused, waits, whole, collectedAt, firstFrame, laterFrame, outcomeOf, before, thenOf, endOf, messagesFrom, messagesOf, payloadsOf, roomFor, deliveredTo}
 use Rattle.splitter.specs.Bytes.{bytesAt, frameAt, countOf}

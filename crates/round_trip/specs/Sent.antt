@@ -4,7 +4,7 @@ use mathlib.Core.List.{List, [], _∷_, _++_}
 use lib.ListN.{length, getD}
 use Rattle.base.specs.Pick.{pick}
 use Rattle.splitter.specs.Frames.{bytesOf}
-use Rattle.bench_ids.specs.Ids.{isOther}
+use Rattle.oracle.specs.Ids.{isOther}
 use Rattle.oracle.specs.Strict.{Message}
 use Rattle.splitter.specs.Split.{framesOf}
 use Rattle.splitter.specs.declared.bench_frames.Frame.{Frame}

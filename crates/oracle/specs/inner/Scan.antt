@@ -6,7 +6,7 @@ use lib.ListN.{length, getD, take, drop}
 use lib.Dec.{eqb, ltb}
 use Rattle.base.specs.Pick.{pick}
 use Rattle.splitter.specs.Frames.{bytesOf}
-use Rattle.bench_ids.specs.Ids.{isOther}
+use Rattle.oracle.specs.Ids.{isOther}
 use Rattle.oracle.specs.Frames.{indexOf, sequenceOf, faultAt}
 use Rattle.oracle.specs.RowVerdict.{verdictAt}
 use Rattle.splitter.specs.declared.bench_frames.Frame.{Frame}

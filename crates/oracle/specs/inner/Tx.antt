@@ -6,9 +6,9 @@ use lib.ListN.{length, getD, take, drop, replicate}
 use lib.Seq.{sets}
 use lib.Dec.{eqb, ltb}
 use Rattle.base.specs.Pick.{pick}
-use Rattle.bench_ids.specs.Claims.{claimAfter}
-use Rattle.bench_ids.specs.declared.Claim.{Claim}
-use Rattle.bench_ids.specs.declared.Claim.the-variants.{Awaited, Made, Missed}
+use Rattle.oracle.specs.Claims.{claimAfter}
+use Rattle.oracle.specs.declared.bench_ids.Claim.{Claim}
+use Rattle.oracle.specs.declared.bench_ids.Claim.the-variants.{Awaited, Made, Missed}
 use Rattle.oracle.specs.Messages.{messageOf}
 use Rattle.oracle.specs.inner.Scan.{stepOf, addedOf, startOf, isRefused}
 use Rattle.splitter.specs.declared.bench_frames.Frame.{Frame}

@@ -1,9 +1,9 @@
 -- `awaited` meets its contract: the facts on each way out pick the law of that case. Assumes nothing.
 use borrow.Author.Needs.{needs}
 use Rattle.base.proofs.Cases.{cases, said}
-use Rattle.bench_ids.specs.Claims.{claimAfter}
-use Rattle.bench_ids.proofs.awaited.Statement.{statement}
-use Rattle.bench_ids.proofs.awaited.Tie as tie
+use Rattle.oracle.specs.Claims.{claimAfter}
+use Rattle.oracle.proofs.bench_ids.awaited.Statement.{statement}
+use Rattle.oracle.proofs.bench_ids.awaited.Tie as tie
 
 pub awaited-spec : {M : Type 1} → statement M
 unfolding claimAfter

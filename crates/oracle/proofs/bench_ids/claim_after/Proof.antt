@@ -1,8 +1,8 @@
 -- `claim_after` meets its contract: each variant is its clause. Assumes nothing.
 use borrow.Author.Needs.{needs}
-use Rattle.bench_ids.proofs.Laws.{claiming}
-use Rattle.bench_ids.proofs.claim_after.Statement.{statement}
-use Rattle.bench_ids.proofs.claim_after.Tie as tie
+use Rattle.oracle.proofs.IdLaws.{claiming}
+use Rattle.oracle.proofs.bench_ids.claim_after.Statement.{statement}
+use Rattle.oracle.proofs.bench_ids.claim_after.Tie as tie
 
 pub claim-after-spec : {M : Type 1} → statement M
 claim-after-spec =

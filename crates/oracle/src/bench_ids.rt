@@ -1,8 +1,8 @@
 // What an identifier tells the bench: whose frame it is, and whether its source has claimed an address. It shares no code with `can_id`.
 ghost use mathlib.Core.Path.{_≡_};
-ghost use Rattle.bench_ids.specs.Ids.{pgnOf, isOther};
-ghost use Rattle.bench_ids.specs.Claims.{claimAfter};
-ghost use Rattle.bench_ids.specs.declared.Claim.the-variants.{Awaited};
+ghost use Rattle.oracle.specs.Ids.{pgnOf, isOther};
+ghost use Rattle.oracle.specs.Claims.{claimAfter};
+ghost use Rattle.oracle.specs.declared.bench_ids.Claim.the-variants.{Awaited};
 use splitter::FRAME_BYTES;
 
 // From this PF on an identifier has no destination.
@@ -11,7 +11,7 @@ const FIRST_BROADCAST_PF: u32 = 240;
 // What the transmit test sends: claims of 60928, and messages of 127489.
 const CLAIM_PGN: u32 = 60928;
 
-pub const ENGINE_PGN: u32 = 127489;
+pub(crate) const ENGINE_PGN: u32 = 127489;
 
 fn pgn_of(id: u32) -> u32
     ensures { λ r. ⌜ r ≡ pgnOf id ⌝ }
@@ -24,7 +24,7 @@ fn pgn_of(id: u32) -> u32
 }
 
 // Whether a frame is of another source or PGN.
-pub fn is_other(source: u8, pgn: u32, id: u32) -> bool
+pub(crate) fn is_other(source: u8, pgn: u32, id: u32) -> bool
     ensures { λ r. ⌜ r ≡ isOther source pgn id ⌝ }
 {
     let s = (id % 0x100) as u8;
@@ -36,7 +36,7 @@ pub fn is_other(source: u8, pgn: u32, id: u32) -> bool
 }
 
 // Whether a source claimed its address before its first message, as far as some frames tell.
-pub enum Claim {
+pub(crate) enum Claim {
     Awaited,
     Made,
     Missed,
@@ -58,7 +58,7 @@ fn awaited(source: u8, id: u32, len: usize) -> Claim
 }
 
 // The same after one frame more.
-pub fn claim_after(claim: Claim, source: u8, id: u32, len: usize) -> Claim
+pub(crate) fn claim_after(claim: Claim, source: u8, id: u32, len: usize) -> Claim
     ensures { λ r. ⌜ r ≡ claimAfter claim source id len ⌝ }
 {
     match claim {

@@ -2,9 +2,9 @@
 use Prim.Native.Nat.{ℕ}
 use lib.Dec.{eqb}
 use Rattle.base.specs.Pick.{pick}
-use Rattle.bench_ids.specs.Ids.{isOther}
-use Rattle.bench_ids.specs.declared.Claim.{Claim}
-use Rattle.bench_ids.specs.declared.Claim.the-variants.{Awaited, Made, Missed}
+use Rattle.oracle.specs.Ids.{isOther}
+use Rattle.oracle.specs.declared.bench_ids.Claim.{Claim}
+use Rattle.oracle.specs.declared.bench_ids.Claim.the-variants.{Awaited, Made, Missed}
 
 -- a "frame of PGN 60928 and length 8 from the source before its first 127489 frame": the first of the two decides, and what is decided stays
 unfoldable pub claimAfter : Claim → ℕ → ℕ → ℕ → Claim

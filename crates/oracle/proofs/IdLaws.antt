@@ -1,9 +1,9 @@
 -- The claim after a frame, by what it was before it. Assumes nothing.
 use Prim.Native.Nat.{ℕ}
 use mathlib.Core.Path.{_≡_, refl, sym, ap, _∙_}
-use Rattle.bench_ids.specs.Claims.{claimAfter}
-use Rattle.bench_ids.specs.declared.Claim.{Claim}
-use Rattle.bench_ids.specs.declared.Claim.the-variants.{Awaited, Made, Missed}
+use Rattle.oracle.specs.Claims.{claimAfter}
+use Rattle.oracle.specs.declared.bench_ids.Claim.{Claim}
+use Rattle.oracle.specs.declared.bench_ids.Claim.the-variants.{Awaited, Made, Missed}
 
 module _ (k : Claim) (source id len : ℕ) where
   pub still-awaited : {r : Claim} → k ≡ Awaited → r ≡ claimAfter Awaited source id len → r ≡ claimAfter k source id len
