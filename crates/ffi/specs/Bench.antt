@@ -5,7 +5,7 @@ use mathlib.Core.Path.{_≡_}
 use lib.ListN.{length}
 use Rattle.base.specs.Answer.{Answer, counted}
 use Rattle.oracle.specs.Strict.{Message, deliveredTo, listWith, arenaWith}
-use Rattle.slice_rows.specs.Rows.{rowIn}
+use Rattle.oracle.specs.Rows.{rowIn}
 use Rattle.splitter.specs.Frames.{countIn}
 use Rattle.splitter.specs.Split.{splitOf, idsWith, bytesWith, lensWith}
 use Rattle.splitter.specs.declared.bench_frames.Frame.{Frame}

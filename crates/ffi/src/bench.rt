@@ -2,7 +2,7 @@
 ghost use mathlib.Core.Path.{_≡_};
 ghost use Rattle.splitter.specs.Frames.{countIn};
 ghost use Rattle.oracle.specs.Check.{checkTxOf};
-ghost use Rattle.slice_rows.specs.Rows.{rowIn};
+ghost use Rattle.oracle.specs.Rows.{rowIn};
 ghost use Rattle.numbers.specs.Numbers.{codeOf};
 ghost use Rattle.bench_numbers.specs.Fives.{fiveOf};
 ghost use Rattle.ffi.specs.Bench.{Reassembles, Splits, reassembledIn, splitIn};

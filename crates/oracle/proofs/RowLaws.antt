@@ -6,8 +6,8 @@ use native.Mathlib.Omega.{arith}
 use lib.ListN.{length, getD, drop}
 use lib.Seq.{sets}
 use Rattle.splitter.specs.Frames.{countIn}
-use Rattle.slice_rows.specs.Rows.{frameIn, framesIn, rowIn, frameOrNone}
-use Rattle.slice_rows.proofs.Laws.{frame-there}
+use Rattle.oracle.specs.Rows.{frameIn, framesIn, rowIn, frameOrNone}
+use Rattle.oracle.proofs.SliceLaws.{frame-there}
 use Rattle.oracle.specs.inner.Scan.{stepOf, scanOf, addedOf, rowOf, bytesLaid, rowsLaid, Counted, Small}
 use Rattle.oracle.specs.inner.Tx.{txOf, txAll}
 use Rattle.splitter.specs.declared.bench_frames.Frame.{Frame}

@@ -19,7 +19,7 @@ use Rattle.splitter.specs.Split.{framesFrom, framesOf, idsOf, bytesAll, lensOf,
 use Rattle.splitter.specs.declared.bench_frames.Frame.{Frame}
 use Rattle.splitter.proofs.FrameLaws.{eight-same, eight-long}
 use Rattle.splitter.proofs.SplitLaws.{length-frames}
-use Rattle.slice_rows.specs.Rows.{frameIn, framesIn, rowIn}
+use Rattle.oracle.specs.Rows.{frameIn, framesIn, rowIn}
 
 -- each frame has eight bytes
 abbrev pub Eights : List Frame → Type 0

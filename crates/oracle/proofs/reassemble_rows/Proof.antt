@@ -1,6 +1,6 @@
 -- `reassemble_rows` meets its contract: the facts on each way out pick the law of that case. Assumes nothing.
 use borrow.Author.Needs.{needs}
-use Rattle.slice_rows.specs.Rows.{rowIn}
+use Rattle.oracle.specs.Rows.{rowIn}
 use Rattle.oracle.proofs.Bridge.{fresh-counts, strict-stops, strict-goes-on}
 use Rattle.oracle.proofs.reassemble_rows.Statement.{statement}
 use Rattle.oracle.proofs.reassemble_rows.Tie as tie

@@ -9,7 +9,7 @@ use lib.Seq.{getD-drop}
 use Rattle.base.proofs.Cases.{when-lt, when-ge}
 use Rattle.splitter.specs.Frames.{eight, countIn}
 use Rattle.splitter.specs.declared.bench_frames.Frame.{Frame}
-use Rattle.slice_rows.specs.Rows.{frameIn, frameOrNone}
+use Rattle.oracle.specs.Rows.{frameIn, frameOrNone}
 
 -- eight bytes, one by one
 pub eight-read : (bytes : List ℕ) (at : ℕ)

@@ -1,8 +1,8 @@
 -- `eight_in` meets its contract: the facts on each way out pick the law of that case. Assumes nothing.
 use borrow.Author.Needs.{needs}
-use Rattle.slice_rows.proofs.Laws.{eight-read}
-use Rattle.slice_rows.proofs.eight_in.Statement.{statement}
-use Rattle.slice_rows.proofs.eight_in.Tie as tie
+use Rattle.oracle.proofs.SliceLaws.{eight-read}
+use Rattle.oracle.proofs.slice_rows.eight_in.Statement.{statement}
+use Rattle.oracle.proofs.slice_rows.eight_in.Tie as tie
 
 pub eight-in-spec : {M : Type 1} → statement M
 eight-in-spec =

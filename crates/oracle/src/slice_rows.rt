@@ -3,7 +3,7 @@ ghost use mathlib.Core.Path.{_≡_};
 ghost use Prim.Native.Nat.{_≤_, _+_};
 ghost use lib.ListN.{length, drop};
 ghost use Rattle.splitter.specs.Frames.{eight};
-ghost use Rattle.slice_rows.specs.Rows.{frameOrNone};
+ghost use Rattle.oracle.specs.Rows.{frameOrNone};
 use splitter::FRAME_BYTES;
 use splitter::Frame;
 use splitter::frame_count;
@@ -25,7 +25,7 @@ fn eight_in(bytes: &[u8], at: usize) -> [u8; 8]
 }
 
 // Frame i of the row; zeros where the row has none there.
-pub fn frame_in(ids: &[u32], bytes: &[u8], lens: &[usize], i: usize) -> Frame
+pub(crate) fn frame_in(ids: &[u32], bytes: &[u8], lens: &[usize], i: usize) -> Frame
     ensures { λ r. ⌜ r ≡ frameOrNone (now (ids .entry)) (now (bytes .entry)) (now (lens .entry)) i ⌝ }
 {
     if frame_count(ids.len(), bytes.len(), lens.len()) <= i {
