@@ -1,3 +1,4 @@
+pub mod Batches
 pub mod Moves
 pub mod Shows
 pub mod Match

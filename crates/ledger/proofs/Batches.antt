@@ -10,10 +10,10 @@ use Rattle.batch.specs.Rows.{Rows, Run, frameAt, took, answerTo}
 use Rattle.batch.specs.Rows as rows
 use Rattle.batch.specs.Calls.{calls}
 use Rattle.batch.proofs.Continues.{as-far}
 use Rattle.ledger.specs.Demand3.{AllOk, Demand3}
 use Rattle.ledger.specs.Runs.{State, start, next, receives, received}
 use Rattle.ledger.proofs.Demand3.{demand-3}
-use Rattle.batch_ledger.specs.Taken.{callsOf, afterCalls, batchAfter, withTaken, Closed}
+use Rattle.ledger.specs.Taken.{callsOf, afterCalls, batchAfter, withTaken, Closed}
 
 -- a run and a state that have the same pool and counters
 record Same (y : Run) (z : State) : Type 0 where
