@@ -27,7 +27,7 @@ use Rattle.ffi.specs.Ids.{partsOf, setPriority, setDestination, setOf, b
 use Rattle.numbers.specs.Numbers.{toAddress, codeOf, valueOf}
 use Rattle.pool_numbers.specs.Pool.{poolFrom, countersFrom, Left, MadeAs}
 use Rattle.ffi.specs.Calls.{calledWith, calledWithLength}
-use Rattle.frame_numbers.specs.Frames.{builderFrom, builderNumbers, iteratorFrom, placeLaid, turnStep, nextWith, turnWith, madeWith, heldAfter, madeNumbers, Told}
+use Rattle.numbers.specs.Frames.{builderFrom, builderNumbers, iteratorFrom, placeLaid, turnStep, nextWith, turnWith, madeWith, heldAfter, madeNumbers, Told}
 
 -- ---- the setters of an identifier's builder, one after the other
 pub both-set : (pgn source p d : ℕ) {a b c : CanIdBuilder} → a ≡ fresh pgn source → b ≡ idPriority a p → c ≡ idDestination b d → c ≡ bothOf pgn source p d

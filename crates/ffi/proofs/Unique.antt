@@ -25,7 +25,7 @@ use Rattle.ffi.specs.Bench.{Reassembles, Splits}
 use Rattle.pool_numbers.specs.Pool.{Left, MadeAs}
 use Rattle.ffi.specs.Ids.{readParts}
 use Rattle.numbers.specs.Numbers.{addressOf, codeOf, valueOf}
-use Rattle.frame_numbers.specs.Frames.{builderNumbers, heldAfter, madeNumbers, placeNumbers, Told}
+use Rattle.numbers.specs.Frames.{builderNumbers, heldAfter, madeNumbers, placeNumbers, Told}
 
 -- a number returned, and memory lent out
 both : {A B : Type 0} {x r s : A} {y v w : B} → (r ≡ x) × (v ≡ y) → (s ≡ x) × (w ≡ y) → (r ≡ s) × (v ≡ w)

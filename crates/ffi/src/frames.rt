@@ -3,19 +3,19 @@ ghost use mathlib.Core.Path.{_≡_};
 ghost use Rattle.builder.specs.Builder.{withSequence, withPriority, withDestination};
 ghost use Rattle.builder.specs.Next.{stepOf};
 ghost use Rattle.builder.specs.Frames.{turnOf, started};
-ghost use Rattle.frame_numbers.specs.Frames.{builderFrom, builderNumbers, madeWith, heldAfter, madeNumbers, placeNumbers, Told, stepAfter, placeLaid, turnStep, nextWith, turnWith};
+ghost use Rattle.numbers.specs.Frames.{builderFrom, builderNumbers, madeWith, heldAfter, madeNumbers, placeNumbers, Told, stepAfter, placeLaid, turnStep, nextWith, turnWith};
 use builder::FastPacketBuilder;
 use builder::Item;
 use builder::Next;
-use frame_numbers::after_numbers;
-use frame_numbers::builder_from;
-use frame_numbers::builder_numbers;
-use frame_numbers::go_on;
-use frame_numbers::iterator_from;
-use frame_numbers::lay_made;
-use frame_numbers::place_numbers;
-use frame_numbers::told;
+use numbers::after_numbers;
+use numbers::builder_from;
+use numbers::builder_numbers;
 use numbers::destination_from;
+use numbers::go_on;
+use numbers::iterator_from;
+use numbers::lay_made;
+use numbers::place_numbers;
+use numbers::told;
 
 // ---- a builder made and set, in place
 

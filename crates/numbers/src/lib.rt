@@ -1,6 +1,15 @@
 // The numbers that stand for what C does not have. The entries are the crate `ffi`'s.
+mod frames;
 mod numbers;
 
+pub use frames::after_numbers;
+pub use frames::builder_from;
+pub use frames::builder_numbers;
+pub use frames::go_on;
+pub use frames::iterator_from;
+pub use frames::lay_made;
+pub use frames::place_numbers;
+pub use frames::told;
 pub use numbers::answered;
 pub use numbers::byte_on;
 pub use numbers::carried;

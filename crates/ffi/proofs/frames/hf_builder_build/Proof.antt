@@ -2,7 +2,7 @@
 use borrow.Author.Needs.{needs}
 use mathlib.Core.Path.{ap, _∙_}
 use Rattle.builder.specs.Frames.{started}
-use Rattle.frame_numbers.specs.Frames.{placeNumbers}
+use Rattle.numbers.specs.Frames.{placeNumbers}
 use Rattle.ffi.proofs.frames.hf_builder_build.Statement.{statement}
 use Rattle.ffi.proofs.frames.hf_builder_build.Tie as tie
 

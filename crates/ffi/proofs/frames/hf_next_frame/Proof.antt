@@ -1,7 +1,7 @@
 -- `hf_next_frame` meets its contract: it passes on what its calls say. Assumes nothing.
 use borrow.Author.Needs.{needs}
 use mathlib.Core.Path.{ap, _∙_}
-use Rattle.frame_numbers.specs.Frames.{stepAfter}
+use Rattle.numbers.specs.Frames.{stepAfter}
 use Rattle.ffi.proofs.Laws.{told-by, next-by}
 use Rattle.ffi.proofs.frames.hf_next_frame.Statement.{statement}
 use Rattle.ffi.proofs.frames.hf_next_frame.Tie as tie

@@ -1,7 +1,7 @@
 -- `step_in` meets its contract: part by part. Assumes nothing.
 use borrow.Author.Needs.{needs}
 use mathlib.Core.Path.{refl}
-use Rattle.frame_numbers.specs.Frames.{turnStep}
+use Rattle.numbers.specs.Frames.{turnStep}
 use Rattle.ffi.proofs.frames.step_in.Statement.{statement}
 use Rattle.ffi.proofs.frames.step_in.Tie as tie
 

@@ -6,8 +6,8 @@ use mathlib.Core.Path.{_≡_, refl}
 use lib.ListN.{getD}
 use Rattle.can_id.specs.declared.Destination.{Destination}
 use Rattle.builder.specs.declared.FastPacketBuilder.{FastPacketBuilder}
 use Rattle.numbers.specs.Numbers.{isSet, toAddress}
-use Rattle.frame_numbers.specs.Frames.{builderFrom, iteratorFrom}
+use Rattle.numbers.specs.Frames.{builderFrom, iteratorFrom}
 
 pub builder-by : (n : List ℕ) {g s p q : ℕ} {d : Destination} {f : Bool}
     → g ≡ getD n 0 0 % 0x1_0000_0000 → s ≡ getD n 1 0 % 0x100 → d ≡ toAddress (getD n 2 0) → p ≡ getD n 3 0 % 0x100 → q ≡ getD n 4 0 % 0x100 → f ≡ isSet (getD n 5 0)

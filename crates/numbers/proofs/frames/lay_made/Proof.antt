@@ -1,9 +1,9 @@
 -- `lay_made` meets its contract: it passes on what its calls say. Assumes nothing.
 use borrow.Author.Needs.{needs}
 use mathlib.Core.Path.{refl}
-use Rattle.frame_numbers.specs.Frames.{heldAfter, madeNumbers}
-use Rattle.frame_numbers.proofs.frames.lay_made.Statement.{statement}
-use Rattle.frame_numbers.proofs.frames.lay_made.Tie as tie
+use Rattle.numbers.specs.Frames.{heldAfter, madeNumbers}
+use Rattle.numbers.proofs.frames.lay_made.Statement.{statement}
+use Rattle.numbers.proofs.frames.lay_made.Tie as tie
 
 pub lay-made-spec : {M : Type 1} → statement M
 unfolding heldAfter madeNumbers

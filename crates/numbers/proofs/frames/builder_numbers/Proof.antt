@@ -1,10 +1,10 @@
 -- `builder_numbers` meets its contract: field by field. Assumes nothing.
 use borrow.Author.Needs.{needs}
 use mathlib.Core.Path.{refl}
-use Rattle.frame_numbers.specs.Frames.{builderNumbers}
-use Rattle.frame_numbers.proofs.Rows.{row-6}
-use Rattle.frame_numbers.proofs.frames.builder_numbers.Statement.{statement}
-use Rattle.frame_numbers.proofs.frames.builder_numbers.Tie as tie
+use Rattle.numbers.specs.Frames.{builderNumbers}
+use Rattle.numbers.proofs.FrameRows.{row-6}
+use Rattle.numbers.proofs.frames.builder_numbers.Statement.{statement}
+use Rattle.numbers.proofs.frames.builder_numbers.Tie as tie
 
 pub builder-numbers-spec : {M : Type 1} → statement M
 unfolding builderNumbers

@@ -2,19 +2,19 @@
 ghost use mathlib.Core.Path.{_≡_};
 ghost use mathlib.Core.List.{[], _∷_};
 ghost use Rattle.builder.specs.Next.{kindOf, stepOf};
-ghost use Rattle.frame_numbers.specs.Frames.{builderFrom, builderNumbers, heldAfter, madeNumbers, iteratorFrom, placeNumbers, kindNumber, kindCarries, Told, stepAfter, placeLaid};
+ghost use Rattle.numbers.specs.Frames.{builderFrom, builderNumbers, heldAfter, madeNumbers, iteratorFrom, placeNumbers, kindNumber, kindCarries, Told, stepAfter, placeLaid};
+use crate::byte_on;
+use crate::carried;
+use crate::destination_from;
+use crate::flag;
+use crate::number_of;
+use crate::refusal;
 use builder::FastPacketBuilder;
 use builder::FrameIterator;
 use builder::Made;
 use builder::Next;
 use builder::NextKind;
 use can_id::CanFrame;
-use numbers::byte_on;
-use numbers::carried;
-use numbers::destination_from;
-use numbers::flag;
-use numbers::number_of;
-use numbers::refusal;
 
 // ---- a builder as numbers
 

@@ -1,9 +1,9 @@
 -- `told` meets its contract: each number as its call says. Assumes nothing.
 use borrow.Author.Needs.{needs}
 use mathlib.Core.Path.{refl}
-use Rattle.frame_numbers.specs.Frames.{stepNumber, stepBytes, stepFrame}
-use Rattle.frame_numbers.proofs.frames.told.Statement.{statement}
-use Rattle.frame_numbers.proofs.frames.told.Tie as tie
+use Rattle.numbers.specs.Frames.{stepNumber, stepBytes, stepFrame}
+use Rattle.numbers.proofs.frames.told.Statement.{statement}
+use Rattle.numbers.proofs.frames.told.Tie as tie
 
 pub told-spec : {M : Type 1} → statement M
 unfolding stepNumber stepBytes stepFrame

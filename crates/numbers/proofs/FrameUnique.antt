@@ -7,7 +7,7 @@ use Rattle.builder.specs.Next.{Step}
 use Rattle.builder.specs.declared.FastPacketBuilder.{FastPacketBuilder}
 use Rattle.builder.specs.declared.FrameIterator.{FrameIterator}
 use Rattle.builder.specs.declared.Made.{Made}
-use Rattle.frame_numbers.specs.Frames.{builderFrom, builderNumbers, heldAfter, madeNumbers, iteratorFrom, placeNumbers, Told, stepAfter, placeLaid}
+use Rattle.numbers.specs.Frames.{builderFrom, builderNumbers, heldAfter, madeNumbers, iteratorFrom, placeNumbers, Told, stepAfter, placeLaid}
 
 pub builder-from-unique : (n : List ℕ) (r s : FastPacketBuilder) → r ≡ builderFrom n → s ≡ builderFrom n → r ≡ s
 builder-from-unique n r s = determined

@@ -1,9 +1,9 @@
 -- `builder_from` meets its contract: field by field. Assumes nothing.
 use borrow.Author.Needs.{needs}
 use mathlib.Core.Path.{refl}
-use Rattle.frame_numbers.proofs.Laws.{builder-by}
-use Rattle.frame_numbers.proofs.frames.builder_from.Statement.{statement}
-use Rattle.frame_numbers.proofs.frames.builder_from.Tie as tie
+use Rattle.numbers.proofs.FrameLaws.{builder-by}
+use Rattle.numbers.proofs.frames.builder_from.Statement.{statement}
+use Rattle.numbers.proofs.frames.builder_from.Tie as tie
 
 pub builder-from-spec : {M : Type 1} → statement M
 builder-from-spec =

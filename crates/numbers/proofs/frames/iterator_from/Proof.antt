@@ -1,9 +1,9 @@
 -- `iterator_from` meets its contract: field by field. Assumes nothing.
 use borrow.Author.Needs.{needs}
 use mathlib.Core.Path.{refl}
-use Rattle.frame_numbers.proofs.Laws.{iterator-by}
-use Rattle.frame_numbers.proofs.frames.iterator_from.Statement.{statement}
-use Rattle.frame_numbers.proofs.frames.iterator_from.Tie as tie
+use Rattle.numbers.proofs.FrameLaws.{iterator-by}
+use Rattle.numbers.proofs.frames.iterator_from.Statement.{statement}
+use Rattle.numbers.proofs.frames.iterator_from.Tie as tie
 
 pub iterator-from-spec : {M : Type 1} → statement M
 iterator-from-spec =

@@ -1,10 +1,10 @@
 -- `go_on` meets its contract: number by number. Assumes nothing.
 use borrow.Author.Needs.{needs}
 use mathlib.Core.Path.{refl}
-use Rattle.frame_numbers.specs.Frames.{placeLaid}
-use Rattle.frame_numbers.proofs.Rows.{row-2}
-use Rattle.frame_numbers.proofs.frames.go_on.Statement.{statement}
-use Rattle.frame_numbers.proofs.frames.go_on.Tie as tie
+use Rattle.numbers.specs.Frames.{placeLaid}
+use Rattle.numbers.proofs.FrameRows.{row-2}
+use Rattle.numbers.proofs.frames.go_on.Statement.{statement}
+use Rattle.numbers.proofs.frames.go_on.Tie as tie
 
 pub go-on-spec : {M : Type 1} → statement M
 unfolding placeLaid
