@@ -20,7 +20,7 @@ use Rattle.oracle.specs.Strict.{Message}
 use Rattle.splitter.specs.Frames.{countIn}
 use Rattle.splitter.specs.declared.bench_frames.Frame.{Frame}
 use Rattle.ffi.specs.Batches.{LeftBy}
-use Rattle.bench_numbers.specs.Fives.{fiveOf}
+use Rattle.numbers.specs.Fives.{fiveOf}
 use Rattle.ffi.specs.Bench.{Reassembles, Splits}
 use Rattle.pool_numbers.specs.Pool.{Left, MadeAs}
 use Rattle.ffi.specs.Ids.{readParts}

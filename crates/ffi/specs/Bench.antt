@@ -10,7 +10,7 @@ use Rattle.splitter.specs.Frames.{countIn}
 use Rattle.splitter.specs.Split.{splitOf, idsWith, bytesWith, lensWith}
 use Rattle.splitter.specs.declared.bench_frames.Frame.{Frame}
 use Rattle.numbers.specs.Numbers.{codeOf, valueOf}
-use Rattle.bench_numbers.specs.Fives.{fiveOf}
+use Rattle.numbers.specs.Fives.{fiveOf}
 
 -- what strict reassembly leaves: what is returned, the five numbers, the list and the arena
 pub record Reassembles (a : Answer (List Message)) (code : ℕ) (values list list₀ arena arena₀ : List ℕ) : Type 0 where

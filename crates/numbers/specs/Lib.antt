@@ -1,2 +1,3 @@
+pub mod Fives
 pub mod Frames
 pub mod Numbers

@@ -1,7 +1,12 @@
 // The numbers that stand for what C does not have. The entries are the crate `ffi`'s.
+mod bench;
 mod frames;
 mod numbers;
 
+pub use bench::split_count;
+pub use bench::split_number;
+pub use bench::told_checked;
+pub use bench::told_reassembled;
 pub use frames::after_numbers;
 pub use frames::builder_from;
 pub use frames::builder_numbers;

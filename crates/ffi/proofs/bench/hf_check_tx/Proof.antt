@@ -2,7 +2,7 @@
 use borrow.Author.Needs.{needs}
 use mathlib.Core.Path.{ap, _∙_}
 use Rattle.numbers.specs.Numbers.{codeOf}
-use Rattle.bench_numbers.specs.Fives.{fiveOf}
+use Rattle.numbers.specs.Fives.{fiveOf}
 use Rattle.ffi.proofs.bench.hf_check_tx.Statement.{statement}
 use Rattle.ffi.proofs.bench.hf_check_tx.Tie as tie
 

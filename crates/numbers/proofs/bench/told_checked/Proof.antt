@@ -3,11 +3,11 @@ use borrow.Author.Needs.{needs}
 use mathlib.Core.Path.{refl}
 use Rattle.oracle.specs.Numbers.{ofChecked}
 use Rattle.oracle.specs.declared.verdicts.Checked.{Checked}
 use Rattle.numbers.specs.Numbers.{codeOf}
-use Rattle.bench_numbers.specs.Fives.{five, fiveOf}
-use Rattle.bench_numbers.proofs.Cases.{case-by}
-use Rattle.bench_numbers.proofs.bench.told_checked.Statement.{statement}
-use Rattle.bench_numbers.proofs.bench.told_checked.Tie as tie
+use Rattle.numbers.specs.Fives.{five, fiveOf}
+use Rattle.numbers.proofs.BenchCases.{case-by}
+use Rattle.numbers.proofs.bench.told_checked.Statement.{statement}
+use Rattle.numbers.proofs.bench.told_checked.Tie as tie
 
 pub told-checked-spec : {M : Type 1} → statement M
 unfolding ofChecked five fiveOf

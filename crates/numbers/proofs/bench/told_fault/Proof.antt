@@ -3,10 +3,10 @@ use borrow.Author.Needs.{needs}
 use mathlib.Core.Path.{refl}
 use Rattle.oracle.specs.FaultNumbers.{numberOf, valuesOf}
 use Rattle.oracle.specs.declared.faults.Fault.{Fault}
-use Rattle.bench_numbers.specs.Fives.{five}
-use Rattle.bench_numbers.proofs.Cases.{case-by}
-use Rattle.bench_numbers.proofs.bench.told_fault.Statement.{statement}
-use Rattle.bench_numbers.proofs.bench.told_fault.Tie as tie
+use Rattle.numbers.specs.Fives.{five}
+use Rattle.numbers.proofs.BenchCases.{case-by}
+use Rattle.numbers.proofs.bench.told_fault.Statement.{statement}
+use Rattle.numbers.proofs.bench.told_fault.Tie as tie
 
 pub told-fault-spec : {M : Type 1} → statement M
 unfolding numberOf valuesOf five

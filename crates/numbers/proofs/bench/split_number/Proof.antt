@@ -1,8 +1,8 @@
 -- `split_number` meets its contract: case by case. Assumes nothing.
 use borrow.Author.Needs.{needs}
 use Rattle.splitter.specs.Split.{ofSplit}
-use Rattle.bench_numbers.proofs.bench.split_number.Statement.{statement}
-use Rattle.bench_numbers.proofs.bench.split_number.Tie as tie
+use Rattle.numbers.proofs.bench.split_number.Statement.{statement}
+use Rattle.numbers.proofs.bench.split_number.Tie as tie
 
 pub split-number-spec : {M : Type 1} → statement M
 unfolding ofSplit

@@ -4,8 +4,8 @@ use mathlib.Core.List.{List}
 use mathlib.Core.Path.{_≡_}
 use Rattle.base.specs.Answer.{Answer}
 use Rattle.base.proofs.Cases.{determined}
 use Rattle.numbers.specs.Numbers.{codeOf, valueOf}
-use Rattle.bench_numbers.specs.Fives.{fiveOf}
+use Rattle.numbers.specs.Fives.{fiveOf}
 
 -- `a` is `ofReassembled` or `ofChecked` of the answer: what is returned and the five numbers
 pub told-unique : (a : Answer ℕ) (r s : ℕ) (v w : List ℕ) → (r ≡ codeOf a) × (v ≡ fiveOf a) → (s ≡ codeOf a) × (w ≡ fiveOf a) → (r ≡ s) × (v ≡ w)
