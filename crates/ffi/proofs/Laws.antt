@@ -25,7 +25,7 @@ use Rattle.batch.specs.declared.Batch.{Batch}
 use Rattle.ffi.specs.Batches.{LeftPool, LeftBy, batchWith}
 use Rattle.ffi.specs.Ids.{partsOf, setPriority, setDestination, setOf, bothOf}
 use Rattle.numbers.specs.Numbers.{toAddress, codeOf, valueOf}
-use Rattle.pool_numbers.specs.Pool.{poolFrom, countersFrom, Left, MadeAs}
+use Rattle.numbers.specs.Pool.{poolFrom, countersFrom, Left, MadeAs}
 use Rattle.ffi.specs.Calls.{calledWith, calledWithLength}
 use Rattle.numbers.specs.Frames.{builderFrom, builderNumbers, iteratorFrom, placeLaid, turnStep, nextWith, turnWith, madeWith, heldAfter, madeNumbers, Told}
 

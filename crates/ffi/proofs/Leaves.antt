@@ -26,7 +26,7 @@ use Rattle.assembler.specs.declared.Received.{Received}
 use Rattle.assembler.proofs.Views.{view-back}
 use Rattle.batch.specs.Rows.{Rows, Run, batchOf, leaves, refusedBy, Left as Rowed}
 use Rattle.numbers.specs.Numbers.{isSet, laidOn, flagOn, byteOn, wordOn}
-use Rattle.pool_numbers.specs.Pool.{headAt, putFlag, putByte, putWord, keyLaid, sizesLaid, headLaid, headsFrom, laid, poolFrom, countersFrom, counterNumbers, kindCode, Left, MadeAs}
+use Rattle.numbers.specs.Pool.{headAt, putFlag, putByte, putWord, keyLaid, sizesLaid, headLaid, headsFrom, laid, poolFrom, countersFrom, counterNumbers, kindCode, Left, MadeAs}
 use Rattle.ffi.specs.Calls.{calledWith, calledWithLength}
 use Rattle.ffi.specs.Batches.{LeftPool, LeftBy, batchWith}
 

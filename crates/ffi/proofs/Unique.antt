@@ -22,7 +22,7 @@ use Rattle.splitter.specs.declared.bench_frames.Frame.{Frame}
 use Rattle.ffi.specs.Batches.{LeftBy}
 use Rattle.numbers.specs.Fives.{fiveOf}
 use Rattle.ffi.specs.Bench.{Reassembles, Splits}
-use Rattle.pool_numbers.specs.Pool.{Left, MadeAs}
+use Rattle.numbers.specs.Pool.{Left, MadeAs}
 use Rattle.ffi.specs.Ids.{readParts}
 use Rattle.numbers.specs.Numbers.{addressOf, codeOf, valueOf}
 use Rattle.numbers.specs.Frames.{builderNumbers, heldAfter, madeNumbers, placeNumbers, Told}

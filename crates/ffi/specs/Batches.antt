@@ -5,7 +5,7 @@ use mathlib.Core.Path.{_≡_}
 use Rattle.session.specs.Rules.{base}
 use Rattle.batch.specs.Rows.{Rows, Left, batchOf}
 use Rattle.batch.specs.declared.Batch.{Batch}
-use Rattle.pool_numbers.specs.Pool.{laid, poolFrom, countersFrom, counterNumbers}
+use Rattle.numbers.specs.Pool.{laid, poolFrom, countersFrom, counterNumbers}
 
 -- what the answer leaves: what is returned, the lent heads (which were `old`), bytes and counters, and how many frames and arena bytes were taken
 pub record LeftPool (r : Batch) (old : List ℕ) (code : ℕ) (heads bytes counters counts : List ℕ) : Type 0 where

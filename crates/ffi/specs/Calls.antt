@@ -7,7 +7,7 @@ use Rattle.assembler.specs.View.{receiveOf}
 use Rattle.assembler.specs.declared.Received.{Received}
 use Rattle.assembler.specs.Forms.{receiveWithLengthOf}
 use Rattle.assembler.specs.declared.HeardWithLength.{HeardWithLength}
-use Rattle.pool_numbers.specs.Pool.{poolFrom, countersFrom}
+use Rattle.numbers.specs.Pool.{poolFrom, countersFrom}
 
 -- of a frame
 unfoldable pub calledWith : ℕ → List ℕ → List ℕ → List ℕ → List ℕ → Heard → Received

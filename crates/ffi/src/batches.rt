@@ -5,10 +5,10 @@ ghost use Rattle.ffi.specs.Batches.{LeftPool, LeftBy, batchWith};
 use assembler::POOL_BYTES;
 use batch::Batch;
 use batch::process_frames;
-use pool_numbers::counter_numbers;
-use pool_numbers::counters_from;
-use pool_numbers::pool_from;
-use pool_numbers::put_heads;
+use numbers::counter_numbers;
+use numbers::counters_from;
+use numbers::pool_from;
+use numbers::put_heads;
 
 fn leave_batch(
     r: Batch,

@@ -2,7 +2,7 @@
 ghost use mathlib.Core.Path.{_≡_};
 ghost use Rattle.assembler.specs.Making.{freshPool, madeOf};
 ghost use Rattle.fast_packet.specs.FastPacket.{listedIn};
-ghost use Rattle.pool_numbers.specs.Pool.{heardOf, Left, MadeAs, plainly};
+ghost use Rattle.numbers.specs.Pool.{heardOf, Left, MadeAs, plainly};
 ghost use Rattle.ffi.specs.Calls.{calledWith, calledWithLength};
 use assembler::HeardWithLength;
 use assembler::Made;
@@ -13,10 +13,10 @@ use assembler::process_frame_through;
 use assembler::process_frame_with_length_through;
 use assembler::receive;
 use fast_packet::MAX_FAST_PACKET_PAYLOAD;
-use pool_numbers::counters_from;
-use pool_numbers::leave;
-use pool_numbers::leave_made;
-use pool_numbers::pool_from;
+use numbers::counters_from;
+use numbers::leave;
+use numbers::leave_made;
+use numbers::pool_from;
 use session::Heard;
 
 #[no_mangle]

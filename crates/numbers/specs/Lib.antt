@@ -1,3 +1,4 @@
+pub mod Pool
 pub mod Fives
 pub mod Frames
 pub mod Numbers

@@ -2,6 +2,7 @@
 mod bench;
 mod frames;
 mod numbers;
+mod pools;
 
 pub use bench::split_count;
 pub use bench::split_number;
@@ -24,3 +25,9 @@ pub use numbers::flag_on;
 pub use numbers::number_of;
 pub use numbers::refusal;
 pub use numbers::word_on;
+pub use pools::counter_numbers;
+pub use pools::counters_from;
+pub use pools::leave;
+pub use pools::leave_made;
+pub use pools::pool_from;
+pub use pools::put_heads;

@@ -2,7 +2,7 @@
 use borrow.Author.Needs.{needs}
 use mathlib.Core.Path.{ap}
 use Rattle.ffi.proofs.Laws.{made-by}
-use Rattle.pool_numbers.specs.Pool.{plainly}
+use Rattle.numbers.specs.Pool.{plainly}
 use Rattle.ffi.proofs.pools.hf_pool_default.Statement.{statement}
 use Rattle.ffi.proofs.pools.hf_pool_default.Tie as tie
 

@@ -1,0 +1,12 @@
+-- `pool_from` meets its contract: it passes on what its calls say. Assumes nothing.
+use borrow.Author.Needs.{needs}
+use Rattle.numbers.proofs.PoolLaws.{pool-by}
+use Rattle.numbers.proofs.pools.pool_from.Statement.{statement}
+use Rattle.numbers.proofs.pools.pool_from.Tie as tie
+
+pub pool-from-spec : {M : Type 1} → statement M
+pool-from-spec =
+    tie.close
+    (tie.spec
+    (λ c κs. search needs)
+    (λ c. pool-by _ _ _ (c .before .heads-from .ensures)))

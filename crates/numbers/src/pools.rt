@@ -1,0 +1,252 @@
+// A pool as its size, 64 numbers for the heads of its slots and their bytes; the counters as five numbers; and what an answer leaves in them.
+ghost use mathlib.Core.Path.{_≡_};
+ghost use Prim.Native.Nat.{_<_, _%_};
+ghost use lib.ListN.{getD};
+ghost use Rattle.numbers.specs.Pool.{headAt, putFlag, putByte, putWord, keyLaid, sizesLaid, headLaid, headsFrom, laid, poolFrom, countersFrom, counterNumbers, kindCode, deliveredOn, Left, blank, MadeAs};
+use crate::byte_on;
+use crate::flag_on;
+use crate::word_on;
+use assembler::Made;
+use assembler::POOL_BYTES;
+use assembler::Pool;
+use assembler::Received;
+use fast_packet::MAX_FAST_PACKET_PAYLOAD;
+use session::Counters;
+use session::Head;
+use session::Kind;
+use session::POOL_LIMIT;
+
+// ---- heads as numbers
+
+fn number_at(n: &[u64; 64], i: usize) -> u64
+    requires { ⌜ i < 64 ⌝ }
+    ensures { λ r. ⌜ r ≡ getD (now (n .entry)) i 0 ⌝ }
+{
+    n[i]
+}
+
+fn byte_at(n: &[u64; 64], i: usize) -> u8
+    requires { ⌜ i < 64 ⌝ }
+    ensures { λ r. ⌜ r ≡ getD (now (n .entry)) i 0 % 0x100 ⌝ }
+{
+    (n[i] % 0x100) as u8
+}
+
+fn word_at(n: &[u64; 64], i: usize) -> u32
+    requires { ⌜ i < 64 ⌝ }
+    ensures { λ r. ⌜ r ≡ getD (now (n .entry)) i 0 % 0x1_0000_0000 ⌝ }
+{
+    (n[i] % 0x1_0000_0000) as u32
+}
+
+fn head_at(n: &[u64; 64], at: usize) -> Head
+    requires { ⌜ at < 57 ⌝ }
+    ensures { λ r. ⌜ r ≡ headAt (now (n .entry)) at ⌝ }
+{
+    Head {
+        in_progress: number_at(n, at) != 0,
+        source_address: byte_at(n, at + 1),
+        sequence_id: byte_at(n, at + 2),
+        last_frame_index: byte_at(n, at + 3),
+        pgn: word_at(n, at + 4),
+        expected_size: number_at(n, at + 5) as usize,
+        current_size: number_at(n, at + 6) as usize,
+        last_seen_ms: number_at(n, at + 7),
+    }
+}
+
+fn heads_from(n: &[u64; 64]) -> [Head; POOL_LIMIT]
+    ensures { λ r. ⌜ r ≡ headsFrom (now (n .entry)) ⌝ }
+{
+    [
+        head_at(n, 0),
+        head_at(n, 8),
+        head_at(n, 16),
+        head_at(n, 24),
+        head_at(n, 32),
+        head_at(n, 40),
+        head_at(n, 48),
+        head_at(n, 56),
+    ]
+}
+
+fn put_flag(n: &mut [u64; 64], i: usize, x: bool)
+    requires { ⌜ i < 64 ⌝ }
+    ensures { λ _. ⌜ now (n .exit) ≡ putFlag (now (n .entry)) i x ⌝ }
+{
+    n[i] = flag_on(n[i], x);
+}
+
+fn put_byte(n: &mut [u64; 64], i: usize, x: u8)
+    requires { ⌜ i < 64 ⌝ }
+    ensures { λ _. ⌜ now (n .exit) ≡ putByte (now (n .entry)) i x ⌝ }
+{
+    n[i] = byte_on(n[i], x);
+}
+
+fn put_word(n: &mut [u64; 64], i: usize, x: u32)
+    requires { ⌜ i < 64 ⌝ }
+    ensures { λ _. ⌜ now (n .exit) ≡ putWord (now (n .entry)) i x ⌝ }
+{
+    n[i] = word_on(n[i], x);
+}
+
+fn put_key(n: &mut [u64; 64], at: usize, h: Head)
+    requires { ⌜ at < 57 ⌝ }
+    ensures { λ _. ⌜ now (n .exit) ≡ keyLaid (now (n .entry)) at h ⌝ }
+{
+    put_flag(n, at, h.in_progress);
+    put_byte(n, at + 1, h.source_address);
+    put_byte(n, at + 2, h.sequence_id);
+    put_byte(n, at + 3, h.last_frame_index);
+    put_word(n, at + 4, h.pgn);
+}
+
+fn put_sizes(n: &mut [u64; 64], at: usize, h: Head)
+    requires { ⌜ at < 57 ⌝ }
+    ensures { λ _. ⌜ now (n .exit) ≡ sizesLaid (now (n .entry)) at h ⌝ }
+{
+    n[at + 5] = h.expected_size as u64;
+    n[at + 6] = h.current_size as u64;
+    n[at + 7] = h.last_seen_ms;
+}
+
+fn put_head(n: &mut [u64; 64], at: usize, h: Head)
+    requires { ⌜ at < 57 ⌝ }
+    ensures { λ _. ⌜ now (n .exit) ≡ headLaid (now (n .entry)) at h ⌝ }
+{
+    put_key(n, at, h);
+    put_sizes(n, at, h);
+}
+
+pub fn put_heads(n: &mut [u64; 64], heads: [Head; POOL_LIMIT])
+    ensures { λ r. ⌜ now (n .exit) ≡ laid 8 heads (now (n .entry)) ⌝ }
+{
+    let mut k = 0;
+    while k < POOL_LIMIT {
+        let h = heads[k];
+        put_head(n, 8 * k, h);
+        k += 1;
+    }
+}
+
+// ---- a pool, counters and a frame from numbers
+
+pub fn pool_from(size: usize, heads: &[u64; 64], bytes: &[u8; POOL_BYTES]) -> Pool
+    ensures { λ r. ⌜ r ≡ poolFrom size (now (heads .entry)) (now (bytes .entry)) ⌝ }
+{
+    let h = heads_from(heads);
+    let b = *bytes;
+    Pool {
+        size: size,
+        heads: h,
+        bytes: b,
+    }
+}
+
+pub fn counters_from(n: &[u32; 5]) -> Counters
+    ensures { λ r. ⌜ r ≡ countersFrom (now (n .entry)) ⌝ }
+{
+    Counters {
+        expired_sessions: n[0],
+        pool_exhausted: n[1],
+        rejected_frames: n[2],
+        lost_fragments: n[3],
+        unknown_pgn: n[4],
+    }
+}
+
+pub fn counter_numbers(c: Counters) -> [u32; 5]
+    ensures { λ r. ⌜ r ≡ counterNumbers c ⌝ }
+{
+    [
+        c.expired_sessions,
+        c.pool_exhausted,
+        c.rejected_frames,
+        c.lost_fragments,
+        c.unknown_pgn,
+    ]
+}
+
+fn kind_code(kind: Kind) -> u32
+    ensures { λ r. ⌜ r ≡ kindCode kind ⌝ }
+{
+    match kind {
+        Kind::Refused(number) => number as u32,
+        Kind::Ignored => 256,
+        Kind::FragmentConsumed => 257,
+        Kind::MessageComplete => 258,
+    }
+}
+
+// A message is delivered, and without one the lent payload stays as it was.
+fn deliver(
+    kind: Kind,
+    message: [u8; MAX_FAST_PACKET_PAYLOAD],
+    payload: &mut [u8; MAX_FAST_PACKET_PAYLOAD],
+)
+    ensures { λ _. ⌜ now (payload .exit) ≡ deliveredOn kind message (now (payload .entry)) ⌝ }
+{
+    match kind {
+        Kind::MessageComplete => {
+            *payload = message;
+        }
+        Kind::Refused(_) => {}
+        Kind::Ignored => {}
+        Kind::FragmentConsumed => {}
+    }
+}
+
+// What an answer leaves in the lent memory.
+pub fn leave(
+    r: Received,
+    heads: &mut [u64; 64],
+    bytes: &mut [u8; POOL_BYTES],
+    counters: &mut [u32; 5],
+    payload: &mut [u8; MAX_FAST_PACKET_PAYLOAD],
+    length: &mut usize,
+) -> u32
+    ensures { λ code. ⌜ Left r (now (heads .entry)) (now (payload .entry)) code (now (heads .exit)) (now (bytes .exit)) (now (counters .exit)) (now (payload .exit)) (now (length .exit)) ⌝ }
+{
+    let pool = r.pool;
+    let h = pool.heads;
+    put_heads(heads, h);
+    let b = pool.bytes;
+    *bytes = b;
+    let c = r.counters;
+    *counters = counter_numbers(c);
+    *length = r.length;
+    let kind = r.kind;
+    let message = r.payload;
+    deliver(kind, message, payload);
+    kind_code(kind)
+}
+
+// ---- a pool made
+
+fn fresh_heads(heads: &mut [u64; 64], h: [Head; POOL_LIMIT])
+    ensures { λ _. ⌜ now (heads .exit) ≡ laid 8 h blank ⌝ }
+{
+    *heads = [0; 64];
+    put_heads(heads, h);
+}
+
+pub fn leave_made(
+    made: Made,
+    heads: &mut [u64; 64],
+    bytes: &mut [u8; POOL_BYTES],
+    size: &mut usize,
+) -> u32
+    ensures { λ code. ⌜ MadeAs made (now (heads .entry)) (now (bytes .entry)) code (now (heads .exit)) (now (bytes .exit)) (now (size .exit)) ⌝ }
+{
+    let pool = made.pool;
+    *size = pool.size;
+    if made.refused != 0 {
+        return made.refused as u32;
+    }
+    let h = pool.heads;
+    fresh_heads(heads, h);
+    let b = pool.bytes;
+    *bytes = b;
+    0
+}

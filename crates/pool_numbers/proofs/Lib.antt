@@ -1,4 +1,0 @@
-pub mod Rows
-pub mod Laws
-pub mod Back
-pub mod Unique
