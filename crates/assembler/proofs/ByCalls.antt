@@ -17,16 +17,16 @@ use Rattle.session.specs.declared.Heard.{Heard}
 use Rattle.session.specs.declared.Head.{Head}
 use Rattle.session.specs.Rules.{base, poolLimit}
 use Rattle.session.specs.Heads.{freshHead, impossibleHead}
-use Rattle.assembler.specs.declared.pool.Pool.{Pool}
+use Rattle.assembler.specs.declared.Pool.{Pool}
 use Rattle.assembler.specs.declared.HeardWithLength.{HeardWithLength}
 use Rattle.assembler.specs.Call.{CallOk}
 use Rattle.assembler.specs.Slots.{within, onHead, impossible}
 use Rattle.assembler.specs.Step.{eventOf, saidOf, outcome, stepIf, step}
-use Rattle.assembler.specs.Making.{freshPool, madeIf, madeOf}
+use Rattle.assembler.specs.Making.{freshPool, madeIf, newPool}
 use Rattle.assembler.specs.View.{slotsFrom, slotsOf, shown, replyOf, receiveOf}
 use Rattle.assembler.specs.Forms.{filledFrame, receiveWithLengthOf}
 use Rattle.assembler.specs.Possible.{ByCalls, made, byDefault, left, leftWithLength}
-use Rattle.assembler.proofs.ReceiveUnique.{replied}
+use Rattle.assembler.proofs.Unique.{replied}
 use Rattle.assembler.proofs.Views.{Sized, sized-view, view-forth}
 use Rattle.assembler.proofs.Keeps.{keeps}
 
@@ -77,7 +77,7 @@ filled-ok pgns x ok =
     }
 
 by-calls-good : {p : Pool} → ByCalls p → Good p
-unfolding madeOf receiveWithLengthOf
+unfolding newPool receiveWithLengthOf
 by-calls-good (made size) = made-good (ltb poolLimit size) size refl
 by-calls-good byDefault = fresh-good 4 (omega arith)
 by-calls-good (left {p} pgns f k ok h) = left-good pgns f p k ok (by-calls-good h)

@@ -27,16 +27,16 @@ use Rattle.session.specs.Rules.{Rules, poolLimit}
 use Rattle.session.specs.Frames.{indexOf, sizeOf, badSize, firstBytes, nextBytes}
 use Rattle.session.specs.Heads.{impossibleHead, hasKey, isFree, isFreeOfSource, hasLiveKey, isExpired, inTurn, openedHead, resetHead, wanted, copiedHead, allThere}
 use Rattle.session.specs.Counting.{raised, expiredMark}
-use Rattle.session.specs.inner.Search.{blank, seen, seenIf, seenIn, firstOf, placeOf, withinLimit}
+use Rattle.session.specs.inner.Search.{nothingFound, seen, seenIf, foundIn, firstOf, placeOf, withinLimit}
 use Rattle.session.specs.inner.Plan.{idle, planOpen, planShort, planSized, planFirst, planCopy, planTurn, planNext, planIndex, planListed, planOf}
 use Rattle.session.proofs.Seen.{found, place, spot, Inside, placed-found, placed-spot, inside-first, inside-or, first-of, seen-bad, seen-key, seen-live, seen-own, seen-free}
 use Rattle.session.proofs.Sound.{Sound, sound, none-at, busy-live}
-use Rattle.assembler.specs.declared.pool.Pool.{Pool}
+use Rattle.assembler.specs.declared.Pool.{Pool}
 use Rattle.assembler.specs.declared.Received.{Received}
 use Rattle.assembler.specs.Call.{Call}
 use Rattle.assembler.specs.Slots.{Slot, Slots, freshSlot, onHead, impossible, chosen, live, openedSlot, resetSlot, copiedSlot}
 use Rattle.assembler.specs.Step.{Event, notListed, rejected, shortMessage, poolFull, opened, stray, outOfTurn, copied, completed, opensAt, firstShort, firstSized, copyAt, turnAt, continuesAt, byIndex, byList, eventOf, slotsAfter, markOf, ignored, padded, message, saidOf, outcome, stepIf, step}
-use Rattle.assembler.specs.View.{slotsFrom, slotsOf, poolOf, zeros, kindOf, payloadOf, lengthOf, shown, receiveOf}
+use Rattle.assembler.specs.View.{slotsFrom, slotsOf, poolOf, zeros, replyKind, replyPayload, replyLength, shown, receiveOf}
 use Rattle.assembler.proofs.Copies.{copy-none, paste-over}
 use Rattle.assembler.proofs.Views.{Whole, slots-long, slot-at, view-back, view-same, view-set, read-back, first-view, any-view}
 
@@ -79,7 +79,7 @@ module _ (R : Rules) (f : Heard) (p : Pool) (k : Counters) (w : Whole p) (eight 
   after e = shown (outcome f e (slotsOf p) k)
 
   does-ignored : (e : Event) (g : ℕ) → saidOf f slots e ≡ ignored → slotsAfter f slots e ≡ slots → Does f p k (idle Ignored (markOf e) (getD (p .heads) g d)) g (after e)
-  unfolding idle carried shown outcome slotsOf kindOf payloadOf lengthOf zeros
+  unfolding idle carried shown outcome slotsOf replyKind replyPayload replyLength zeros
   does-ignored e g said kept =
       record {
         fits = record { room = omega arith; there = omega arith; whole = omega arith; short = omega arith; total = omega arith };
@@ -87,7 +87,7 @@ module _ (R : Rules) (f : Heard) (p : Pool) (k : Counters) (w : Whole p) (eight 
       }
 
   does-refused : (g : ℕ) → Does f p k (idle (Refused 1) Nothing (getD (p .heads) g d)) g (shown (record { reply = refuses 1 []; pool = slotsOf p; counters = k }))
-  unfolding idle carried shown kindOf payloadOf lengthOf zeros raised
+  unfolding idle carried shown replyKind replyPayload replyLength zeros raised
   does-refused g =
       record {
         fits = record { room = omega arith; there = omega arith; whole = omega arith; short = omega arith; total = omega arith };
@@ -103,7 +103,7 @@ module _ (R : Rules) (f : Heard) (p : Pool) (k : Counters) (w : Whole p) (eight 
   next-seven = simp length-drop (rw eight)
 
   does-short : (t : Bool) (g : ℕ) → sizeOf f ≤ 6 → Does f p k (planShort true t R f (getD (p .heads) g d)) g (after shortMessage)
-  unfolding planShort carried shown outcome saidOf slotsAfter markOf slotsOf message firstBytes kindOf payloadOf lengthOf
+  unfolding planShort carried shown outcome saidOf slotsAfter markOf slotsOf message firstBytes replyKind replyPayload replyLength
   does-short t g h =
       let reach : sizeOf f ≤ length (drop 2 (f .«data»)) = omega (arith, first-six) in
       record {
@@ -130,7 +130,7 @@ module _ (R : Rules) (f : Heard) (p : Pool) (k : Counters) (w : Whole p) (eight 
         record {
           fits = record { room = omega arith; there = omega arith; whole = omega arith; short = omega arith; total = omega arith };
           is =
-              unfold carried shown outcome saidOf slotsAfter markOf slotsOf openedSlot firstBytes kindOf payloadOf lengthOf zeros in
+              unfold carried shown outcome saidOf slotsAfter markOf slotsOf openedSlot firstBytes replyKind replyPayload replyLength zeros in
               rw (slot-here i u, view-set p w i (openedHead f) 0 (drop 2 (f .«data»)) 6 u small (omega arith) (unfold firstBytes in omega (arith, first-six)));
         }
 
@@ -151,7 +151,7 @@ module _ (R : Rules) (f : Heard) (p : Pool) (k : Counters) (w : Whole p) (eight 
       enough = omega (arith, next-seven)
 
       does-copy : Sound head → (b : Bool) → Does f p k (planCopy b f head) i (after (copyAt b i))
-      unfolding planCopy copyAt copiedSlot carried shown outcome saidOf slotsAfter markOf slotsOf resetSlot copiedHead nextBytes message kindOf payloadOf lengthOf zeros
+      unfolding planCopy copyAt copiedSlot carried shown outcome saidOf slotsAfter markOf slotsOf resetSlot copiedHead nextBytes message replyKind replyPayload replyLength zeros
       does-copy s false =
           record {
             fits = record { room = fit s; there = few; whole = omega arith; short = omega arith; total = omega arith };
@@ -184,7 +184,7 @@ module _ (R : Rules) (f : Heard) (p : Pool) (k : Counters) (w : Whole p) (eight 
           record {
             fits = unfold idle in record { room = omega arith; there = omega arith; whole = omega arith; short = omega arith; total = omega arith };
             is =
-                unfold idle carried shown outcome saidOf slotsAfter markOf slotsOf resetSlot kindOf payloadOf lengthOf zeros in
+                unfold idle carried shown outcome saidOf slotsAfter markOf slotsOf resetSlot replyKind replyPayload replyLength zeros in
                 rw (slot-here i u, view-set p w i (resetHead head) 0 [] 0 u small (omega arith) (omega arith));
           }
 
@@ -261,15 +261,15 @@ module _ (R : Rules) (f : Heard) (p : Pool) (k : Counters) (w : Whole p) (eight 
 
   -- the whole call
   pub receives : (l : List ℕ) → R .limit ≡ poolLimit
-      → Does f p k (planOf (seenIn R f (p .size) (p .heads) .bad) (listedIn (f .pgn) l) (ltb (placeOf f (seenIn R f (p .size) (p .heads))) poolLimit) R f (getD (p .heads) (withinLimit (placeOf f (seenIn R f (p .size) (p .heads)))) d))
-      (withinLimit (placeOf f (seenIn R f (p .size) (p .heads)))) (receiveOf R l f p k)
-  unfolding seenIn seenIf receiveOf step impossible slotsOf
+      → Does f p k (planOf (foundIn R f (p .size) (p .heads) .bad) (listedIn (f .pgn) l) (ltb (placeOf f (foundIn R f (p .size) (p .heads))) poolLimit) R f (getD (p .heads) (withinLimit (placeOf f (foundIn R f (p .size) (p .heads)))) d))
+      (withinLimit (placeOf f (foundIn R f (p .size) (p .heads)))) (receiveOf R l f p k)
+  unfolding foundIn seenIf receiveOf step impossible slotsOf
   receives l limit = go (ltb poolLimit (p .size)) refl (R .limit) limit
     where
       go : (b : Bool) → ltb poolLimit (p .size) ≡ b → (n : ℕ) → n ≡ poolLimit
           → Does f p k (planOf (seenIf b R f (p .size) (p .heads) .bad) (listedIn (f .pgn) l) (ltb (placeOf f (seenIf b R f (p .size) (p .heads))) poolLimit) R f (getD (p .heads) (withinLimit (placeOf f (seenIf b R f (p .size) (p .heads)))) d))
           (withinLimit (placeOf f (seenIf b R f (p .size) (p .heads)))) (shown (stepIf (ltb n (p .size) || any (onHead (impossibleHead R)) slots) R (slotsOf p) k (record { pgns = l; heard = f })))
-      go true e n en = unfold blank planOf stepIf in rw (en, e) (does-refused _)
+      go true e n en = unfold nothingFound planOf stepIf in rw (en, e) (does-refused _)
       go false e n en =
           let small : p .size ≤ poolLimit = ltb-false poolLimit (p .size) e in
           let o : Option ℕ = choice small (eqb (indexOf f) 0) in
@@ -285,7 +285,7 @@ module _ (R : Rules) (f : Heard) (p : Pool) (k : Counters) (w : Whole p) (eight 
 
 -- as the code comes by it: each thing that it computes is a variable with what is known of it
 module _ (R : Rules) (limit : R .limit ≡ poolLimit) (l : List ℕ) (f : Heard) (p : Pool) (k : Counters) (w : Whole p) (eight : length (f .«data») ≡ 8) (e : Head) (s : Found) (t : Bool) (i g : ℕ) (d : Plan)
-    (es : s ≡ seenIn R f (p .size) (p .heads)) (et : t ≡ listedIn (f .pgn) l) (ei : i ≡ placeOf f s) (eg : g ≡ withinLimit i)
+    (es : s ≡ foundIn R f (p .size) (p .heads)) (et : t ≡ listedIn (f .pgn) l) (ei : i ≡ placeOf f s) (eg : g ≡ withinLimit i)
     (ed : d ≡ planOf (s .bad) t (ltb i poolLimit) R f (getD (p .heads) g e)) where
   pub planned : Does f p k d g (receiveOf R l f p k)
   planned = rw (ed, eg, ei, et, es) (receives R f p k w eight e l limit)

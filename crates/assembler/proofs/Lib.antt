@@ -1,8 +1,6 @@
-pub mod PoolUnique
 pub mod Copies
 pub mod Views
 pub mod Carries
-pub mod ReceiveUnique
 pub mod Keeps
 pub mod Types
 pub mod Unique

@@ -4,14 +4,14 @@ use Rattle.session.proofs.Counters as Counters
 use Rattle.session.proofs.Counters.Laws as Counters′
 use Rattle.session.proofs.Heard as Heard
 use Rattle.session.proofs.Heard.Laws as Heard′
-use Rattle.assembler.proofs.pool.Pool as Pool
-use Rattle.assembler.proofs.pool.Pool.Laws as Pool′
+use Rattle.assembler.proofs.Pool as Pool
+use Rattle.assembler.proofs.Pool.Laws as Pool′
 use Rattle.assembler.proofs.HeardWithLength as HeardWithLength
 use Rattle.assembler.proofs.HeardWithLength.Laws as HeardWithLength′
 use Rattle.assembler.proofs.Received as Received
 use Rattle.assembler.proofs.Received.Laws as Received′
-use Rattle.assembler.proofs.Answer as Answer
-use Rattle.assembler.proofs.Answer.Laws as Answer′
+use Rattle.assembler.proofs.Processed as Processed
+use Rattle.assembler.proofs.Processed.Laws as Processed′
 
 abbrev pub counters : Plain
 counters = struct Counters.the-type Counters′.the-laws Counters′.the-copy Counters′.the-plain
@@ -28,5 +28,5 @@ withLength = struct HeardWithLength.the-type HeardWithLength′.the-laws HeardWi
 abbrev pub received : Plain
 received = struct Received.the-type Received′.the-laws Received′.the-copy Received′.the-plain
 
-abbrev pub answer : Plain
-answer = struct Answer.the-type Answer′.the-laws Answer′.the-copy Answer′.the-plain
+abbrev pub processed : Plain
+processed = struct Processed.the-type Processed′.the-laws Processed′.the-copy Processed′.the-plain

@@ -8,7 +8,7 @@ use lib.Seq.{paste, length-paste, take-take, take-add, drop-drop, drop-append-le
 use native.Mathlib.Omega.{arith}
 use Rattle.base.specs.Lists.{here, firstAt, any}
 use Rattle.session.specs.declared.Head.{Head}
-use Rattle.assembler.specs.declared.pool.Pool.{Pool}
+use Rattle.assembler.specs.declared.Pool.{Pool}
 use Rattle.assembler.specs.Slots.{Slot, Slots, onHead}
 use Rattle.assembler.specs.View.{slotsFrom, headOf, flat, slotsOf, poolOf}
 

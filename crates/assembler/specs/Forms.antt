@@ -5,17 +5,17 @@ use Rattle.fast_packet.specs.FastPacket.{filledFrom}
 use Rattle.session.specs.declared.Heard.{Heard}
 use Rattle.session.specs.declared.Counters.{Counters}
 use Rattle.session.specs.Rules.{Rules}
-use Rattle.assembler.specs.declared.pool.Pool.{Pool}
+use Rattle.assembler.specs.declared.Pool.{Pool}
 use Rattle.assembler.specs.declared.Received.{Received}
 use Rattle.assembler.specs.View.{receiveOf}
-use Rattle.assembler.specs.declared.Answer.{Answer}
+use Rattle.assembler.specs.declared.Processed.{Processed}
 use Rattle.assembler.specs.declared.HeardWithLength.{HeardWithLength}
 
 -- an answer without the counters, where the caller lends them
-abbrev pub answerOf : Received → Answer
-answerOf r = record { kind = r .kind; payload = r .payload; length = r .length; pool = r .pool }
+abbrev pub processedOf : Received → Processed
+processedOf r = record { kind = r .kind; payload = r .payload; length = r .length; pool = r .pool }
 
-abbrev pub receivedOf : Answer → Counters → Received
+abbrev pub receivedOf : Processed → Counters → Received
 receivedOf a k = record { kind = a .kind; payload = a .payload; length = a .length; pool = a .pool; counters = k }
 
 -- "An added entry takes a length .., keeps the first min(length, 8) bytes, fills the rest with 0xFF"

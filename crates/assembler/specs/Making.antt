@@ -5,8 +5,8 @@ use lib.ListN.{replicate}
 use lib.Dec.{ltb}
 use Rattle.session.specs.Rules.{poolLimit}
 use Rattle.session.specs.Heads.{freshHead}
-use Rattle.assembler.specs.declared.pool.Pool.{Pool}
-use Rattle.assembler.specs.declared.pool.Made.{Made}
+use Rattle.assembler.specs.declared.Pool.{Pool}
+use Rattle.assembler.specs.declared.MadePool.{MadePool}
 
 -- eight buffers of 223 bytes
 abbrev pub poolBytes : ℕ
@@ -17,9 +17,9 @@ unfoldable pub freshPool : ℕ → Pool
 freshPool n = record { size = n; heads = replicate poolLimit freshHead; bytes = replicate poolBytes 0 }
 
 -- "Asked for more, making one gives refusal 1 and a fresh pool of size 0." 0 stands for no refusal.
-unfoldable pub madeIf : Bool → ℕ → Made
+unfoldable pub madeIf : Bool → ℕ → MadePool
 madeIf true n = record { refused = 1; pool = freshPool 0 }
 madeIf false n = record { refused = 0; pool = freshPool n }
 
-unfoldable pub madeOf : ℕ → Made
-madeOf n = madeIf (ltb poolLimit n) n
+unfoldable pub newPool : ℕ → MadePool
+newPool n = madeIf (ltb poolLimit n) n

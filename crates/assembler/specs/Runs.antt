@@ -19,15 +19,15 @@ pub record World : Type 0 where
   pub replies : List Reply
 
 -- a fresh pool of n slots, and counters at 0
-unfoldable pub fresh : Rules → ℕ → World
-fresh R n = record { pool = freshSlots R n; counters = freshCounters; replies = [] }
+unfoldable pub freshWorld : Rules → ℕ → World
+freshWorld R n = record { pool = freshSlots R n; counters = freshCounters; replies = [] }
 
-unfoldable pub after : Outcome → List Reply → World
-after o older = record { pool = o .pool; counters = o .counters; replies = o .reply ∷ older }
+unfoldable pub afterOutcome : Outcome → List Reply → World
+afterOutcome o older = record { pool = o .pool; counters = o .counters; replies = o .reply ∷ older }
 
-unfoldable pub call : Assembler → World → Call → World
-call f w c = after (f (w .pool) (w .counters) c) (w .replies)
+unfoldable pub callOne : Assembler → World → Call → World
+callOne f w c = afterOutcome (f (w .pool) (w .counters) c) (w .replies)
 
-unfoldable pub calls : Assembler → World → List Call → World
-calls f w [] = w
-calls f w (c ∷ cs) = calls f (call f w c) cs
+unfoldable pub callAll : Assembler → World → List Call → World
+callAll f w [] = w
+callAll f w (c ∷ cs) = callAll f (callOne f w c) cs

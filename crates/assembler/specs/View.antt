@@ -10,7 +10,7 @@ use Rattle.session.specs.declared.Counters.{Counters}
 use Rattle.session.specs.declared.Kind.{Kind}
 use Rattle.session.specs.declared.Kind.the-variants.{Refused, Ignored, FragmentConsumed, MessageComplete}
 use Rattle.session.specs.Rules.{Rules}
-use Rattle.assembler.specs.declared.pool.Pool.{Pool}
+use Rattle.assembler.specs.declared.Pool.{Pool}
 use Rattle.assembler.specs.declared.Received.{Received}
 use Rattle.assembler.specs.Call.{Call}
 use Rattle.assembler.specs.Slots.{Slot, Slots}
@@ -42,26 +42,26 @@ poolOf p = record { size = p .size; heads = map headOf (p .slots); bytes = flat 
 unfoldable pub zeros : List ℕ
 zeros = replicate maxPayload 0
 
-unfoldable pub kindOf : Reply → Kind
-kindOf (refuses n carried) = Refused n
-kindOf (gives ignored) = Ignored
-kindOf (gives consumed) = FragmentConsumed
-kindOf (gives (complete bytes n)) = MessageComplete
+unfoldable pub replyKind : Reply → Kind
+replyKind (refuses n carried) = Refused n
+replyKind (gives ignored) = Ignored
+replyKind (gives consumed) = FragmentConsumed
+replyKind (gives (complete bytes n)) = MessageComplete
 
-unfoldable pub payloadOf : Reply → List ℕ
-payloadOf (refuses n carried) = zeros
-payloadOf (gives ignored) = zeros
-payloadOf (gives consumed) = zeros
-payloadOf (gives (complete bytes n)) = bytes
+unfoldable pub replyPayload : Reply → List ℕ
+replyPayload (refuses n carried) = zeros
+replyPayload (gives ignored) = zeros
+replyPayload (gives consumed) = zeros
+replyPayload (gives (complete bytes n)) = bytes
 
-unfoldable pub lengthOf : Reply → ℕ
-lengthOf (refuses n carried) = 0
-lengthOf (gives ignored) = 0
-lengthOf (gives consumed) = 0
-lengthOf (gives (complete bytes n)) = n
+unfoldable pub replyLength : Reply → ℕ
+replyLength (refuses n carried) = 0
+replyLength (gives ignored) = 0
+replyLength (gives consumed) = 0
+replyLength (gives (complete bytes n)) = n
 
 unfoldable pub shown : Outcome → Received
-shown o = record { kind = kindOf (o .reply); payload = payloadOf (o .reply); length = lengthOf (o .reply); pool = poolOf (o .pool); counters = o .counters }
+shown o = record { kind = replyKind (o .reply); payload = replyPayload (o .reply); length = replyLength (o .reply); pool = poolOf (o .pool); counters = o .counters }
 
 -- 01's number and values of each kind of answer, with the payload and length beside it
 unfoldable pub replyBy : Kind → List ℕ → ℕ → Reply

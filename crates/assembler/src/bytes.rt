@@ -5,7 +5,7 @@ ghost use lib.ListN.{length, drop};
 ghost use lib.Seq.{paste};
 ghost use Rattle.fast_packet.specs.FastPacket.{maxPayload};
 ghost use Rattle.assembler.specs.Making.{poolBytes};
-use crate::pool::POOL_BYTES;
+use crate::POOL_BYTES;
 use fast_packet::MAX_FAST_PACKET_PAYLOAD;
 
 // Stores `n` bytes of the frame, from `from` on, at `at`.

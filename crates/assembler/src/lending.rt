@@ -2,12 +2,12 @@
 ghost use mathlib.Core.Path.{_≡_};
 ghost use Rattle.session.specs.Rules.{base};
 ghost use Rattle.assembler.specs.View.{receiveOf};
-ghost use Rattle.assembler.specs.Forms.{receiveWithLengthOf, answerOf, receivedOf};
-use crate::Answer;
+ghost use Rattle.assembler.specs.Forms.{receiveWithLengthOf, processedOf, receivedOf};
 use crate::HeardWithLength;
+use crate::Pool;
+use crate::Processed;
 use crate::Received;
 use crate::lengths::receive_with_length;
-use crate::pool::Pool;
 use crate::receiving::receive;
 use session::Counters;
 use session::Heard;
@@ -19,13 +19,13 @@ fn counters_of(r: Received) -> Counters
     c
 }
 
-fn answer_of(r: Received) -> Answer
-    ensures { λ s. ⌜ s ≡ answerOf r ⌝ }
+fn processed_of(r: Received) -> Processed
+    ensures { λ s. ⌜ s ≡ processedOf r ⌝ }
 {
     let kind = r.kind;
     let payload = r.payload;
     let pool = r.pool;
-    Answer {
+    Processed {
         kind: kind,
         payload: payload,
         length: r.length,
@@ -34,14 +34,14 @@ fn answer_of(r: Received) -> Answer
 }
 
 // Process a CAN frame that may belong to a Fast Packet session. `pgns` is the list of Fast Packet PGNs; a PGN outside it is ignored.
-pub fn process_frame(pool: Pool, counters: &mut Counters, pgns: &[u32], heard: Heard) -> Answer
-    ensures { λ r. ⌜ (r ≡ answerOf (receiveOf base (now (pgns .entry)) heard pool (now (counters .entry))))
+pub fn process_frame(pool: Pool, counters: &mut Counters, pgns: &[u32], heard: Heard) -> Processed
+    ensures { λ r. ⌜ (r ≡ processedOf (receiveOf base (now (pgns .entry)) heard pool (now (counters .entry))))
         × (now (counters .exit) ≡ receiveOf base (now (pgns .entry)) heard pool (now (counters .entry)) .counters) ⌝ }
 {
     let c = *counters;
     let out = receive(pool, c, pgns, heard);
     *counters = counters_of(out);
-    answer_of(out)
+    processed_of(out)
 }
 
 // The same for a frame with a length: its first bytes, and 0xFF after them.
@@ -50,17 +50,17 @@ pub fn process_frame_with_length(
     counters: &mut Counters,
     pgns: &[u32],
     x: HeardWithLength,
-) -> Answer
-    ensures { λ r. ⌜ (r ≡ answerOf (receiveWithLengthOf base (now (pgns .entry)) x pool (now (counters .entry))))
+) -> Processed
+    ensures { λ r. ⌜ (r ≡ processedOf (receiveWithLengthOf base (now (pgns .entry)) x pool (now (counters .entry))))
         × (now (counters .exit) ≡ receiveWithLengthOf base (now (pgns .entry)) x pool (now (counters .entry)) .counters) ⌝ }
 {
     let c = *counters;
     let out = receive_with_length(pool, c, pgns, x);
     *counters = counters_of(out);
-    answer_of(out)
+    processed_of(out)
 }
 
-fn joined(a: Answer, counters: Counters) -> Received
+fn joined(a: Processed, counters: Counters) -> Received
     ensures { λ r. ⌜ r ≡ receivedOf a counters ⌝ }
 {
     let kind = a.kind;

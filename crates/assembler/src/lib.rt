@@ -1,8 +1,8 @@
-// NMEA 2000 Fast Packet assembler: the receive call of crate `receive_call`, and its other forms, for a frame with a length and with the counters lent.
+// NMEA 2000 Fast Packet assembler: the pool, the receive call, and its other forms, for a frame with a length and with the counters lent.
 mod bytes;
 mod lending;
 mod lengths;
-mod pool;
+mod making;
 mod receiving;
 
 use fast_packet::MAX_FAST_PACKET_PAYLOAD;
@@ -11,15 +11,33 @@ pub use lending::process_frame_through;
 pub use lending::process_frame_with_length;
 pub use lending::process_frame_with_length_through;
 pub use lengths::receive_with_length;
-pub use pool::DEFAULT_SESSIONS;
-pub use pool::Made;
-pub use pool::POOL_BYTES;
-pub use pool::Pool;
 pub use receiving::handles;
 pub use receiving::receive;
 use session::Counters;
+use session::Head;
 use session::Heard;
 use session::Kind;
+use session::POOL_LIMIT;
+
+// Sessions in the default pool, one for each message in flight.
+pub const DEFAULT_SESSIONS: usize = 4;
+
+// The buffers of all sessions, end to end.
+pub const POOL_BYTES: usize = POOL_LIMIT * MAX_FAST_PACKET_PAYLOAD;
+
+// A fixed pool of reusable sessions: session k is heads[k] with the MAX_FAST_PACKET_PAYLOAD bytes from MAX_FAST_PACKET_PAYLOAD * k on. Those from
+// `size` on are not used.
+pub struct Pool {
+    pub size: usize,
+    pub heads: [Head; POOL_LIMIT],
+    pub bytes: [u8; POOL_BYTES],
+}
+
+// What making a pool gives: the refusal's number, or 0, and the pool.
+pub struct MadePool {
+    pub refused: u8,
+    pub pool: Pool,
+}
 
 // A heard frame with its length: of its eight bytes the first `length` were sent.
 pub struct HeardWithLength {
@@ -28,7 +46,7 @@ pub struct HeardWithLength {
 }
 
 // What a call answers where the counters are the caller's own.
-pub struct Answer {
+pub struct Processed {
     pub kind: Kind,
     pub payload: [u8; MAX_FAST_PACKET_PAYLOAD],
     pub length: usize,

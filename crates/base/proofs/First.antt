@@ -7,7 +7,7 @@ use Prim.Native.Nat.{ℕ, zero, suc, _<_}
 use native.Mathlib.Nat.{not-suc-le-zero, le-of-suc-le-suc}
 use native.Mathlib.Omega.{arith}
 use lib.ListN.{length, getD, take}
-use Rattle.base.specs.Lists.{next, here, orElse, firstAt}
+use Rattle.base.specs.Lists.{nextPlace, here, orElse, firstAt}
 
 -- a test, with the equation that its answer gives
 pub data Test (b : Bool) : Type 0 where
@@ -46,7 +46,7 @@ module _ {A : Type 0} where
   fails-cons t x xs d e r (suc i) h = r .failed i (le-of-suc-le-suc h)
 
   says-here : (t : A → Bool) (x : A) (xs : List A) (d : A) (b : Bool) → t x ≡ b → (o : Option ℕ) → Says t xs d o → Says t (x ∷ xs) d (here b o)
-  unfolding here next
+  unfolding here nextPlace
   says-here t x xs d true e o r = record { inside = omega arith; passed = e }
   says-here t x xs d false e none r = record { failed = fails-cons t x xs d e r }
   says-here t x xs d false e (some j) r = record { inside = omega (arith, r .inside); passed = r .passed }
@@ -68,8 +68,8 @@ unfoldable pub only : Bool → ℕ → Option ℕ
 only true i = some i
 only false i = none
 
-or-next : (o : Option ℕ) (b : Bool) (i : ℕ) → next (orElse o (only b i)) ≡ orElse (next o) (only b (suc i))
-unfolding next orElse only
+or-next : (o : Option ℕ) (b : Bool) (i : ℕ) → nextPlace (orElse o (only b i)) ≡ orElse (nextPlace o) (only b (suc i))
+unfolding nextPlace orElse only
 or-next none true i = refl
 or-next none false i = refl
 or-next (some j) b i = refl
@@ -80,7 +80,7 @@ here-or true o b i = refl
 here-or false o b i = or-next o b i
 
 here-only : (b : Bool) → here b none ≡ orElse none (only b 0)
-unfolding here orElse only next
+unfolding here orElse only nextPlace
 here-only true = refl
 here-only false = refl
 
@@ -94,7 +94,7 @@ module _ {A : Type 0} where
 
   -- every element before i fails, and i passes
   pub first-is : (t : A → Bool) (l : List A) (i : ℕ) (d : A) → i < length l → ((j : ℕ) → j < i → t (getD l j d) ≡ false) → t (getD l i d) ≡ true → firstAt t l ≡ some i
-  unfolding firstAt here next
+  unfolding firstAt here nextPlace
   first-is t [] i d h before e = absurd (not-suc-le-zero h)
   first-is t (x ∷ xs) zero d h before e = rw e
   first-is t (x ∷ xs) (suc i) d h before e =
@@ -102,7 +102,7 @@ module _ {A : Type 0} where
 
   -- every element fails
   pub first-none : (t : A → Bool) (l : List A) (d : A) → ((j : ℕ) → j < length l → t (getD l j d) ≡ false) → firstAt t l ≡ none
-  unfolding firstAt here next
+  unfolding firstAt here nextPlace
   first-none t [] d all = refl
   first-none t (x ∷ xs) d all = rw (all 0 (omega arith), first-none t xs d (λ j l. all (suc j) (omega arith)))
 
@@ -116,7 +116,7 @@ module _ {A : Type 0} where
   before-cons t x xs d e k r (suc j) h = r j (le-of-suc-le-suc h)
 
   before-here : (t : A → Bool) (x : A) (xs : List A) (d : A) (b : Bool) → t x ≡ b → (o : Option ℕ) → Before t xs d o → Before t (x ∷ xs) d (here b o)
-  unfolding here next
+  unfolding here nextPlace
   before-here t x xs d true e o r = λ j h. absurd (not-suc-le-zero h)
   before-here t x xs d false e none r = tt
   before-here t x xs d false e (some k) r = before-cons t x xs d e k r

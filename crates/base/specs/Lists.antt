@@ -5,14 +5,14 @@ use mathlib.Core.Option.{Option, none, some}
 use Prim.Native.Nat.{ℕ, zero, suc, _+_}
 
 -- a place counted in a list, counted in the list that has one element more in front
-unfoldable pub next : Option ℕ → Option ℕ
-next none = none
-next (some i) = some (suc i)
+unfoldable pub nextPlace : Option ℕ → Option ℕ
+nextPlace none = none
+nextPlace (some i) = some (suc i)
 
 -- place 0 where the test of the first element passes, else what was found after it
 unfoldable pub here : Bool → Option ℕ → Option ℕ
 here true r = some 0
-here false r = next r
+here false r = nextPlace r
 
 -- the first of the two that is a place
 unfoldable pub orElse : Option ℕ → Option ℕ → Option ℕ

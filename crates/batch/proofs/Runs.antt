@@ -22,11 +22,11 @@ use Rattle.session.specs.declared.Kind.the-variants.{Ignored}
 use Rattle.session.specs.declared.Mark.{Mark}
 use Rattle.session.specs.Heads.{impossibleHead, copiedHead}
 use Rattle.session.specs.Counting.{raised}
-use Rattle.session.specs.inner.Search.{blank, seenIf, seenIn}
+use Rattle.session.specs.inner.Search.{nothingFound, seenIf, foundIn}
 use Rattle.session.specs.inner.Plan.{idle}
 use Rattle.session.proofs.Seen.{seen-bad}
 use Rattle.session.proofs.Sound.{or-left, or-right}
-use Rattle.assembler.specs.declared.pool.Pool.{Pool}
+use Rattle.assembler.specs.declared.Pool.{Pool}
 use Rattle.assembler.specs.Slots.{onHead, impossible}
 use Rattle.assembler.specs.View.{slotsFrom, slotsOf, receiveOf}
 use Rattle.assembler.proofs.Views.{Whole, any-view}
@@ -34,7 +34,7 @@ use Rattle.assembler.proofs.Carries.{carried, Does, slot-long}
 use Rattle.batch.proofs.WayLaws.{shortPlan, runPlan}
 use Rattle.batch.specs.inner.Ways.{refusalOf}
 use Rattle.batch.specs.Lengths.{tooShort}
-use Rattle.batch.specs.Rows.{Rows, frameAt, kindNumber, Run, start, took, answerTo, runFrom, runOf, Left, over, leaves, refusedBy, batchOf}
+use Rattle.batch.specs.Rows.{Rows, frameInRows, kindNumber, Run, emptyRun, took, answerIn, runFrom, runOf, BatchLeft, over, leaves, refusedBy, batchOf}
 
 -- ---- the bytes of a message, in the arena and as the answer has them
 
@@ -99,8 +99,8 @@ fitting n w ks ls e =
 
 -- ---- the pool is looked at before the first frame
 
-pub looked-at : (R : Rules) (f : Heard) (p : Pool) → R .limit ≡ poolLimit → seenIn R f (p .size) (p .heads) .bad ≡ impossible R (slotsOf p)
-unfolding seenIn seenIf blank impossible slotsOf
+pub looked-at : (R : Rules) (f : Heard) (p : Pool) → R .limit ≡ poolLimit → foundIn R f (p .size) (p .heads) .bad ≡ impossible R (slotsOf p)
+unfolding foundIn seenIf nothingFound impossible slotsOf
 looked-at R f p limit = go (ltb poolLimit (p .size)) refl (R .limit) limit
   where
     go : (b : Bool) → ltb poolLimit (p .size) ≡ b → (n : ℕ) → n ≡ poolLimit
@@ -154,7 +154,7 @@ module _ (R : Rules) (l : List ℕ) (w : Rows) (p : Pool) (k : Counters) (ks₀ 
         kinds-kept = refl;
         lengths-kept = refl;
         arena-kept = refl;
-        run = unfold runOf soFar start in rw (sub-zero (length (w .times)));
+        run = unfold runOf soFar emptyRun in rw (sub-zero (length (w .times)));
       }
 
   module _ (ks ls ar : List ℕ) (q : Pool) (c : Counters) (used i : ℕ) (h : Running ks ls ar q c used i) where
@@ -187,22 +187,22 @@ module _ (R : Rules) (l : List ℕ) (w : Rows) (p : Pool) (k : Counters) (ks₀ 
         stopped (rw none-left at (h .run))
 
     -- a frame by the plan d, whose message has n bytes
-    module _ (lt : i < length (w .times)) (f : Heard) (ef : f ≡ frameAt w i) (d : Plan) (g : ℕ) (does : Does f q c d g (receiveOf R l f q c)) (n : ℕ) (en : n ≡ d .whole + d .short) (b : Bool) (eb : b ≡ ltb (length ar) (used + n)) where
+    module _ (lt : i < length (w .times)) (f : Heard) (ef : f ≡ frameInRows w i) (d : Plan) (g : ℕ) (does : Does f q c d g (receiveOf R l f q c)) (n : ℕ) (en : n ≡ d .whole + d .short) (b : Bool) (eb : b ≡ ltb (length ar) (used + n)) where
       abbrev more : length (w .times) - i ≡ suc (length (w .times) - suc i)
       more = omega arith
 
       abbrev z : Run
       z = soFar q c ks ls ar used i
 
-      answer-is : answerTo R l z (frameAt w i) ≡ carried d g f q c
-      unfolding answerTo soFar
+      answer-is : answerIn R l z (frameInRows w i) ≡ carried d g f q c
+      unfolding answerIn soFar
       answer-is = rw (← ef) (sym (does .is))
 
-      told : length (z .messages) + answerTo R l z (frameAt w i) .length ≡ used + n
+      told : length (z .messages) + answerIn R l z (frameInRows w i) .length ≡ used + n
       unfolding soFar carried
       told = rw (answer-is, length-take-le used ar (h .room), en)
 
-      turned : pick b z (runFrom R l w (length ar₀) (length (w .times) - suc i) (suc i) (took z (answerTo R l z (frameAt w i)))) ≡ runOf R l w (length ar₀) p k
+      turned : pick b z (runFrom R l w (length ar₀) (length (w .times) - suc i) (suc i) (took z (answerIn R l z (frameInRows w i)))) ≡ runOf R l w (length ar₀) p k
       turned = unfold runFrom in rw (eb, ← told, h .arena) (rw more at (h .run))
 
       -- the next message has no room
@@ -228,7 +228,7 @@ module _ (R : Rules) (l : List ℕ) (w : Rows) (p : Pool) (k : Counters) (ks₀ 
         short-there : d .short ≤ length (drop 2 (f .«data»))
         short-there = simp length-drop (omega (arith, eight, does .fits .short))
 
-        took-is : took z (answerTo R l z (frameAt w i)) ≡ soFar after m (set ks i v) (set ls i n) ar′ (used + n) (i + 1)
+        took-is : took z (answerIn R l z (frameInRows w i)) ≡ soFar after m (set ks i v) (set ls i n) ar′ (used + n) (i + 1)
         unfolding took soFar carried
         took-is =
             rw (
@@ -282,7 +282,7 @@ module _ (R : Rules) (l : List ℕ) (w : Rows) (p : Pool) (k : Counters) (ks₀ 
 
     -- ---- the four ways that the code has
 
-    module _ (lt : i < length (w .times)) (f : Heard) (ef : f ≡ frameAt w i) (g : ℕ) (low : g < poolLimit) (eight : length (f .«data») ≡ 8) (e : Head) where
+    module _ (lt : i < length (w .times)) (f : Heard) (ef : f ≡ frameInRows w i) (g : ℕ) (low : g < poolLimit) (eight : length (f .«data») ≡ 8) (e : Head) where
       no-bytes : false ≡ ltb (length ar) (used + 0)
       no-bytes = sym (le-ltb (length ar) (used + 0) (omega (arith, h .room)))
 
@@ -336,7 +336,7 @@ module _ (R : Rules) (l : List ℕ) (w : Rows) (p : Pool) (k : Counters) (ks ls 
   abbrev short : Bool
   short = tooShort (length (w .times)) (length (w .pgns)) (length (w .sources)) (length (w .bytes)) (length ks) (length ls)
 
-  module _ (limit : R .limit ≡ poolLimit) (f : Heard) (r : ℕ) (said : r ≡ refusalOf (seenIn R f (p .size) (p .heads) .bad) short) where
+  module _ (limit : R .limit ≡ poolLimit) (f : Heard) (r : ℕ) (said : r ≡ refusalOf (foundIn R f (p .size) (p .heads) .bad) short) where
     er : r ≡ refusalOf (impossible R (slotsOf p)) short
     er = said ∙ rw (looked-at R f p limit)
 
@@ -362,12 +362,12 @@ module _ (R : Rules) (l : List ℕ) (w : Rows) (p : Pool) (k : Counters) (ks ls 
       pub fits-all : Fitting (length (w .times)) w ks ls
       fits-all = fitting (length (w .times)) w ks ls (unrefused (impossible R (slotsOf p)) short er .1)
 
-      pub gives-run : (x : Left) → x ≡ leaves (runOf R l w (length ar) p k) ks ls ar → x ≡ batchOf R l w p k ks ls ar
+      pub gives-run : (x : BatchLeft) → x ≡ leaves (runOf R l w (length ar) p k) ks ls ar → x ≡ batchOf R l w p k ks ls ar
       unfolding batchOf pick
       gives-run x ex = ex ∙ rw (possible, unrefused (impossible R (slotsOf p)) short er .1)
 
 -- ---- a frame has eight bytes
 
-pub frame-long : (w : Rows) (i n : ℕ) (f : Heard) → i < n → n * 8 ≤ length (w .bytes) → f ≡ frameAt w i → length (f .«data») ≡ 8
-unfolding frameAt
+pub frame-long : (w : Rows) (i n : ℕ) (f : Heard) → i < n → n * 8 ≤ length (w .bytes) → f ≡ frameInRows w i → length (f .«data») ≡ 8
+unfolding frameInRows
 frame-long w i n f h long e = ap (λ (x : Heard). length (x .«data»)) e ∙ length-take-le 8 (drop (i * 8) (w .bytes)) (simp length-drop (omega arith))

@@ -12,7 +12,7 @@ use native.Mathlib.Nat.{zero-add, add-zero}
 use native.Mathlib.Omega.{arith}
 use borrow.Author.Tests.{ltb-false, lt-ltb, le-ltb, eq-eqb, ne-eqb}
 use Rattle.base.specs.Pick.{pick}
-use Rattle.base.specs.Lists.{next, here, firstAt}
+use Rattle.base.specs.Lists.{nextPlace, here, firstAt}
 use Rattle.base.proofs.Cases.{same?}
 use Rattle.fast_packet.specs.FastPacket.{maxPayload, listedIn}
 use Rattle.session.specs.declared.Heard.{Heard}
@@ -26,11 +26,11 @@ use Rattle.session.specs.declared.Counters.{Counters}
 use Rattle.session.specs.Rules.{Rules, base, poolLimit, silence, keysEqual}
 use Rattle.session.specs.Frames.{sequenceOf, indexOf, sizeOf, badSize, keyOf}
 use Rattle.session.specs.Heads.{copiedHead, headKey, hasKey, isSilent, isFree, isFreeOfSource, hasLiveKey}
-use Rattle.session.specs.inner.Search.{seen, seenIf, seenIn, firstOf, placeOf, withinLimit}
+use Rattle.session.specs.inner.Search.{seen, seenIf, foundIn, firstOf, placeOf, withinLimit}
 use Rattle.session.specs.inner.Plan.{idle, planOpen, planShort, planSized, planFirst, planCopy, planTurn, planNext, planIndex, planListed, planOf}
 use Rattle.session.proofs.Sound.{or-left, or-right}
 use Rattle.session.proofs.Seen.{place, seen-key, seen-live, seen-own, seen-free}
-use Rattle.assembler.specs.declared.pool.Pool.{Pool}
+use Rattle.assembler.specs.declared.Pool.{Pool}
 use Rattle.assembler.specs.declared.Received.{Received}
 use Rattle.assembler.specs.Slots.{impossible}
 use Rattle.assembler.specs.Step.{step}
@@ -122,7 +122,7 @@ ixed i none = poolLimit
 ixed i (some j) = i + j
 
 ixed-here : (b : Bool) (i : ℕ) (o : Option ℕ) → pick b i (ixed (suc i) o) ≡ ixed i (here b o)
-unfolding pick ixed here next
+unfolding pick ixed here nextPlace
 ixed-here true i o = sym (add-zero i)
 ixed-here false i none = refl
 ixed-here false i (some j) = omega arith
@@ -148,11 +148,11 @@ module _ (f : Heard) (n : ℕ) (hs : List Head) (ks os ts : List ℕ) (long : le
       ∙ from-first t u d (take n hs) 0 (λ j l. rw (zero-add j, getD-take n hs j d (omega (arith, all))) (same j (omega (arith, all))))
       ∙ ixed-place (firstAt u (take n hs))
 
-  seen-here : seenIn base f n hs ≡ seen base f 0 (take n hs)
-  unfolding seenIn seenIf
+  seen-here : foundIn base f n hs ≡ seen base f 0 (take n hs)
+  unfolding foundIn seenIf
   seen-here = rw (le-ltb poolLimit n small)
 
-  chosen-is : chosenIn ks os ts n (frameKey f) (f .«source_address») (f .«now_ms») ≡ firstOf (seenIn base f n hs .key) (firstOf (seenIn base f n hs .own) (seenIn base f n hs .free))
+  chosen-is : chosenIn ks os ts n (frameKey f) (f .«source_address») (f .«now_ms») ≡ firstOf (foundIn base f n hs .key) (firstOf (foundIn base f n hs .own) (foundIn base f n hs .free))
   unfolding chosenIn
   chosen-is =
       rw (
@@ -165,7 +165,7 @@ module _ (f : Heard) (n : ℕ) (hs : List Head) (ks os ts : List ℕ) (long : le
         one (openAt ks ts (f .«now_ms»)) (isFree base f) (λ j l. unfold openAt in shown-open f (getD hs j d) _ _ _ (m .at j d l)),
       )
 
-  live-is : liveIn ks ts n (frameKey f) (f .«now_ms») ≡ seenIn base f n hs .live
+  live-is : liveIn ks ts n (frameKey f) (f .«now_ms») ≡ foundIn base f n hs .live
   unfolding liveIn
   live-is =
       rw (seen-here, seen-live base f (take n hs))
@@ -238,7 +238,7 @@ module _ (l : List ℕ) (f : Heard) (p : Pool) (k : Counters) (w : Whole p) (eig
   At t i = Does f p k (planOf false t (ltb i poolLimit) base f (getD (p .heads) (withinLimit i) e)) (withinLimit i) (receiveOf base l f p k)
 
   abbrev real : ℕ
-  real = placeOf f (seenIn base f (p .size) (p .heads))
+  real = placeOf f (foundIn base f (p .size) (p .heads))
 
   at-real : (t : Bool) → t ≡ listedIn (f .pgn) l → At t real
   at-real t et =

@@ -17,11 +17,11 @@ use Rattle.session.specs.Rules.{base, poolLimit}
 use Rattle.session.specs.Heads.{freshHead, copiedHead}
 use Rattle.session.specs.Counting.{raised}
 use Rattle.session.specs.inner.Plan.{planOf}
-use Rattle.assembler.specs.declared.pool.Pool.{Pool}
+use Rattle.assembler.specs.declared.Pool.{Pool}
 use Rattle.assembler.specs.Slots.{impossible}
 use Rattle.assembler.specs.View.{slotsOf, receiveOf}
 use Rattle.assembler.proofs.Carries.{Fits, Does}
-use Rattle.batch.specs.Rows.{Rows, frameAt, kindNumber, Left, leaves, runOf}
+use Rattle.batch.specs.Rows.{Rows, frameInRows, kindNumber, BatchLeft, leaves, runOf}
 use Rattle.batch.specs.inner.Mirror.{InRange, Shows, Mirrors, frameKey, sought}
 use Rattle.batch.specs.inner.Ways.{shortIn, missMark, runsOn}
 use Rattle.batch.proofs.WayLaws.{runPlan}
@@ -40,7 +40,7 @@ module _ (l : List ℕ) (w : Rows) (p₀ : Pool) (k₀ : Counters) (ks₀ ls₀ 
   abbrev Ends : List ℕ → List ℕ → List ℕ → Pool → Counters → ℕ → ℕ → Type 0
   Ends ks ls ar q c used i = record { answer = record { refused = 0; taken = i; used = used; counters = c; pool = q }; kinds = ks; lengths = ls; arena = ar } ≡ leaves (runOf base l w (length ar₀) p₀ k₀) ks₀ ls₀ ar₀
 
-  module _ (ks ls ar : List ℕ) (q : Pool) (keys owners lasts : List ℕ) (c : Counters) (used i : ℕ) (s : Stands ks ls ar q keys owners lasts c used i) (turn : i < length (w .times)) (f : Heard) (row : f ≡ frameAt w i) (t : Bool) (et : t ≡ listedIn (f .pgn) l)
+  module _ (ks ls ar : List ℕ) (q : Pool) (keys owners lasts : List ℕ) (c : Counters) (used i : ℕ) (s : Stands ks ls ar q keys owners lasts c used i) (turn : i < length (w .times)) (f : Heard) (row : f ≡ frameInRows w i) (t : Bool) (et : t ≡ listedIn (f .pgn) l)
       (key : ℕ) (ek : (key ≡ frameKey f) × InRange (f .pgn) (getD (f .«data») 0 0)) (g : ℕ) (eg : g ≡ sought keys owners lasts (q .size) t key f) where
     long : length (f .«data») ≡ 8
     long = frame-long w i (length (w .times)) f turn (s .run .fit .bytes) row

@@ -16,20 +16,20 @@ use Rattle.session.specs.declared.Counters.{Counters}
 use Rattle.session.specs.Rules.{base, poolLimit}
 use Rattle.session.specs.Heads.{freshHead}
 use Rattle.session.specs.inner.Search.{withinLimit}
-use Rattle.assembler.specs.declared.pool.Pool.{Pool}
+use Rattle.assembler.specs.declared.Pool.{Pool}
 use Rattle.assembler.specs.declared.Received.{Received}
 use Rattle.assembler.specs.Slots.{impossible}
 use Rattle.assembler.specs.Step.{Said, ignored, consumed, complete, outcome, stepIf, step}
-use Rattle.assembler.specs.View.{slotsOf, kindOf, shown, receiveOf}
+use Rattle.assembler.specs.View.{slotsOf, replyKind, shown, receiveOf}
 use Rattle.assembler.proofs.Views.{Whole}
 use Rattle.assembler.proofs.Carries.{carried, Does, receives, slot-long}
-use Rattle.batch.specs.Rows.{Rows, frameAt, kindNumber, Run, start, took, answerTo, runFrom, runOf}
+use Rattle.batch.specs.Rows.{Rows, frameInRows, kindNumber, Run, emptyRun, took, answerIn, runFrom, runOf}
 use Rattle.batch.proofs.Sought.{call-possible}
 
 -- ---- one answer
 
-said-kind : (s : Said) → kindNumber (kindOf (gives s)) < 3
-unfolding kindNumber kindOf
+said-kind : (s : Said) → kindNumber (replyKind (gives s)) < 3
+unfolding kindNumber replyKind
 said-kind ignored = omega arith
 said-kind consumed = omega arith
 said-kind (complete bytes n) = omega arith
@@ -71,34 +71,34 @@ told-last n none h = more h none
 told-last n (more a t) h = more a (told-last n t h)
 
 module _ (l : List ℕ) (w : Rows) (bytes : (j : ℕ) → getD (w .bytes) j 0 < 256) where
-  frame-eight : (i : ℕ) → i * 8 + 8 ≤ length (w .bytes) → length (frameAt w i .«data») ≡ 8
-  unfolding frameAt
+  frame-eight : (i : ℕ) → i * 8 + 8 ≤ length (w .bytes) → length (frameInRows w i .«data») ≡ 8
+  unfolding frameInRows
   frame-eight i long = length-take-le 8 (drop (i * 8) (w .bytes)) (simp length-drop (omega arith))
 
-  frame-byte : (i : ℕ) → getD (frameAt w i .«data») 0 0 < 256
-  unfolding frameAt
+  frame-byte : (i : ℕ) → getD (frameInRows w i .«data») 0 0 < 256
+  unfolding frameInRows
   frame-byte i = rw (getD-take 8 (drop (i * 8) (w .bytes)) 0 0 (omega arith), getD-drop (i * 8) (w .bytes) 0 0) (bytes (i * 8 + 0))
 
   told-from : (room n i : ℕ) (z : Run) → (i + n) * 8 ≤ length (w .bytes) → Whole (z .pool) → impossible base (slotsOf (z .pool)) ≡ false → Told (z .kinds) → Told (runFrom base l w room n i z .kinds)
-  unfolding runFrom took answerTo pick
+  unfolding runFrom took answerIn pick
   told-from room zero i z long whole fine t = t
   told-from room (suc n) i z long whole fine t =
-      let f : Heard = frameAt w i in
+      let f : Heard = frameInRows w i in
       let a : Received = receiveOf base l f (z .pool) (z .counters) in
       let eight : length (f .«data») ≡ 8 = frame-eight i (omega (arith, long)) in
       let rest =
-      told-from room n (suc i) (took z (answerTo base l z f)) (omega (arith, long))
+      told-from room n (suc i) (took z (answerIn base l z f)) (omega (arith, long))
       (answer-whole l f (z .pool) (z .counters) whole eight)
       (call-possible l f (z .pool) (z .counters) whole eight (frame-byte i) fine)
       (told-last _ t (answer-kind l f (z .pool) (z .counters) fine)) in
-      go (ltb room (length (z .messages) + answerTo base l z f .length)) rest
+      go (ltb room (length (z .messages) + answerIn base l z f .length)) rest
     where
-      go : (b : Bool) → Told (runFrom base l w room n (suc i) (took z (answerTo base l z (frameAt w i))) .kinds)
-          → Told (pick b z (runFrom base l w room n (suc i) (took z (answerTo base l z (frameAt w i)))) .kinds)
+      go : (b : Bool) → Told (runFrom base l w room n (suc i) (took z (answerIn base l z (frameInRows w i))) .kinds)
+          → Told (pick b z (runFrom base l w room n (suc i) (took z (answerIn base l z (frameInRows w i)))) .kinds)
       go true r = t
       go false r = r
 
   -- rows of bytes, a whole and possible pool: every kind is 0, 1 or 2
   pub told : (room : ℕ) (p : Pool) (k : Counters) → length (w .times) * 8 ≤ length (w .bytes) → Whole p → impossible base (slotsOf p) ≡ false → Told (runOf base l w room p k .kinds)
-  unfolding runOf start
-  told room p k long whole fine = told-from room (length (w .times)) 0 (start p k) (omega (arith, long)) whole fine none
+  unfolding runOf emptyRun
+  told room p k long whole fine = told-from room (length (w .times)) 0 (emptyRun p k) (omega (arith, long)) whole fine none

@@ -3,12 +3,12 @@ use mathlib.Core.List.{List, _++_}
 use Prim.Native.Nat.{ℕ, zero, suc, _*_}
 use lib.ListN.{drop}
 use Rattle.session.specs.Rules.{Rules}
-use Rattle.batch.specs.Rows.{Rows, frameAt, Run, took, answerTo}
+use Rattle.batch.specs.Rows.{Rows, frameInRows, Run, took, answerIn}
 
 -- n frames, the first of them frame i
-unfoldable pub calls : Rules → List ℕ → Rows → ℕ → ℕ → Run → Run
-calls R pgns w zero i z = z
-calls R pgns w (suc n) i z = calls R pgns w n (suc i) (took z (answerTo R pgns z (frameAt w i)))
+unfoldable pub callEach : Rules → List ℕ → Rows → ℕ → ℕ → Run → Run
+callEach R pgns w zero i z = z
+callEach R pgns w (suc n) i z = callEach R pgns w n (suc i) (took z (answerIn R pgns z (frameInRows w i)))
 
 -- the rows without the first t frames
 unfoldable pub rest : ℕ → Rows → Rows

@@ -9,7 +9,7 @@ use Rattle.session.specs.declared.Counters.{Counters}
 use Rattle.session.specs.declared.Kind.{Kind}
 use Rattle.session.specs.declared.Kind.the-variants.{Refused, Ignored, FragmentConsumed, MessageComplete}
 use Rattle.session.specs.Rules.{Rules}
-use Rattle.assembler.specs.declared.pool.Pool.{Pool}
+use Rattle.assembler.specs.declared.Pool.{Pool}
 use Rattle.assembler.specs.declared.Received.{Received}
 use Rattle.assembler.specs.Slots.{impossible}
 use Rattle.assembler.specs.View.{slotsOf, receiveOf}
@@ -25,8 +25,8 @@ pub record Rows : Type 0 where
   pub sources : List ℕ
   pub bytes : List ℕ
 
-unfoldable pub frameAt : Rows → ℕ → Heard
-frameAt w i = record { «now_ms» = getD (w .times) i 0; pgn = getD (w .pgns) i 0; «source_address» = getD (w .sources) i 0; «data» = take 8 (drop (i * 8) (w .bytes)) }
+unfoldable pub frameInRows : Rows → ℕ → Heard
+frameInRows w i = record { «now_ms» = getD (w .times) i 0; pgn = getD (w .pgns) i 0; «source_address» = getD (w .sources) i 0; «data» = take 8 (drop (i * 8) (w .bytes)) }
 
 -- ---- the run
 
@@ -45,8 +45,8 @@ pub record Run : Type 0 where
   pub lengths : List ℕ
   pub messages : List ℕ
 
-unfoldable pub start : Pool → Counters → Run
-start p k = record { pool = p; counters = k; kinds = []; lengths = []; messages = [] }
+unfoldable pub emptyRun : Pool → Counters → Run
+emptyRun p k = record { pool = p; counters = k; kinds = []; lengths = []; messages = [] }
 
 -- one answer more
 unfoldable pub took : Run → Received → Run
@@ -60,22 +60,22 @@ took z a =
     }
 
 -- what the single call answers to a frame, given the pool and counters so far
-unfoldable pub answerTo : Rules → List ℕ → Run → Heard → Received
-answerTo R pgns z f = receiveOf R pgns f (z .pool) (z .counters)
+unfoldable pub answerIn : Rules → List ℕ → Run → Heard → Received
+answerIn R pgns z f = receiveOf R pgns f (z .pool) (z .counters)
 
 -- at most n frames, the first of them frame i: it stops before the first whose message has no room
 unfoldable pub runFrom : Rules → List ℕ → Rows → ℕ → ℕ → ℕ → Run → Run
 runFrom R pgns w room zero i z = z
 runFrom R pgns w room (suc n) i z =
-    pick (ltb room (length (z .messages) + answerTo R pgns z (frameAt w i) .length)) z
-    (runFrom R pgns w room n (suc i) (took z (answerTo R pgns z (frameAt w i))))
+    pick (ltb room (length (z .messages) + answerIn R pgns z (frameInRows w i) .length)) z
+    (runFrom R pgns w room n (suc i) (took z (answerIn R pgns z (frameInRows w i))))
 
 unfoldable pub runOf : Rules → List ℕ → Rows → ℕ → Pool → Counters → Run
-runOf R pgns w room p k = runFrom R pgns w room (length (w .times)) 0 (start p k)
+runOf R pgns w room p k = runFrom R pgns w room (length (w .times)) 0 (emptyRun p k)
 
 -- ---- the answer, and what is left in the lent rows
 
-pub record Left : Type 0 where
+pub record BatchLeft : Type 0 where
   pub answer : Batch
   pub kinds : List ℕ
   pub lengths : List ℕ
@@ -86,7 +86,7 @@ unfoldable pub over : List ℕ → List ℕ → List ℕ
 over row new = new ++ drop (length new) row
 
 -- 0 stands for no refusal; one entry of kinds and lengths for each frame taken, the messages from the arena's start
-unfoldable pub leaves : Run → List ℕ → List ℕ → List ℕ → Left
+unfoldable pub leaves : Run → List ℕ → List ℕ → List ℕ → BatchLeft
 leaves z kinds lengths arena =
     record {
       answer = record { refused = 0; taken = length (z .kinds); used = length (z .messages); counters = z .counters; pool = z .pool };
@@ -96,12 +96,12 @@ leaves z kinds lengths arena =
     }
 
 -- "None changes lent memory; the pool comes back unchanged with 1."
-unfoldable pub refusedBy : ℕ → Pool → Counters → List ℕ → List ℕ → List ℕ → Left
+unfoldable pub refusedBy : ℕ → Pool → Counters → List ℕ → List ℕ → List ℕ → BatchLeft
 refusedBy n p k kinds lengths arena =
     record { answer = record { refused = n; taken = 0; used = 0; counters = k; pool = p }; kinds = kinds; lengths = lengths; arena = arena }
 
 -- the call: refusal 1 for an impossible pool, then 27 for a row too short, else the run
-unfoldable pub batchOf : Rules → List ℕ → Rows → Pool → Counters → List ℕ → List ℕ → List ℕ → Left
+unfoldable pub batchOf : Rules → List ℕ → Rows → Pool → Counters → List ℕ → List ℕ → List ℕ → BatchLeft
 batchOf R pgns w p k kinds lengths arena =
     pick (impossible R (slotsOf p)) (refusedBy 1 p k kinds lengths arena)
     (pick (tooShort (length (w .times)) (length (w .pgns)) (length (w .sources)) (length (w .bytes)) (length kinds) (length lengths)) (refusedBy 27 p k kinds lengths arena)

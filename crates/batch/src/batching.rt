@@ -1,9 +1,9 @@
 // The batch call.
 ghost use mathlib.Core.Path.{_≡_};
 ghost use Rattle.session.specs.Rules.{base};
-ghost use Rattle.session.specs.inner.Search.{seenIn};
+ghost use Rattle.session.specs.inner.Search.{foundIn};
 ghost use Rattle.batch.specs.Lengths.{tooShort};
-ghost use Rattle.batch.specs.Rows.{Left, batchOf};
+ghost use Rattle.batch.specs.Rows.{BatchLeft, batchOf};
 ghost use Rattle.batch.specs.inner.Ways.{blankHeard, refusalOf};
 use crate::Batch;
 use crate::bytes::deliver_short;
@@ -58,7 +58,7 @@ fn refusal(
     kinds: usize,
     lengths: usize,
 ) -> u8
-    ensures { λ r. ⌜ r ≡ refusalOf (seenIn base blankHeard size heads .bad) (tooShort n pgns sources bytes kinds lengths) ⌝ }
+    ensures { λ r. ⌜ r ≡ refusalOf (foundIn base blankHeard size heads .bad) (tooShort n pgns sources bytes kinds lengths) ⌝ }
 {
     let before = walk(heads, size, blank());
     if before.bad {
@@ -83,7 +83,7 @@ pub fn process_frames(
     lengths: &mut [u8],
     arena: &mut [u8],
 ) -> Batch
-    ensures { λ r. ⌜ _≡_ {A = Left} (record { answer = r; kinds = now (kinds .exit); lengths = now (lengths .exit); arena = now (arena .exit) }) (batchOf base (now (pgns .entry)) (record { times = now (times .entry); pgns = now («frame_pgns» .entry); sources = now (sources .entry); bytes = now («data» .entry) }) pool counters (now (kinds .entry)) (now (lengths .entry)) (now (arena .entry))) ⌝ }
+    ensures { λ r. ⌜ _≡_ {A = BatchLeft} (record { answer = r; kinds = now (kinds .exit); lengths = now (lengths .exit); arena = now (arena .exit) }) (batchOf base (now (pgns .entry)) (record { times = now (times .entry); pgns = now («frame_pgns» .entry); sources = now (sources .entry); bytes = now («data» .entry) }) pool counters (now (kinds .entry)) (now (lengths .entry)) (now (arena .entry))) ⌝ }
 {
     let mut q = pool;
     let heads = q.heads;

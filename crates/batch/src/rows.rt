@@ -2,7 +2,7 @@
 ghost use mathlib.Core.Path.{_≡_};
 ghost use Prim.Native.Nat.{_+_, _*_, _<_, _≤_};
 ghost use lib.ListN.{length, take, drop};
-ghost use Rattle.batch.specs.Rows.{frameAt, kindNumber};
+ghost use Rattle.batch.specs.Rows.{frameInRows, kindNumber};
 use session::Heard;
 use session::Kind;
 
@@ -21,7 +21,7 @@ fn eight(data: &[u8], at: usize) -> [u8; 8]
 
 pub(crate) fn frame_at(times: &[u64], pgns: &[u32], sources: &[u8], data: &[u8], i: usize) -> Heard
     requires { ⌜ (i < length (now times)) × (i < length (now pgns)) × (i < length (now sources)) × (i * 8 + 8 ≤ length (now «data»)) ⌝ }
-    ensures { λ r. ⌜ r ≡ frameAt (record { times = now (times .entry); pgns = now (pgns .entry); sources = now (sources .entry); bytes = now («data» .entry) }) i ⌝ }
+    ensures { λ r. ⌜ r ≡ frameInRows (record { times = now (times .entry); pgns = now (pgns .entry); sources = now (sources .entry); bytes = now («data» .entry) }) i ⌝ }
 {
     let bytes = eight(data, i * 8);
     Heard {

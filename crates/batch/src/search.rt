@@ -7,7 +7,7 @@ ghost use lib.Dec.{eqb};
 ghost use Rattle.base.specs.Pick.{pick};
 ghost use Rattle.session.specs.Rules.{base, poolLimit, silence};
 ghost use Rattle.session.specs.Frames.{sizeOf};
-ghost use Rattle.session.specs.inner.Search.{seenIn, firstOf};
+ghost use Rattle.session.specs.inner.Search.{foundIn, firstOf};
 ghost use Rattle.batch.specs.inner.Mirror.{InRange, Mirrors, packed, keyNumber, frameKey, chosenIn, liveIn, sought};
 use fast_packet::MAX_FAST_PACKET_PAYLOAD;
 use session::FIRST_FRAME_PAYLOAD;
@@ -21,7 +21,7 @@ use session::nothing_found;
 
 // What the single call's walk sees. The batch asks it once, whether the pool is possible.
 pub(crate) fn walk(heads: [Head; POOL_LIMIT], size: usize, heard: Heard) -> Found
-    ensures { λ r. ⌜ r ≡ seenIn base heard size heads ⌝ }
+    ensures { λ r. ⌜ r ≡ foundIn base heard size heads ⌝ }
 {
     if POOL_LIMIT < size {
         return nothing_found(true);

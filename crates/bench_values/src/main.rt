@@ -1,7 +1,7 @@
 // Runs the values of document 01 that are not proved as theorems: one slot at 500 and 501 ms, and every refusal number that a call can give, once
 // each, with what it carries. The file 'stdout' was written by hand from document 01's text. The builder's frames are in the program builder_values.
 mod batching;
-mod bench;
+mod bench_calls;
 mod building;
 mod receiving;
 mod say;
@@ -11,6 +11,6 @@ fn main() {
     receiving::refusals();
     batching::refusals();
     building::refusals();
-    bench::refusals();
-    bench::transmit_refusals();
+    bench_calls::refusals();
+    bench_calls::transmit_refusals();
 }

@@ -10,7 +10,7 @@ use lib.ListN.{length, getD, set, replicate}
 use lib.Dec.{eqb}
 use borrow.Author.Tests.{eqb-true, eqb-false}
 use Rattle.base.specs.Lists.{total}
-use Rattle.book.specs.Book.{Message, Place, idle, holds, Event, unlisted, badly, refused, stray, atOnce, opening, restarting, reclaiming, copied, delivered, broken}
+use Rattle.book.specs.Book.{Message, Place, idle, holds, Account, unlisted, badly, noSlot, stray, atOnce, opening, restarting, reclaiming, copied, delivered, broken}
 use Rattle.book.specs.Book.{grown, Told, endLate, openingAt, newMessage, Ledger, Machine, numbered, written, tell, tells, blank}
 use Rattle.book.specs.Book.{Opened, Delivered, Broken, Restarted, Reclaimed, columnNumber, post, posts, posted, is, asNumber, onlyIf, weighs, entryWeight, tally, heldAt, held}
 use Rattle.base.proofs.Totals.{total-set}
@@ -21,7 +21,7 @@ use Rattle.book.proofs.Moves.{Quiet, is-unlisted, is-badly, is-refused,
 
 module _ {F : Type 0} (w : ℕ → ℕ) (n : ℕ) where
   -- what an event ends
-  unfoldable pub ended : Event F → ℕ
+  unfoldable pub ended : Account F → ℕ
   ended e = posted Delivered w n e + posted Broken w n e + posted Restarted w n e + posted Reclaimed w n e
 
   -- what is ended and held after the call is what was held before and what it opened
@@ -43,7 +43,7 @@ module _ {F : Type 0} (w : ℕ → ℕ) (n : ℕ) where
   unfolding heldAt
   stores ps i m a u e = subst (λ (p : Place F). total (heldAt w) (set ps i a) + heldAt w p ≡ total (heldAt w) ps + heldAt w a) e (total-set (heldAt w) ps i a (idle 0) u)
 
-  flow-quiet : (ps : List (Place F)) {e : Event F} → Quiet e → Flow ps (record { event = e; places = ps })
+  flow-quiet : (ps : List (Place F)) {e : Account F} → Quiet e → Flow ps (record { event = e; places = ps })
   unfolding ended posted total weighs posts post onlyIf columnNumber
   flow-quiet ps is-unlisted = refl
   flow-quiet ps is-badly = refl
@@ -115,11 +115,11 @@ once-notYet : (k n x t : ℕ) → Adds k n x → (n ≤ k → t ≡ 0) → suc n
 once-notYet k n x t a z l = omega (arith, a .other (λ e. omega arith), z (omega arith))
 
 module _ {F : Type 0} where
-  adds-event : (k n : ℕ) (e : Event F) → Adds k n (posted Opened (is k) n e)
+  adds-event : (k n : ℕ) (e : Account F) → Adds k n (posted Opened (is k) n e)
   unfolding posted total weighs posts post onlyIf columnNumber is
   adds-event k n unlisted = adds-nothing k n
   adds-event k n badly = adds-nothing k n
-  adds-event k n refused = adds-nothing k n
+  adds-event k n noSlot = adds-nothing k n
   adds-event k n stray = adds-nothing k n
   adds-event k n atOnce = adds-nothing k n
   adds-event k n opening = adds-test (eqb k n) k n refl

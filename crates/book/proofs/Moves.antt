@@ -7,7 +7,7 @@ use mathlib.Core.Path.{_≡_}
 use Prim.Native.Nat.{ℕ, _<_}
 use lib.ListN.{length, getD, set}
 use Rattle.base.specs.Lists.{firstAt, orElse}
-use Rattle.book.specs.Book.{Message, grown, newMessage, Place, idle, holds, Event, unlisted, badly, refused, stray, atOnce, copied, delivered, broken, Told, openingAt, Machine}
+use Rattle.book.specs.Book.{Message, grown, newMessage, Place, idle, holds, Account, unlisted, badly, noSlot, stray, atOnce, copied, delivered, broken, Told, openingAt, Machine}
 use Rattle.base.proofs.First.{first-passes, Hit, hit, hits, misses}
 
 -- ---- a place found is within the list
@@ -31,15 +31,15 @@ within-first t l d = go (hit (firstAt t l))
 -- ---- the five cases
 
 -- the events of a call that moves nothing
-pub data Quiet {F : Type 0} : Event F → Type 0 where
+pub data Quiet {F : Type 0} : Account F → Type 0 where
   is-unlisted : Quiet unlisted
   is-badly : Quiet badly
-  is-refused : Quiet refused
+  is-refused : Quiet noSlot
   is-stray : Quiet stray
   is-atOnce : Quiet atOnce
 
 pub data Move {F : Type 0} (late : Message F → Bool) (n : ℕ) (ps : List (Place F)) (c : F) : Told F → Type 0 where
-  stays : {e : Event F} → Quiet e → Move late n ps c (record { event = e; places = ps })
+  stays : {e : Account F} → Quiet e → Move late n ps c (record { event = e; places = ps })
   opens : (i : ℕ) → i < length ps → Move late n ps c (record { event = openingAt late (getD ps i (idle 0)); places = set ps i (holds (newMessage n c)) })
   grows : (i : ℕ) (m : Message F) → i < length ps → getD ps i (idle 0) ≡ holds m → Move late n ps c (record { event = copied (grown m c); places = set ps i (holds (grown m c)) })
   -- the place is left idle, with any number

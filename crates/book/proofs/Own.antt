@@ -11,10 +11,10 @@ use lib.Seq.{getD-set-same, getD-set-other}
 use lib.Dec.{eqb}
 use borrow.Author.Tests.{eqb-true, eqb-false, eq-eqb, ne-eqb}
 use Rattle.base.specs.Lists.{total}
-use Rattle.book.specs.Book.{Message, Place, idle, holds, Event, unlisted, badly, refused, stray, atOnce, opening, restarting, reclaiming, copied, delivered, broken}
+use Rattle.book.specs.Book.{Message, Place, idle, holds, Account, unlisted, badly, noSlot, stray, atOnce, opening, restarting, reclaiming, copied, delivered, broken}
 use Rattle.book.specs.Book.{grown, Told, endLate, openingAt, newMessage, Entry, Ledger, Machine, numbered, written, tell, tells, blank}
 use Rattle.book.specs.Book.{columnNumber, post, posts, posted, one, is, asNumber, onlyIf, weighs, heldAt, held}
-use Rattle.book.specs.Book.{copiedFor, consIf, framesOf, openedBy, openersOf, Owned, OwnedIf, OwnBook}
+use Rattle.book.specs.Book.{copiedFor, consIf, copiesFor, openedBy, openersOf, Owned, OwnedIf, OwnBook}
 use Rattle.base.proofs.Totals.{total-two}
 use Rattle.base.proofs.First.{Test, test, passes, fails}
 use Rattle.book.proofs.Moves.{Quiet, is-unlisted, is-badly, is-refused, is-stray, is-atOnce, Move, stays, opens, grows, delivers, breaks, Moves}
@@ -27,17 +27,17 @@ record Silent {F : Type 0} (k : ℕ) (e : Entry F) : Type 0 where
   opens : openedBy k e ≡ false
 
 -- an entry that opens: it copies nothing, and opens its own number alone
-record Opening {F : Type 0} (k n : ℕ) (c : F) (e : Event F) : Type 0 where
+record Opening {F : Type 0} (k n : ℕ) (c : F) (e : Account F) : Type 0 where
   copies : copiedFor k e ≡ false
   opens : openedBy k (record { number = n; frame = c; event = e }) ≡ eqb k n
 
 pub record Blank {F : Type 0} (k : ℕ) (es : List (Entry F)) : Type 0 where
   pub noOpener : openersOf k es ≡ []
-  pub noFrames : framesOf k es ≡ []
+  pub noFrames : copiesFor k es ≡ []
 
 module _ {F : Type 0} where
-  frames-silent : (k : ℕ) (e : Entry F) (es : List (Entry F)) → Silent k e → framesOf k (e ∷ es) ≡ framesOf k es
-  unfolding framesOf consIf
+  frames-silent : (k : ℕ) (e : Entry F) (es : List (Entry F)) → Silent k e → copiesFor k (e ∷ es) ≡ copiesFor k es
+  unfolding copiesFor consIf
   frames-silent k e es q = rw (q .copies)
 
   openers-silent : (k : ℕ) (e : Entry F) (es : List (Entry F)) → Silent k e → openersOf k (e ∷ es) ≡ openersOf k es
@@ -52,7 +52,7 @@ module _ {F : Type 0} where
   blank-silent k e es q b = record { noOpener = openers-silent k e es q ∙ b .noOpener; noFrames = frames-silent k e es q ∙ b .noFrames }
 
   -- an entry that opens nothing and copies nothing
-  silent-quiet : (k n : ℕ) (c : F) {e : Event F} → Quiet e → Silent k (record { number = n; frame = c; event = e })
+  silent-quiet : (k n : ℕ) (c : F) {e : Account F} → Quiet e → Silent k (record { number = n; frame = c; event = e })
   unfolding copiedFor openedBy posted total weighs posts post onlyIf columnNumber one
   silent-quiet k n c is-unlisted = record { copies = refl; opens = refl }
   silent-quiet k n c is-badly = record { copies = refl; opens = refl }
@@ -126,7 +126,7 @@ module _ {F : Type 0} where
       let same : asNumber true + asNumber true ≤ total (heldAt (is (m .number))) ps = rw (eq-eqb (m .number) (m .number) refl, eq-eqb (m .number) (m′ .number) (sym s)) at both in
       omega arith
 
-  quiet-owned : (es : List (Entry F)) {f : Event F} → Quiet f → OwnedIf es f
+  quiet-owned : (es : List (Entry F)) {f : Account F} → Quiet f → OwnedIf es f
   unfolding OwnedIf
   quiet-owned es is-unlisted = tt
   quiet-owned es is-badly = tt
@@ -149,11 +149,11 @@ pub record Books {F : Type 0} (L : Ledger F) : Type 0 where
   pub future : (k : ℕ) → numbered L ≤ k → Blank k (L .entries)
 
 module _ {F : Type 0} (late : Message F → Bool) (L : Ledger F) (c : F) (b : Books L) (single : (k : ℕ) → held (is k) L ≤ 1) where
-  entry : Event F → Entry F
+  entry : Account F → Entry F
   entry e = record { number = numbered L; frame = c; event = e }
 
   -- an entry that is silent but for message m, which place i holds, is silent at every other place
-  silent-others : (f : Event F) (i : ℕ) (m : Message F) → i < length (L .places) → getD (L .places) i (idle 0) ≡ holds m
+  silent-others : (f : Account F) (i : ℕ) (m : Message F) → i < length (L .places) → getD (L .places) i (idle 0) ≡ holds m
       → ((k : ℕ) → (k ≡ m .number → ⊥) → Silent k (entry f))
       → (j : ℕ) → j < length (L .places) → (j ≡ i → ⊥) → SilentAt (entry f) (getD (L .places) j (idle 0))
   unfolding held
@@ -164,12 +164,12 @@ module _ {F : Type 0} (late : Message F → Bool) (L : Ledger F) (c : F) (b : Bo
       go (holds m′) e′ = q (m′ .number) (apart (L .places) i j m m′ u v r e e′ (single (m .number)))
 
   -- an entry that is silent for every message is silent at every place
-  silent-all : (f : Event F) → ((k : ℕ) → Silent k (entry f)) → (p : Place F) → SilentAt (entry f) p
+  silent-all : (f : Account F) → ((k : ℕ) → Silent k (entry f)) → (p : Place F) → SilentAt (entry f) p
   silent-all f q (idle from) = tt
   silent-all f q (holds m) = q (m .number)
 
   -- an entry that is silent for every message before it
-  silent-old : (f : Event F) → ((k : ℕ) → (k ≡ numbered L → ⊥) → Silent k (entry f)) → (p : Place F) → OwnedAt (L .entries) p → SilentAt (entry f) p
+  silent-old : (f : Account F) → ((k : ℕ) → (k ≡ numbered L → ⊥) → Silent k (entry f)) → (p : Place F) → OwnedAt (L .entries) p → SilentAt (entry f) p
   unfolding numbered
   silent-old f q (idle from) o = tt
   silent-old f q (holds m) o = q (m .number) (λ s. omega (arith, o .1))
@@ -178,19 +178,19 @@ module _ {F : Type 0} (late : Message F → Bool) (L : Ledger F) (c : F) (b : Bo
   held-owned i m u e = subst (OwnedAt (L .entries)) e (b .places i u)
 
   -- the frames with one more
-  grown-owned : (f : Event F) (m : Message F) → copiedFor (m .number) f ≡ true → openedBy (m .number) (entry f) ≡ false → Owned (L .entries) m → Owned (entry f ∷ L .entries) (grown m c)
-  unfolding grown entry framesOf openersOf consIf
+  grown-owned : (f : Account F) (m : Message F) → copiedFor (m .number) f ≡ true → openedBy (m .number) (entry f) ≡ false → Owned (L .entries) m → Owned (entry f ∷ L .entries) (grown m c)
+  unfolding grown entry copiesFor openersOf consIf
   grown-owned f m cp op o = record { opener = rw op (o .opener); frames = rw (cp, o .frames) }
 
   new-owned : (i : ℕ) → Owned (entry (openingAt late (getD (L .places) i (idle 0))) ∷ L .entries) (newMessage (numbered L) c)
-  unfolding entry newMessage framesOf openersOf consIf
+  unfolding entry newMessage copiesFor openersOf consIf
   new-owned i =
       let o = opening-at late (numbered L) (numbered L) c (getD (L .places) i (idle 0)) in
       let z = b .future (numbered L) (omega arith) in
       record { opener = rw (o .opens, eq-eqb (numbered L) (numbered L) refl, z .noOpener); frames = rw (o .copies, z .noFrames) }
 
   -- the book after an entry f and a store at place i
-  books-set : (f : Event F) (i : ℕ) (a : Place F) → i < length (L .places)
+  books-set : (f : Account F) (i : ℕ) (a : Place F) → i < length (L .places)
       → ((j : ℕ) → j < length (L .places) → (j ≡ i → ⊥) → SilentAt (entry f) (getD (L .places) j (idle 0)))
       → ((k : ℕ) → suc (numbered L) ≤ k → Silent k (entry f))
       → OwnedAt (entry f ∷ L .entries) a
@@ -205,7 +205,7 @@ module _ {F : Type 0} (late : Message F → Bool) (L : Ledger F) (c : F) (b : Bo
   abbrev Kept : Told F → Type 0
   Kept t = Books (written L c t) × OwnedIf (entry (t .event) ∷ L .entries) (t .event)
 
-  keeps-stays : (f : Event F) → Quiet f → Kept (record { event = f; places = L .places })
+  keeps-stays : (f : Account F) → Quiet f → Kept (record { event = f; places = L .places })
   unfolding written entry numbered
   keeps-stays f q = (
     record {
@@ -219,7 +219,7 @@ module _ {F : Type 0} (late : Message F → Bool) (L : Ledger F) (c : F) (b : Bo
   unfolding entry
   keeps-opens i u =
       let p : Place F = getD (L .places) i (idle 0) in
-      let f : Event F = openingAt late p in
+      let f : Account F = openingAt late p in
       let quiet : (k : ℕ) → (k ≡ numbered L → ⊥) → Silent k (entry f) = λ k q. silent-opening late k (numbered L) c p q in (
         books-set f i (holds (newMessage (numbered L) c)) u
             (λ j v r. silent-old f quiet (getD (L .places) j (idle 0)) (b .places j v))
@@ -235,7 +235,7 @@ module _ {F : Type 0} (late : Message F → Bool) (L : Ledger F) (c : F) (b : Bo
     keeps-grows : Kept (record { event = copied (grown m c); places = set (L .places) i (holds (grown m c)) })
     unfolding entry OwnedIf grown copiedFor
     keeps-grows =
-        let f : Event F = copied (grown m c) in
+        let f : Account F = copied (grown m c) in
         let quiet : (k : ℕ) → (k ≡ m .number → ⊥) → Silent k (entry f) = λ k q. silent-copied k (numbered L) c (grown m c) q in
         let own : Owned (entry f ∷ L .entries) (grown m c) = grown-owned f m (eq-eqb (m .number) (m .number) refl) (unfold openedBy posted total weighs posts post onlyIf columnNumber one in refl) (held-owned i m u e .0) in
         (books-set f i (holds (grown m c)) u (silent-others f i m u e quiet) (λ k l. quiet k (λ s. unfold numbered in omega (arith, young))) (own, omega (arith, young)), own)
@@ -243,7 +243,7 @@ module _ {F : Type 0} (late : Message F → Bool) (L : Ledger F) (c : F) (b : Bo
     keeps-delivers : (kept : ℕ) → Kept (record { event = delivered (grown m c); places = set (L .places) i (idle kept) })
     unfolding entry OwnedIf grown copiedFor
     keeps-delivers kept =
-        let f : Event F = delivered (grown m c) in
+        let f : Account F = delivered (grown m c) in
         let quiet : (k : ℕ) → (k ≡ m .number → ⊥) → Silent k (entry f) = λ k q. silent-delivered k (numbered L) c (grown m c) q in
         let own : Owned (entry f ∷ L .entries) (grown m c) = grown-owned f m (eq-eqb (m .number) (m .number) refl) (unfold openedBy posted total weighs posts post onlyIf columnNumber one in refl) (held-owned i m u e .0) in
         (books-set f i (idle kept) u (silent-others f i m u e quiet) (λ k l. quiet k (λ s. unfold numbered in omega (arith, young))) tt, own)
@@ -251,7 +251,7 @@ module _ {F : Type 0} (late : Message F → Bool) (L : Ledger F) (c : F) (b : Bo
     keeps-breaks : (kept : ℕ) → Kept (record { event = broken m; places = set (L .places) i (idle kept) })
     unfolding entry OwnedIf
     keeps-breaks kept =
-        let f : Event F = broken m in
+        let f : Account F = broken m in
         let quiet : (k : ℕ) → Silent k (entry f) = λ k. silent-broken k (numbered L) c m in (
           books-set f i (idle kept) u (λ j v r. silent-all f quiet (getD (L .places) j (idle 0))) (λ k l. quiet k) tt,
           owned-silent m (entry f) (L .entries) (quiet (m .number)) (held-owned i m u e .0),
@@ -277,7 +277,7 @@ module _ {F : Type 0} where
   held-single L o k = omega (arith, o .balance (is k), o .once k .atMost)
 
   owns-blank : (n : ℕ) → Owns {F = F} (blank n)
-  unfolding blank OwnBook numbered framesOf openersOf
+  unfolding blank OwnBook numbered copiesFor openersOf
   owns-blank n =
       record {
         books = record { places = λ j v. rw (getD-replicate {A = Place F} n j (idle 0) (idle 0) (rw (length-replicate {A = Place F} n (idle 0)) at v)) tt; future = λ k l. record { noOpener = refl; noFrames = refl } };

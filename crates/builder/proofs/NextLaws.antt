@@ -8,7 +8,7 @@ use borrow.Author.Tests.{ltb-false, le-leb, lt-leb, ne-eqb}
 use lib.ListN.{length}
 use lib.Dec.{ltb, eqb}
 use Rattle.base.specs.Pick.{pick}
-use Rattle.can_id.specs.Build.{answerOf, numberOf, carriedOf, buildOf}
+use Rattle.can_id.specs.Build.{ofBuilt, errorNumber, errorCarries, buildOf}
 use Rattle.can_id.specs.declared.Built.{Built}
 use Rattle.can_id.specs.declared.Built.the-variants.{Id, Refused}
 use Rattle.can_id.specs.declared.CanId.{CanId}
@@ -17,7 +17,7 @@ use Rattle.can_id.specs.declared.Destination.{Destination}
 use Rattle.fast_packet.specs.FastPacket.{listedIn, maxPayload}
 use Rattle.builder.specs.Laid.{laidOf}
 use Rattle.builder.specs.declared.frame_bytes.Laid.{Laid}
-use Rattle.builder.specs.Builder.{madeOf, idBuilder}
+use Rattle.builder.specs.Builder.{newBuilder, idBuilder}
 use Rattle.builder.specs.Next.{Step, laidStep, endStep, refusedStep, framedStep, builtStep, nextOf}
 use Rattle.builder.specs.declared.FastPacketBuilder.{FastPacketBuilder}
 
@@ -27,7 +27,7 @@ pub made-with : (pgn source : ℕ) (to : Destination) (p l : List ℕ) (held : �
       builder = record { pgn = pgn; «source_address» = source; destination = to; priority = 6; «sequence_id» = held % 8; fast = t || ltb 8 (length p) };
       «sequence_id» = (held % 8 + 1) % 8;
     }
-    ≡ madeOf pgn source to p l held
+    ≡ newBuilder pgn source to p l held
 made-with pgn source to p l held t e = rw e
 
 -- ---- a step by tests that the code makes at once, where the definition makes them one by one
@@ -94,8 +94,8 @@ module _ (b : FastPacketBuilder) (index sent : ℕ) (p : List ℕ) {x : Step} wh
   unfolding nextOf pick
   next-end h k e = e ∙ over (eqb (length p) 0) (eqb index 0) _ _ _ h (simp (le-leb (length p) sent k))
 
-module _ (b : FastPacketBuilder) (index sent : ℕ) (p : List ℕ) (k : sent < length p) (r : Built) (a : answerOf r ≡ buildOf (idBuilder b)) where
-  built : nextOf b index sent p ≡ builtStep (answerOf r) b index sent p
+module _ (b : FastPacketBuilder) (index sent : ℕ) (p : List ℕ) (k : sent < length p) (r : Built) (a : ofBuilt r ≡ buildOf (idBuilder b)) where
+  built : nextOf b index sent p ≡ builtStep (ofBuilt r) b index sent p
   unfolding nextOf pick
   built =
       let z : length p ≡ 0 → ⊥ = λ h. omega arith in
@@ -104,5 +104,5 @@ module _ (b : FastPacketBuilder) (index sent : ℕ) (p : List ℕ) (k : sent < l
   pub next-framed : {x : Step} (i : CanId) → r ≡ Id i → x ≡ framedStep (i .0) b index sent p → x ≡ nextOf b index sent p
   next-framed i q e = e ∙ rw (built, q)
 
-  pub next-refused : {x : Step} (f : CanIdBuildError) → r ≡ Refused f → x ≡ refusedStep (numberOf f) (carriedOf f) index (length p) → x ≡ nextOf b index sent p
+  pub next-refused : {x : Step} (f : CanIdBuildError) → r ≡ Refused f → x ≡ refusedStep (errorNumber f) (errorCarries f) index (length p) → x ≡ nextOf b index sent p
   next-refused f q e = e ∙ rw (built, q)

@@ -8,12 +8,12 @@ use Rattle.can_id.specs.Build.{buildOf}
 use Rattle.base.proofs.Cases.{pick-all}
 use Rattle.can_id.proofs.NoThree.{NotThree, build-not-three}
 use Rattle.builder.specs.Builder.{idBuilder}
-use Rattle.builder.specs.Next.{Step, frame, end, refusal, Kind, framedStep, builtStep, nextOf}
+use Rattle.builder.specs.Next.{Step, frame, end, refusal, NextAnswer, framedStep, builtStep, nextOf}
 use Rattle.builder.specs.Frames.{nextTurn}
 use Rattle.builder.specs.declared.FastPacketBuilder.{FastPacketBuilder}
 use Rattle.builder.specs.declared.FrameIterator.{FrameIterator}
 
-abbrev Other : Kind → Type 0
+abbrev Other : NextAnswer → Type 0
 Other frame = Unit {0}
 Other end = Unit {0}
 Other (refusal n carried) = T (not (eqb n 3))

@@ -11,10 +11,10 @@ use Rattle.base.specs.Answer.{Answer, gives, refuses}
 use Rattle.base.proofs.Cases.{pick-all, same?}
 use Rattle.can_id.specs.Build.{buildOf}
 use Rattle.builder.specs.Builder.{idBuilder}
-use Rattle.builder.specs.Next.{Step, Kind, frame, end, refusal, endStep, refusedStep, framedStep, builtStep, nextOf}
+use Rattle.builder.specs.Next.{Step, NextAnswer, frame, end, refusal, endStep, refusedStep, framedStep, builtStep, nextOf}
 use Rattle.builder.specs.declared.FastPacketBuilder.{FastPacketBuilder}
 
-abbrev pub Refusal : Kind → Type 0
+abbrev pub Refusal : NextAnswer → Type 0
 Refusal frame = ⊥
 Refusal end = ⊥
 Refusal (refusal n carried) = Unit {0}

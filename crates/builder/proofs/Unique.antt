@@ -6,11 +6,11 @@ use Rattle.base.proofs.Cases.{determined}
 use Rattle.can_id.specs.declared.Built.the-variants.{Refused as NotBuilt}
 use Rattle.can_id.specs.declared.Destination.{Destination}
 use Rattle.can_id.proofs.Unique.{answers-unique}
-use Rattle.builder.specs.Builder.{madeOf, withSequence, withPriority, withDestination}
-use Rattle.builder.specs.Next.{Step, kindOf, stepOf, nextOf}
+use Rattle.builder.specs.Builder.{newBuilder, withSequence, withPriority, withDestination}
+use Rattle.builder.specs.Next.{Step, ofNextKind, ofNext, nextOf}
 use Rattle.builder.specs.Frames.{Turn, started, turnOf, nextTurn}
 use Rattle.builder.specs.declared.FastPacketBuilder.{FastPacketBuilder}
-use Rattle.builder.specs.declared.Made.{Made}
+use Rattle.builder.specs.declared.MadeBuilder.{MadeBuilder}
 use Rattle.builder.specs.declared.NextKind.{NextKind}
 use Rattle.builder.specs.declared.NextKind.the-variants.{Frame, End, Refused}
 use Rattle.builder.specs.declared.Next.{Next}
@@ -18,8 +18,8 @@ use Rattle.builder.specs.declared.FrameIterator.{FrameIterator}
 use Rattle.builder.specs.declared.Item.{Item}
 
 -- ---- the builder and its setters
-pub new-unique : (pgn source : ℕ) (to : Destination) (payload pgns : List ℕ) (held : ℕ) (r s : Made)
-    → r ≡ madeOf pgn source to payload pgns held → s ≡ madeOf pgn source to payload pgns held → r ≡ s
+pub new-unique : (pgn source : ℕ) (to : Destination) (payload pgns : List ℕ) (held : ℕ) (r s : MadeBuilder)
+    → r ≡ newBuilder pgn source to payload pgns held → s ≡ newBuilder pgn source to payload pgns held → r ≡ s
 new-unique pgn source to payload pgns held r s = determined
 
 module _ (b : FastPacketBuilder) where
@@ -36,7 +36,7 @@ module _ (b : FastPacketBuilder) where
   build-unique r s = determined
 
 -- ---- the next frame: a kind's number and values give the kind back
-kinds : (k l : NextKind) → kindOf k ≡ kindOf l → k ≡ l
+kinds : (k l : NextKind) → ofNextKind k ≡ ofNextKind l → k ≡ l
 kinds Frame Frame e = refl
 kinds Frame End e = cc
 kinds Frame (Refused f) e = cc
@@ -50,13 +50,13 @@ kinds (Refused g) (Refused f) e = let b = answers-unique (NotBuilt g) (NotBuilt 
 back : NextKind → Step → Next
 back k t = record { kind = k; frame = t .sent; «frame_index» = t .index; «bytes_sent» = t .bytes }
 
-steps-unique : (r s : Next) → stepOf r ≡ stepOf s → r ≡ s
+steps-unique : (r s : Next) → ofNext r ≡ ofNext s → r ≡ s
 unfolding back
 steps-unique r s q =
-    ap (λ (k : NextKind). back k (stepOf r)) (kinds (r .kind) (s .kind) (ap (λ (t : Step). t .kind) q))
+    ap (λ (k : NextKind). back k (ofNext r)) (kinds (r .kind) (s .kind) (ap (λ (t : Step). t .kind) q))
     ∙ ap (back (s .kind)) q
 
-pub next-frame-unique : (b : FastPacketBuilder) (index sent : ℕ) (p : List ℕ) (r s : Next) → stepOf r ≡ nextOf b index sent p → stepOf s ≡ nextOf b index sent p → r ≡ s
+pub next-frame-unique : (b : FastPacketBuilder) (index sent : ℕ) (p : List ℕ) (r s : Next) → ofNext r ≡ nextOf b index sent p → ofNext s ≡ nextOf b index sent p → r ≡ s
 next-frame-unique b index sent p r s e f = steps-unique r s (e ∙ sym f)
 
 -- ---- the same of the iterator, whose answer is a step and the builder

@@ -9,7 +9,7 @@ use Rattle.can_id.specs.declared.Destination.{Destination}
 use Rattle.can_id.specs.declared.Destination.the-variants.{To}
 use Rattle.fast_packet.specs.FastPacket.{listedIn}
 use Rattle.builder.specs.declared.FastPacketBuilder.{FastPacketBuilder}
-use Rattle.builder.specs.declared.Made.{Made}
+use Rattle.builder.specs.declared.MadeBuilder.{MadeBuilder}
 
 -- "Fast framing applies if the PGN is listed or the payload is over 8 bytes."
 abbrev pub fastOf : ℕ → List ℕ → ℕ → Bool
@@ -17,8 +17,8 @@ fastOf pgn pgns len = listedIn pgn pgns || ltb 8 len
 
 -- "A new builder takes the number the caller holds, uses it modulo 8 as its sequence, and hands back that plus 1 modulo 8.
 -- One number is spent on every builder, also for a single frame, a refusal to come, or an override. Priority starts at 6."
-abbrev pub madeOf : ℕ → ℕ → Destination → List ℕ → List ℕ → ℕ → Made
-madeOf pgn source destination payload pgns held =
+abbrev pub newBuilder : ℕ → ℕ → Destination → List ℕ → List ℕ → ℕ → MadeBuilder
+newBuilder pgn source destination payload pgns held =
     record {
       builder =
           record {

@@ -1,7 +1,7 @@
 -- The iterator over a message's frames: document 01, "`FrameIterator`: index and bytes sent by value, payload beside."
 use mathlib.Core.List.{List}
 use Prim.Native.Nat.{ℕ}
-use Rattle.builder.specs.Next.{Step, kindOf, nextOf}
+use Rattle.builder.specs.Next.{Step, ofNextKind, nextOf}
 use Rattle.builder.specs.declared.FastPacketBuilder.{FastPacketBuilder}
 use Rattle.builder.specs.declared.FrameIterator.{FrameIterator}
 use Rattle.builder.specs.declared.Item.{Item}
@@ -17,7 +17,7 @@ turnOf r =
       builder = r .iterator .builder;
       answer =
           record {
-            kind = kindOf (r .kind);
+            kind = ofNextKind (r .kind);
             sent = r .frame;
             index = r .iterator .«frame_index»;
             bytes = r .iterator .«bytes_sent»;

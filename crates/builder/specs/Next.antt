@@ -5,7 +5,7 @@ use lib.ListN.{length, replicate}
 use lib.Dec.{ltb, leb, eqb}
 use Rattle.base.specs.Pick.{pick}
 use Rattle.base.specs.Answer.{Answer, gives, refuses}
-use Rattle.can_id.specs.Build.{numberOf, carriedOf, buildOf}
+use Rattle.can_id.specs.Build.{errorNumber, errorCarries, buildOf}
 use Rattle.can_id.specs.declared.CanFrame.{CanFrame}
 use Rattle.fast_packet.specs.FastPacket.{maxPayload}
 use Rattle.builder.specs.Laid.{firstLaid, laterLaid, rawLaid}
@@ -17,25 +17,25 @@ use Rattle.builder.specs.declared.NextKind.the-variants.{Frame, End, Ref
 use Rattle.builder.specs.declared.Next.{Next}
 
 -- ---- an answer in document 01's words and numbers: a frame, End, or a refusal by its number with what it carries
-pub data Kind : Type 0 where
-  frame : Kind
-  end : Kind
-  refusal : ℕ → List ℕ → Kind
+pub data NextAnswer : Type 0 where
+  frame : NextAnswer
+  end : NextAnswer
+  refusal : ℕ → List ℕ → NextAnswer
 
 -- the answer, the frame or the zeros in its place, and the frame index and bytes sent that follow
 pub record Step : Type 0 where
-  pub kind : Kind
+  pub kind : NextAnswer
   pub sent : CanFrame
   pub index : ℕ
   pub bytes : ℕ
 
-abbrev pub kindOf : NextKind → Kind
-kindOf Frame = frame
-kindOf End = end
-kindOf (Refused e) = refusal (numberOf e) (carriedOf e)
+abbrev pub ofNextKind : NextKind → NextAnswer
+ofNextKind Frame = frame
+ofNextKind End = end
+ofNextKind (Refused e) = refusal (errorNumber e) (errorCarries e)
 
-abbrev pub stepOf : Next → Step
-stepOf r = record { kind = kindOf (r .kind); sent = r .frame; index = r .«frame_index»; bytes = r .«bytes_sent» }
+abbrev pub ofNext : Next → Step
+ofNext r = record { kind = ofNextKind (r .kind); sent = r .frame; index = r .«frame_index»; bytes = r .«bytes_sent» }
 
 -- ---- the three answers
 abbrev pub frameOf : ℕ → List ℕ → ℕ → CanFrame

@@ -1,8 +1,8 @@
 // Frames of a Fast Packet message, or the one raw frame of a short message, from a payload.
 ghost use mathlib.Core.Path.{_≡_};
-ghost use Rattle.can_id.specs.Build.{answerOf, buildOf, numberOf, carriedOf};
-ghost use Rattle.builder.specs.Builder.{madeOf, withSequence, withPriority, withDestination, idBuilder};
-ghost use Rattle.builder.specs.Next.{noFrame, laidStep, stepOf, nextOf, endStep, refusedStep, framedStep};
+ghost use Rattle.can_id.specs.Build.{ofBuilt, buildOf, errorNumber, errorCarries};
+ghost use Rattle.builder.specs.Builder.{newBuilder, withSequence, withPriority, withDestination, idBuilder};
+ghost use Rattle.builder.specs.Next.{noFrame, laidStep, ofNext, nextOf, endStep, refusedStep, framedStep};
 ghost use Rattle.builder.specs.Frames.{started, turnOf, nextTurn};
 
 mod frame_bytes;
@@ -31,7 +31,7 @@ pub struct FastPacketBuilder {
 }
 
 // A builder, and the number that the caller holds from now on.
-pub struct Made {
+pub struct MadeBuilder {
     pub builder: FastPacketBuilder,
     pub sequence_id: u8,
 }
@@ -64,7 +64,7 @@ fn no_frame() -> CanFrame
 
 impl Next {
     fn sent(id: CanId, laid: Laid) -> Self
-        ensures { λ r. ⌜ stepOf r ≡ laidStep (id .0) laid ⌝ }
+        ensures { λ r. ⌜ ofNext r ≡ laidStep (id .0) laid ⌝ }
     {
         let data = laid.data;
         let frame = CanFrame {
@@ -81,7 +81,7 @@ impl Next {
     }
 
     fn end(frame_index: u8, bytes_sent: usize) -> Self
-        ensures { λ r. ⌜ stepOf r ≡ endStep «frame_index» «bytes_sent» ⌝ }
+        ensures { λ r. ⌜ ofNext r ≡ endStep «frame_index» «bytes_sent» ⌝ }
     {
         Next {
             kind: NextKind::End,
@@ -92,7 +92,7 @@ impl Next {
     }
 
     fn refused(error: CanIdBuildError, frame_index: u8, bytes_sent: usize) -> Self
-        ensures { λ r. ⌜ stepOf r ≡ refusedStep (numberOf error) (carriedOf error) «frame_index» «bytes_sent» ⌝ }
+        ensures { λ r. ⌜ ofNext r ≡ refusedStep (errorNumber error) (errorCarries error) «frame_index» «bytes_sent» ⌝ }
     {
         Next {
             kind: NextKind::Refused(error),
@@ -114,8 +114,8 @@ impl FastPacketBuilder {
         payload: &[u8],
         pgns: &[u32],
         sequence_id: u8,
-    ) -> Made
-        ensures { λ r. ⌜ r ≡ madeOf pgn «source_address» destination (now (payload .entry)) (now (pgns .entry)) «sequence_id» ⌝ }
+    ) -> MadeBuilder
+        ensures { λ r. ⌜ r ≡ newBuilder pgn «source_address» destination (now (payload .entry)) (now (pgns .entry)) «sequence_id» ⌝ }
     {
         let listed = fast_packet::is_listed(pgns, pgn);
         let builder = FastPacketBuilder {
@@ -126,7 +126,7 @@ impl FastPacketBuilder {
             sequence_id: sequence_id % 8,
             fast: listed | (payload.len() > 8),
         };
-        Made {
+        MadeBuilder {
             builder: builder,
             sequence_id: (sequence_id % 8 + 1) % 8,
         }
@@ -166,7 +166,7 @@ impl FastPacketBuilder {
 
     // The identifier of the message's frames.
     fn identifier(self) -> Built
-        ensures { λ r. ⌜ answerOf r ≡ buildOf (idBuilder self) ⌝ }
+        ensures { λ r. ⌜ ofBuilt r ≡ buildOf (idBuilder self) ⌝ }
     {
         let destination = self.destination;
         let id_builder = CanIdBuilder {
@@ -180,7 +180,7 @@ impl FastPacketBuilder {
 
     // The frame, with the identifier.
     fn framed(self, id: CanId, frame_index: u8, bytes_sent: usize, payload: &[u8]) -> Next
-        ensures { λ r. ⌜ stepOf r ≡ framedStep (id .0) self «frame_index» «bytes_sent» (now (payload .entry)) ⌝ }
+        ensures { λ r. ⌜ ofNext r ≡ framedStep (id .0) self «frame_index» «bytes_sent» (now (payload .entry)) ⌝ }
     {
         let total_len = payload.len();
         if (total_len > MAX_FAST_PACKET_PAYLOAD) | (!self.fast & (total_len > 8)) {
@@ -198,7 +198,7 @@ impl FastPacketBuilder {
 
     // The next frame of a message with this payload, at a frame index and after some bytes sent.
     pub fn next_frame(self, frame_index: u8, bytes_sent: usize, payload: &[u8]) -> Next
-        ensures { λ r. ⌜ stepOf r ≡ nextOf self «frame_index» «bytes_sent» (now (payload .entry)) ⌝ }
+        ensures { λ r. ⌜ ofNext r ≡ nextOf self «frame_index» «bytes_sent» (now (payload .entry)) ⌝ }
     {
         let total_len = payload.len();
         // An empty payload has nothing to send: say so once instead of ending as if every frame had gone out.

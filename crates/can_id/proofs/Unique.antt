@@ -6,7 +6,7 @@ use lib.ListN.{getD}
 use Rattle.base.proofs.Cases.{determined, determined-by}
 use Rattle.base.specs.Answer.{Answer, gives, refuses}
 use Rattle.can_id.specs.Layout.{priorityOf, pgnOf, destinationOf, sourceOf}
-use Rattle.can_id.specs.Build.{answerOf, buildOf, fresh, withPriority, withDestination}
+use Rattle.can_id.specs.Build.{ofBuilt, buildOf, newIdBuilder, idWithPriority, idWithDestination}
 use Rattle.can_id.specs.declared.Destination.{Destination}
 use Rattle.can_id.specs.declared.CanIdBuilder.{CanIdBuilder}
 use Rattle.can_id.specs.declared.Built.{Built}
@@ -28,13 +28,13 @@ module _ (id : ℕ) where
   source-unique r s = determined
 
 -- ---- the builder and its setters
-pub fresh-unique : (pgn source : ℕ) (r s : CanIdBuilder) → r ≡ fresh pgn source → s ≡ fresh pgn source → r ≡ s
+pub fresh-unique : (pgn source : ℕ) (r s : CanIdBuilder) → r ≡ newIdBuilder pgn source → s ≡ newIdBuilder pgn source → r ≡ s
 fresh-unique pgn source r s = determined
 
-pub with-priority-unique : (b : CanIdBuilder) (p : ℕ) (r s : CanIdBuilder) → r ≡ withPriority b p → s ≡ withPriority b p → r ≡ s
+pub with-priority-unique : (b : CanIdBuilder) (p : ℕ) (r s : CanIdBuilder) → r ≡ idWithPriority b p → s ≡ idWithPriority b p → r ≡ s
 with-priority-unique b p r s = determined
 
-pub with-destination-unique : (b : CanIdBuilder) (d : ℕ) (r s : CanIdBuilder) → r ≡ withDestination b d → s ≡ withDestination b d → r ≡ s
+pub with-destination-unique : (b : CanIdBuilder) (d : ℕ) (r s : CanIdBuilder) → r ≡ idWithDestination b d → s ≡ idWithDestination b d → r ≡ s
 with-destination-unique b d r s = determined
 
 -- ---- building: the numbers give the answer back
@@ -42,7 +42,7 @@ back : Answer ℕ → Built
 back (gives n) = Id (record { 0 = n })
 back (refuses n l) = Refused (getD (InvalidData ∷ InvalidDestination ∷ InvalidForBroadcast ∷ InvalidForFocusedMessage (getD l 0 0) ∷ PsFocusMessageMustBeNull ∷ EmptyPayload ∷ []) (n - 2) InvalidData)
 
-kept : (r : Built) → back (answerOf r) ≡ r
+kept : (r : Built) → back (ofBuilt r) ≡ r
 unfolding back
 kept (Id id) = refl
 kept (Refused InvalidData) = refl
@@ -52,8 +52,8 @@ kept (Refused (InvalidForFocusedMessage pf)) = refl
 kept (Refused PsFocusMessageMustBeNull) = refl
 kept (Refused EmptyPayload) = refl
 
-pub answers-unique : (r s : Built) → answerOf r ≡ answerOf s → r ≡ s
-answers-unique r s e = determined-by answerOf back kept e refl
+pub answers-unique : (r s : Built) → ofBuilt r ≡ ofBuilt s → r ≡ s
+answers-unique r s e = determined-by ofBuilt back kept e refl
 
-pub build-unique : (b : CanIdBuilder) (r s : Built) → answerOf r ≡ buildOf b → answerOf s ≡ buildOf b → r ≡ s
-build-unique b r s = determined-by answerOf back kept
+pub build-unique : (b : CanIdBuilder) (r s : Built) → ofBuilt r ≡ buildOf b → ofBuilt s ≡ buildOf b → r ≡ s
+build-unique b r s = determined-by ofBuilt back kept

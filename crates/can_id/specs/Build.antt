@@ -17,37 +17,37 @@ use Rattle.can_id.specs.declared.Built.the-variants.{Id, Refused}
 
 -- ---- an answer in document 01's numbers
 -- "2 InvalidData, 3 InvalidDestination, 4, 5, 6 InvalidForBroadcast, InvalidForFocusedMessage, PsFocusMessageMustBeNull, 7 EmptyPayload"
-abbrev pub numberOf : CanIdBuildError → ℕ
-numberOf InvalidData = 2
-numberOf InvalidDestination = 3
-numberOf InvalidForBroadcast = 4
-numberOf (InvalidForFocusedMessage pf) = 5
-numberOf PsFocusMessageMustBeNull = 6
-numberOf EmptyPayload = 7
+abbrev pub errorNumber : CanIdBuildError → ℕ
+errorNumber InvalidData = 2
+errorNumber InvalidDestination = 3
+errorNumber InvalidForBroadcast = 4
+errorNumber (InvalidForFocusedMessage pf) = 5
+errorNumber PsFocusMessageMustBeNull = 6
+errorNumber EmptyPayload = 7
 
 -- "5: PF"; the others carry nothing
-abbrev pub carriedOf : CanIdBuildError → List ℕ
-carriedOf InvalidData = []
-carriedOf InvalidDestination = []
-carriedOf InvalidForBroadcast = []
-carriedOf (InvalidForFocusedMessage pf) = pf ∷ []
-carriedOf PsFocusMessageMustBeNull = []
-carriedOf EmptyPayload = []
+abbrev pub errorCarries : CanIdBuildError → List ℕ
+errorCarries InvalidData = []
+errorCarries InvalidDestination = []
+errorCarries InvalidForBroadcast = []
+errorCarries (InvalidForFocusedMessage pf) = pf ∷ []
+errorCarries PsFocusMessageMustBeNull = []
+errorCarries EmptyPayload = []
 
-abbrev pub answerOf : Built → Answer ℕ
-answerOf (Id id) = gives (id .0)
-answerOf (Refused e) = refuses (numberOf e) (carriedOf e)
+abbrev pub ofBuilt : Built → Answer ℕ
+ofBuilt (Id id) = gives (id .0)
+ofBuilt (Refused e) = refuses (errorNumber e) (errorCarries e)
 
 -- ---- the builder: "The default priority 6", and no destination yet
-abbrev pub fresh : ℕ → ℕ → CanIdBuilder
-fresh pgn source = record { priority = 6; pgn = pgn; «source_address» = source; destination = Nobody }
+abbrev pub newIdBuilder : ℕ → ℕ → CanIdBuilder
+newIdBuilder pgn source = record { priority = 6; pgn = pgn; «source_address» = source; destination = Nobody }
 
 -- "Each setter takes the builder and hands it back with one field set; priority and sequence setters keep the low 3 bits."
-abbrev pub withPriority : CanIdBuilder → ℕ → CanIdBuilder
-withPriority b p = record { priority = p % 8; pgn = b .pgn; «source_address» = b .«source_address»; destination = b .destination }
+abbrev pub idWithPriority : CanIdBuilder → ℕ → CanIdBuilder
+idWithPriority b p = record { priority = p % 8; pgn = b .pgn; «source_address» = b .«source_address»; destination = b .destination }
 
-abbrev pub withDestination : CanIdBuilder → ℕ → CanIdBuilder
-withDestination b d = record { priority = b .priority; pgn = b .pgn; «source_address» = b .«source_address»; destination = To d }
+abbrev pub idWithDestination : CanIdBuilder → ℕ → CanIdBuilder
+idWithDestination b d = record { priority = b .priority; pgn = b .pgn; «source_address» = b .«source_address»; destination = To d }
 
 -- ---- building
 -- the PF of a builder's PGN

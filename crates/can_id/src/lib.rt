@@ -2,7 +2,7 @@
 ghost use mathlib.Core.Path.{_≡_};
 ghost use Prim.Native.Nat.{_<_};
 ghost use Rattle.can_id.specs.Layout.{priorityOf, pgnOf, destinationOf, sourceOf};
-ghost use Rattle.can_id.specs.Build.{answerOf, buildOf, fresh, withPriority, withDestination, idWith};
+ghost use Rattle.can_id.specs.Build.{ofBuilt, buildOf, newIdBuilder, idWithPriority, idWithDestination, idWith};
 
 // ---- the identifier
 
@@ -27,7 +27,7 @@ impl CanId {
 
     // A builder for a PGN and a source address, at the default priority and with no destination.
     pub fn builder(pgn: u32, source_address: u8) -> CanIdBuilder
-        ensures { λ r. ⌜ r ≡ fresh pgn «source_address» ⌝ }
+        ensures { λ r. ⌜ r ≡ newIdBuilder pgn «source_address» ⌝ }
     {
         CanIdBuilder::new(pgn, source_address)
     }
@@ -126,7 +126,7 @@ fn compose(priority: u8, pgn: u32, ps: u8, source_address: u8) -> CanId
 
 impl CanIdBuilder {
     pub fn new(pgn: u32, source_address: u8) -> Self
-        ensures { λ r. ⌜ r ≡ fresh pgn «source_address» ⌝ }
+        ensures { λ r. ⌜ r ≡ newIdBuilder pgn «source_address» ⌝ }
     {
         Self {
             priority: CanId::DEFAULT_PRIORITY,
@@ -138,7 +138,7 @@ impl CanIdBuilder {
 
     // Sets the priority, of which the low 3 bits are kept.
     pub fn with_priority(mut self, priority: u8) -> Self
-        ensures { λ r. ⌜ r ≡ withPriority self priority ⌝ }
+        ensures { λ r. ⌜ r ≡ idWithPriority self priority ⌝ }
     {
         self.priority = priority % 8;
         self
@@ -146,7 +146,7 @@ impl CanIdBuilder {
 
     // Sets the destination, as a directed message needs it.
     pub fn to_destination(mut self, destination_address: u8) -> Self
-        ensures { λ r. ⌜ r ≡ withDestination self «destination_address» ⌝ }
+        ensures { λ r. ⌜ r ≡ idWithDestination self «destination_address» ⌝ }
     {
         let next = Self {
             priority: self.priority,
@@ -160,7 +160,7 @@ impl CanIdBuilder {
 
     // The same as `with_priority`, under the original's second name.
     pub fn priority(mut self, priority: u8) -> Self
-        ensures { λ r. ⌜ r ≡ withPriority self priority ⌝ }
+        ensures { λ r. ⌜ r ≡ idWithPriority self priority ⌝ }
     {
         self = self.with_priority(priority);
         self
@@ -168,7 +168,7 @@ impl CanIdBuilder {
 
     // The same as `to_destination`, under the original's second name.
     pub fn destination(mut self, dest: u8) -> Self
-        ensures { λ r. ⌜ r ≡ withDestination self dest ⌝ }
+        ensures { λ r. ⌜ r ≡ idWithDestination self dest ⌝ }
     {
         self = self.to_destination(dest);
         self
@@ -176,7 +176,7 @@ impl CanIdBuilder {
 
     // Builds the identifier, or says why these parts make none.
     pub fn build(self) -> Built
-        ensures { λ r. ⌜ answerOf r ≡ buildOf self ⌝ }
+        ensures { λ r. ⌜ ofBuilt r ≡ buildOf self ⌝ }
     {
         let priority = self.priority;
         let pgn = self.pgn;

@@ -3,11 +3,11 @@ use Prim.Native.Nat.{ℕ}
 use mathlib.Core.List.{List}
 use mathlib.Core.Path.{_≡_, refl, ap, subst, _∙_}
 use Rattle.base.specs.Answer.{Answer}
-use Rattle.can_id.specs.Build.{fresh, buildOf, withPriority as idPriority, withDestination as idDestination}
+use Rattle.can_id.specs.Build.{newIdBuilder, buildOf, idWithPriority as idPriority, idWithDestination as idDestination}
 use Rattle.can_id.specs.declared.CanIdBuilder.{CanIdBuilder}
 use Rattle.can_id.specs.declared.Destination.{Destination}
-use Rattle.builder.specs.Builder.{madeOf, withSequence, withPriority, withDestination}
-use Rattle.builder.specs.declared.Made.{Made as Begun}
+use Rattle.builder.specs.Builder.{newBuilder, withSequence, withPriority, withDestination}
+use Rattle.builder.specs.declared.MadeBuilder.{MadePool as Begun}
 use Rattle.builder.specs.Next.{Step, nextOf}
 use Rattle.builder.specs.Frames.{Turn, nextTurn}
 use Rattle.builder.specs.declared.FrameIterator.{FrameIterator}
@@ -16,21 +16,21 @@ use Rattle.session.specs.declared.Heard.{Heard}
 use Rattle.assembler.specs.View.{receiveOf}
 use Rattle.assembler.specs.Forms.{receiveWithLengthOf}
 use Rattle.assembler.specs.declared.Received.{Received}
-use Rattle.assembler.specs.declared.pool.Made.{Made}
+use Rattle.assembler.specs.declared.MadePool.{MadePool}
 use Rattle.session.specs.Rules.{base}
 use Rattle.session.specs.declared.Counters.{Counters}
-use Rattle.assembler.specs.declared.pool.Pool.{Pool}
-use Rattle.batch.specs.Rows.{Rows, batchOf, Left as Rowed}
+use Rattle.assembler.specs.declared.Pool.{Pool}
+use Rattle.batch.specs.Rows.{Rows, batchOf, BatchLeft as Rowed}
 use Rattle.batch.specs.declared.Batch.{Batch}
 use Rattle.ffi.specs.Batches.{LeftPool, LeftBy, batchWith}
 use Rattle.ffi.specs.Ids.{partsOf, setPriority, setDestination, setOf, bothOf}
 use Rattle.numbers.specs.Numbers.{toAddress, codeOf, valueOf}
-use Rattle.numbers.specs.Pool.{poolFrom, countersFrom, Left, MadeAs}
+use Rattle.numbers.specs.Pool.{poolFrom, countersFrom, CallLeft, MadeAs}
 use Rattle.ffi.specs.Calls.{calledWith, calledWithLength}
-use Rattle.numbers.specs.Frames.{builderFrom, builderNumbers, iteratorFrom, placeLaid, turnStep, nextWith, turnWith, madeWith, heldAfter, madeNumbers, Told}
+use Rattle.numbers.specs.Frames.{builderFrom, builderNumbers, iteratorFrom, placeLaid, turnStep, nextWith, turnWith, madeWith, heldAfter, madeNumbers, NextLeft}
 
 -- ---- the setters of an identifier's builder, one after the other
-pub both-set : (pgn source p d : ℕ) {a b c : CanIdBuilder} → a ≡ fresh pgn source → b ≡ idPriority a p → c ≡ idDestination b d → c ≡ bothOf pgn source p d
+pub both-set : (pgn source p d : ℕ) {a b c : CanIdBuilder} → a ≡ newIdBuilder pgn source → b ≡ idPriority a p → c ≡ idDestination b d → c ≡ bothOf pgn source p d
 unfolding bothOf
 both-set pgn source p d f g h = h ∙ ap (λ (x : CanIdBuilder). idDestination x d) (g ∙ ap (λ (x : CanIdBuilder). idPriority x p) f)
 
@@ -47,8 +47,8 @@ module _ (x : ℕ) (n : List ℕ) {r : List ℕ} {b c : FastPacketBuilder} (read
 
 -- ---- what asking for a frame leaves, by what the step is
 module _ {code : ℕ} {bytes frame : List ℕ} where
-  pub told-by : {s t : Step} → Told s code bytes frame → s ≡ t → Told t code bytes frame
-  told-by h e = subst (λ (x : Step). Told x code bytes frame) e h
+  pub told-by : {s t : Step} → NextLeft s code bytes frame → s ≡ t → NextLeft t code bytes frame
+  told-by h e = subst (λ (x : Step). NextLeft x code bytes frame) e h
 
 pub next-by : (n : List ℕ) (index sent : ℕ) (payload : List ℕ) {b : FastPacketBuilder} {s : Step} → b ≡ builderFrom n → s ≡ nextOf b index sent payload → s ≡ nextWith n index sent payload
 unfolding nextWith
@@ -62,11 +62,11 @@ pub place-by : (place : List ℕ) {s t : Step} {r : List ℕ} → r ≡ placeLai
 place-by place h e = h ∙ ap (placeLaid place) e
 
 pub begun-by : (pgn source d : ℕ) (payload pgns : List ℕ) (held : ℕ) {to : Destination} {m : Begun} {r : ℕ} {v : List ℕ}
-    → to ≡ toAddress d → m ≡ madeOf pgn source to payload pgns held → (r ≡ heldAfter m) × (v ≡ madeNumbers m)
+    → to ≡ toAddress d → m ≡ newBuilder pgn source to payload pgns held → (r ≡ heldAfter m) × (v ≡ madeNumbers m)
     → (r ≡ heldAfter (madeWith pgn source d payload pgns held)) × (v ≡ madeNumbers (madeWith pgn source d payload pgns held))
 unfolding madeWith
 begun-by pgn source d payload pgns held f g (h, i) =
-    let whole = g ∙ ap (λ (x : Destination). madeOf pgn source x payload pgns held) f in
+    let whole = g ∙ ap (λ (x : Destination). newBuilder pgn source x payload pgns held) f in
     (h ∙ ap heldAfter whole, i ∙ ap madeNumbers whole)
 
 -- ---- an identifier built, by what its builder is
@@ -79,17 +79,17 @@ unfolding partsOf
 parts-by priority pgn source d f g =
     g ∙ ap (λ (x : Destination). buildOf (record { priority = priority; pgn = pgn; «source_address» = source; destination = x })) f
 
-pub set-by : (pgn source priority d : ℕ) {b c e : CanIdBuilder} → b ≡ fresh pgn source → c ≡ setPriority priority b → e ≡ setDestination d c → e ≡ setOf pgn source priority d
+pub set-by : (pgn source priority d : ℕ) {b c e : CanIdBuilder} → b ≡ newIdBuilder pgn source → c ≡ setPriority priority b → e ≡ setDestination d c → e ≡ setOf pgn source priority d
 unfolding setOf
 set-by pgn source priority d f g h = h ∙ ap (setDestination d) (g ∙ ap (setPriority priority) f)
 
 -- ---- what an answer leaves, by what the answer is
 module _ {old was heads bytes : List ℕ} {code : ℕ} where
-  pub left-by : {r s : Received} {counters payload : List ℕ} {len : ℕ} → Left r old was code heads bytes counters payload len → r ≡ s → Left s old was code heads bytes counters payload len
-  left-by {counters = counters} {payload} {len} h e = subst (λ (x : Received). Left x old was code heads bytes counters payload len) e h
+  pub left-by : {r s : Received} {counters payload : List ℕ} {len : ℕ} → CallLeft r old was code heads bytes counters payload len → r ≡ s → CallLeft s old was code heads bytes counters payload len
+  left-by {counters = counters} {payload} {len} h e = subst (λ (x : Received). CallLeft x old was code heads bytes counters payload len) e h
 
-  pub made-by : {m n : Made} {size : ℕ} → MadeAs m old was code heads bytes size → m ≡ n → MadeAs n old was code heads bytes size
-  made-by {size = size} h e = subst (λ (x : Made). MadeAs x old was code heads bytes size) e h
+  pub made-by : {m n : MadePool} {size : ℕ} → MadeAs m old was code heads bytes size → m ≡ n → MadeAs n old was code heads bytes size
+  made-by {size = size} h e = subst (λ (x : MadePool). MadeAs x old was code heads bytes size) e h
 
 -- ---- the receive call on a pool and counters from numbers
 module _ (size : ℕ) (heads bytes counters pgns : List ℕ) (heard : Heard) {p : Pool} {k : Counters} {r : Received} (e : p ≡ poolFrom size heads bytes) (f : k ≡ countersFrom counters) where

@@ -18,15 +18,15 @@ use Rattle.session.specs.declared.Counters.{Counters}
 use Rattle.assembler.specs.Call.{Call}
 use Rattle.assembler.specs.Slots.{within}
 use Rattle.assembler.specs.Step.{Said, ignored, consumed, complete, saidOf, eventOf, step, stepIf, outcome}
-use Rattle.assembler.specs.View.{slotsOf, poolOf, zeros, kindOf, payloadOf, lengthOf, shown, receiveOf}
+use Rattle.assembler.specs.View.{slotsOf, poolOf, zeros, replyKind, replyPayload, replyLength, shown, receiveOf}
 use Rattle.assembler.specs.Forms.{receiveWithLengthOf, filledFrame}
-use Rattle.assembler.specs.declared.pool.Pool.{Pool}
-use Rattle.assembler.specs.declared.pool.Made.{Made}
+use Rattle.assembler.specs.declared.Pool.{Pool}
+use Rattle.assembler.specs.declared.MadePool.{MadePool}
 use Rattle.assembler.specs.declared.Received.{Received}
 use Rattle.assembler.proofs.Views.{view-back}
-use Rattle.batch.specs.Rows.{Rows, Run, batchOf, leaves, refusedBy, Left as Rowed}
+use Rattle.batch.specs.Rows.{Rows, Run, batchOf, leaves, refusedBy, BatchLeft as Rowed}
 use Rattle.numbers.specs.Numbers.{isSet, laidOn, flagOn, byteOn, wordOn}
-use Rattle.numbers.specs.Pool.{headAt, putFlag, putByte, putWord, keyLaid, sizesLaid, headLaid, headsFrom, laid, poolFrom, countersFrom, counterNumbers, kindCode, Left, MadeAs}
+use Rattle.numbers.specs.Pool.{headAt, putFlag, putByte, putWord, keyLaid, sizesLaid, headLaid, headsFrom, laid, poolFrom, countersFrom, counterNumbers, kindCode, CallLeft, MadeAs}
 use Rattle.ffi.specs.Calls.{calledWith, calledWithLength}
 use Rattle.ffi.specs.Batches.{LeftPool, LeftBy, batchWith}
 
@@ -76,14 +76,14 @@ counters-back (a ∷ b ∷ c ∷ d ∷ e ∷ f ∷ l) h = absurd (omega arith)
 refusal : Pool → Counters → Received
 refusal p k = record { kind = Refused 1; payload = zeros; length = 0; pool = p; counters = k }
 
-given : (s : Said) → kindCode (kindOf (gives s)) < 256 → ⊥
-unfolding kindOf
+given : (s : Said) → kindCode (replyKind (gives s)) < 256 → ⊥
+unfolding replyKind
 given ignored h = omega arith
 given consumed h = omega arith
 given (complete bytes n) h = omega arith
 
 refused-if : (b : Bool) (p : Pool) (k : Counters) (c : Call) → kindCode (shown (stepIf b base (slotsOf p) k c) .kind) < 256 → shown (stepIf b base (slotsOf p) k c) ≡ refusal (poolOf (slotsOf p)) k
-unfolding shown stepIf outcome refusal kindOf payloadOf lengthOf
+unfolding shown stepIf outcome refusal replyKind replyPayload replyLength
 refused-if true p k c h = refl
 refused-if false p k c h = absurd (given (saidOf (c .heard) (within (slotsOf p)) (eventOf base (within (slotsOf p)) c)) h)
 
@@ -100,7 +100,7 @@ unfolding poolFrom headsFrom
 pool-back size heads bytes long = view-back (poolFrom size heads bytes) (record { heads = refl; bytes = long })
 
 module _ (size : ℕ) (heads bytes counters pgns : List ℕ) (long : length bytes ≡ 1784) (five : length counters ≡ 5) {was heads′ bytes′ counters′ payload′ : List ℕ} {code len : ℕ} where
-  untouched : Left (refusal (poolFrom size heads bytes) (countersFrom counters)) heads was code heads′ bytes′ counters′ payload′ len → Untouched heads′ heads bytes′ bytes counters′ counters payload′ was len
+  untouched : CallLeft (refusal (poolFrom size heads bytes) (countersFrom counters)) heads was code heads′ bytes′ counters′ payload′ len → Untouched heads′ heads bytes′ bytes counters′ counters payload′ was len
   unfolding refusal poolFrom
   untouched l =
       record {
@@ -112,17 +112,17 @@ module _ (size : ℕ) (heads bytes counters pgns : List ℕ) (long : length byte
       }
 
   -- `hf_process_frame` and `hf_receive`
-  pub refused-leaves : (heard : Heard) → Left (calledWith size heads bytes counters pgns heard) heads was code heads′ bytes′ counters′ payload′ len → code < 256
+  pub refused-leaves : (heard : Heard) → CallLeft (calledWith size heads bytes counters pgns heard) heads was code heads′ bytes′ counters′ payload′ len → code < 256
       → Untouched heads′ heads bytes′ bytes counters′ counters payload′ was len
   unfolding calledWith receiveOf step
   refused-leaves heard l below =
       untouched
-      (subst (λ (r : Received). Left r heads was code heads′ bytes′ counters′ payload′ len)
+      (subst (λ (r : Received). CallLeft r heads was code heads′ bytes′ counters′ payload′ len)
       (refused-if _ (poolFrom size heads bytes) (countersFrom counters) (record { pgns = pgns; heard = heard }) (subst (λ (n : ℕ). n < 256) (l .told) below) ∙ ap (λ (p : Pool). refusal p (countersFrom counters)) (pool-back size heads bytes long))
       l)
 
   -- `hf_process_frame_with_length`
-  pub refused-with-length-leaves : (heard : Heard) (sent : ℕ) → Left (calledWithLength size heads bytes counters pgns heard sent) heads was code heads′ bytes′ counters′ payload′ len → code < 256
+  pub refused-with-length-leaves : (heard : Heard) (sent : ℕ) → CallLeft (calledWithLength size heads bytes counters pgns heard sent) heads was code heads′ bytes′ counters′ payload′ len → code < 256
       → Untouched heads′ heads bytes′ bytes counters′ counters payload′ was len
   unfolding calledWithLength receiveWithLengthOf calledWith
   refused-with-length-leaves heard sent = refused-leaves (filledFrame (record { heard = heard; length = sent }))
@@ -168,7 +168,7 @@ module _ (heads bytes counters kinds lengths arena : List ℕ) (heads′ bytes�
     refused-batch-leaves pgns rows = pick-all Leaves _ (by-refusal 1) (pick-all Leaves _ (by-refusal 27) (by-run _))
 
 -- ---- making a pool: `hf_pool_new`
-pub refused-making-leaves : (m : Made) (old was : List ℕ) (code : ℕ) (heads bytes : List ℕ) (size : ℕ) → MadeAs m old was code heads bytes size → (code ≡ 0 → ⊥) → (heads ≡ old) × (bytes ≡ was)
+pub refused-making-leaves : (m : MadePool) (old was : List ℕ) (code : ℕ) (heads bytes : List ℕ) (size : ℕ) → MadeAs m old was code heads bytes size → (code ≡ 0 → ⊥) → (heads ≡ old) × (bytes ≡ was)
 refused-making-leaves m old was code heads bytes size l h =
     let refused : m .refused ≡ 0 → ⊥ = λ e. h (l .told ∙ e) in
     (l .kept ∙ sym (when-ne _ old refused refl), l .stored ∙ sym (when-ne _ was refused refl))

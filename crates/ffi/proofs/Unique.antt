@@ -10,22 +10,22 @@ use Rattle.can_id.specs.declared.CanIdBuilder.{CanIdBuilder}
 use Rattle.builder.specs.Next.{Step}
 use Rattle.builder.specs.declared.FastPacketBuilder.{FastPacketBuilder}
 use Rattle.builder.specs.declared.FrameIterator.{FrameIterator}
-use Rattle.builder.specs.declared.Made.{Made as Begun}
+use Rattle.builder.specs.declared.MadeBuilder.{MadePool as Begun}
 use Rattle.fast_packet.specs.FastPacket.{listedIn, filledFrom}
-use Rattle.assembler.specs.declared.pool.Made.{Made}
+use Rattle.assembler.specs.declared.MadePool.{MadePool}
 use Rattle.assembler.specs.declared.Received.{Received}
 use Rattle.base.specs.Answer.{Answer}
-use Rattle.batch.specs.Rows.{Left as Rowed}
-use Rattle.oracle.specs.Strict.{Message}
+use Rattle.batch.specs.Rows.{BatchLeft as Rowed}
+use Rattle.oracle.specs.Strict.{BenchMessage}
 use Rattle.splitter.specs.Frames.{countIn}
-use Rattle.splitter.specs.declared.bench_frames.Frame.{Frame}
+use Rattle.splitter.specs.declared.Frame.{Frame}
 use Rattle.ffi.specs.Batches.{LeftBy}
 use Rattle.numbers.specs.Fives.{fiveOf}
-use Rattle.ffi.specs.Bench.{Reassembles, Splits}
-use Rattle.numbers.specs.Pool.{Left, MadeAs}
+use Rattle.ffi.specs.BenchEntries.{Reassembles, Splits}
+use Rattle.numbers.specs.Pool.{CallLeft, MadeAs}
 use Rattle.ffi.specs.Ids.{readParts}
 use Rattle.numbers.specs.Numbers.{addressOf, codeOf, valueOf}
-use Rattle.numbers.specs.Frames.{builderNumbers, heldAfter, madeNumbers, placeNumbers, Told}
+use Rattle.numbers.specs.Frames.{builderNumbers, heldAfter, madeNumbers, placeNumbers, NextLeft}
 
 -- a number returned, and memory lent out
 both : {A B : Type 0} {x r s : A} {y v w : B} → (r ≡ x) × (v ≡ y) → (s ≡ x) × (w ≡ y) → (r ≡ s) × (v ≡ w)
@@ -64,7 +64,7 @@ pub hf-builder-build-unique : (t : FrameIterator) (v w : List ℕ) → v ≡ pla
 hf-builder-build-unique t v w = determined
 
 -- `t` is `nextWith` or `turnWith` of the entry's numbers, and `x` is `stepAfter` of it, or `placeLaid` over the place: what is returned, the bytes, the numbers and the place
-pub hf-next-frame-unique : (t : Step) (x : List ℕ) (r s : ℕ) (v w p q b c : List ℕ) → Told t r v p × (b ≡ x) → Told t s w q × (c ≡ x) → (r ≡ s) × (v ≡ w) × (p ≡ q) × (b ≡ c)
+pub hf-next-frame-unique : (t : Step) (x : List ℕ) (r s : ℕ) (v w p q b c : List ℕ) → NextLeft t r v p × (b ≡ x) → NextLeft t s w q × (c ≡ x) → (r ≡ s) × (v ≡ w) × (p ≡ q) × (b ≡ c)
 hf-next-frame-unique t x r s v w p q b c (h, f) (k, g) = (determined (h .told) (k .told), determined (h .filled) (k .filled), determined (h .named) (k .named), determined f g)
 
 -- ---- the list and the filling
@@ -80,13 +80,13 @@ hf-handles-unique pgn pgns r s = determined
 -- ---- the receive call: what is returned, the heads, the bytes, the counters, the payload and the length
 -- `r` is `calledWith` or `calledWithLength` of the entry's numbers
 pub hf-process-frame-unique : (r : Received) (old was : List ℕ) (a b : ℕ) (h i j k c d p q : List ℕ) (l m : ℕ)
-    → Left r old was a h j c p l → Left r old was b i k d q m
+    → CallLeft r old was a h j c p l → CallLeft r old was b i k d q m
     → (a ≡ b) × (h ≡ i) × (j ≡ k) × (c ≡ d) × (p ≡ q) × (l ≡ m)
 hf-process-frame-unique r old was a b h i j k c d p q l m x y =
     (determined (x .told) (y .told), determined (x .kept) (y .kept), determined (x .stored) (y .stored), determined (x .counted) (y .counted), determined (x .delivered) (y .delivered), determined (x .measured) (y .measured))
 
 -- `n` is `madeOf` of the size wanted, or the default pool: what is returned, the heads, the bytes and the size
-pub hf-pool-new-unique : (n : Made) (old was : List ℕ) (a b : ℕ) (h i j k : List ℕ) (l m : ℕ)
+pub hf-pool-new-unique : (n : MadePool) (old was : List ℕ) (a b : ℕ) (h i j k : List ℕ) (l m : ℕ)
     → MadeAs n old was a h j l → MadeAs n old was b i k m → (a ≡ b) × (h ≡ i) × (j ≡ k) × (l ≡ m)
 hf-pool-new-unique n old was a b h i j k l m x y =
     (determined (x .told) (y .told), determined (x .kept) (y .kept), determined (x .stored) (y .stored), determined (x .sized) (y .sized))
@@ -102,7 +102,7 @@ hf-process-frames-unique l old a b h i j k c d m n o p q r s t x y =
 
 -- ---- the bench
 -- `w` is `reassembledIn` of the entry's rows: what is returned, the five numbers, the list and the arena
-pub hf-reassemble-unique : (w : Answer (List Message)) (list arena : List ℕ) (a b : ℕ) (v x l m n o : List ℕ)
+pub hf-reassemble-unique : (w : Answer (List BenchMessage)) (list arena : List ℕ) (a b : ℕ) (v x l m n o : List ℕ)
     → Reassembles w a v l list n arena → Reassembles w b x m list o arena → (a ≡ b) × (v ≡ x) × (l ≡ m) × (n ≡ o)
 hf-reassemble-unique w list arena a b v x l m n o p q =
     (determined (p .told) (q .told), determined (p .carried) (q .carried), determined (p .listed) (q .listed), determined (p .laid) (q .laid))

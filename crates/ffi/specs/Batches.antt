@@ -3,7 +3,7 @@ use Prim.Native.Nat.{ℕ}
 use mathlib.Core.List.{List, [], _∷_}
 use mathlib.Core.Path.{_≡_}
 use Rattle.session.specs.Rules.{base}
-use Rattle.batch.specs.Rows.{Rows, Left, batchOf}
+use Rattle.batch.specs.Rows.{Rows, BatchLeft, batchOf}
 use Rattle.batch.specs.declared.Batch.{Batch}
 use Rattle.numbers.specs.Pool.{laid, poolFrom, countersFrom, counterNumbers}
 
@@ -16,12 +16,12 @@ pub record LeftPool (r : Batch) (old : List ℕ) (code : ℕ) (heads bytes count
   pub taken : counts ≡ r .taken ∷ r .used ∷ []
 
 -- and beside it the rows
-pub record LeftBy (l : Left) (old : List ℕ) (code : ℕ) (heads bytes counters kinds lengths arena counts : List ℕ) : Type 0 where
+pub record LeftBy (l : BatchLeft) (old : List ℕ) (code : ℕ) (heads bytes counters kinds lengths arena counts : List ℕ) : Type 0 where
   pub pool : LeftPool (l .answer) old code heads bytes counters counts
   pub answered : kinds ≡ l .kinds
   pub measured : lengths ≡ l .lengths
   pub delivered : arena ≡ l .arena
 
-unfoldable pub batchWith : ℕ → List ℕ → List ℕ → List ℕ → List ℕ → Rows → List ℕ → List ℕ → List ℕ → Left
+unfoldable pub batchWith : ℕ → List ℕ → List ℕ → List ℕ → List ℕ → Rows → List ℕ → List ℕ → List ℕ → BatchLeft
 batchWith size heads bytes counters pgns rows kinds lengths arena =
     batchOf base pgns rows (poolFrom size heads bytes) (countersFrom counters) kinds lengths arena

@@ -4,7 +4,7 @@ use mathlib.Core.List.{List, [], _∷_}
 use lib.Dec.{ltb}
 use Rattle.base.specs.Pick.{pick}
 use Rattle.can_id.specs.Layout.{priorityOf, pgnOf, sourceOf, destinationOf}
-use Rattle.can_id.specs.Build.{fresh, withPriority, withDestination}
+use Rattle.can_id.specs.Build.{newIdBuilder, idWithPriority, idWithDestination}
 use Rattle.can_id.specs.declared.CanIdBuilder.{CanIdBuilder}
 use Rattle.numbers.specs.Numbers.{toAddress, addressOf}
 
@@ -18,14 +18,14 @@ partsOf priority pgn source destination = record { priority = priority; pgn = pg
 
 -- a fresh builder, with the priority and the destination set where they are below 256
 unfoldable pub setPriority : ℕ → CanIdBuilder → CanIdBuilder
-setPriority p b = pick (ltb p 256) (withPriority b p) b
+setPriority p b = pick (ltb p 256) (idWithPriority b p) b
 
 unfoldable pub setDestination : ℕ → CanIdBuilder → CanIdBuilder
-setDestination d b = pick (ltb d 256) (withDestination b d) b
+setDestination d b = pick (ltb d 256) (idWithDestination b d) b
 
 unfoldable pub setOf : ℕ → ℕ → ℕ → ℕ → CanIdBuilder
-setOf pgn source priority destination = setDestination destination (setPriority priority (fresh pgn source))
+setOf pgn source priority destination = setDestination destination (setPriority priority (newIdBuilder pgn source))
 
 -- a fresh builder, with both set
 unfoldable pub bothOf : ℕ → ℕ → ℕ → ℕ → CanIdBuilder
-bothOf pgn source priority destination = withDestination (withPriority (fresh pgn source) priority) destination
+bothOf pgn source priority destination = idWithDestination (idWithPriority (newIdBuilder pgn source) priority) destination

@@ -1,4 +1,4 @@
 pub mod Ids
 pub mod Calls
 pub mod Batches
-pub mod Bench
+pub mod BenchEntries

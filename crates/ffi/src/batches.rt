@@ -1,6 +1,6 @@
 // The batch: many frames in one call.
 ghost use mathlib.Core.Path.{_≡_};
-ghost use Rattle.batch.specs.Rows.{Rows, Left};
+ghost use Rattle.batch.specs.Rows.{Rows, BatchLeft};
 ghost use Rattle.ffi.specs.Batches.{LeftPool, LeftBy, batchWith};
 use assembler::POOL_BYTES;
 use batch::Batch;

@@ -1,9 +1,9 @@
 // The frame builder: made, set, and asked for the next frame.
 ghost use mathlib.Core.Path.{_≡_};
 ghost use Rattle.builder.specs.Builder.{withSequence, withPriority, withDestination};
-ghost use Rattle.builder.specs.Next.{stepOf};
+ghost use Rattle.builder.specs.Next.{ofNext};
 ghost use Rattle.builder.specs.Frames.{turnOf, started};
-ghost use Rattle.numbers.specs.Frames.{builderFrom, builderNumbers, madeWith, heldAfter, madeNumbers, placeNumbers, Told, stepAfter, placeLaid, turnStep, nextWith, turnWith};
+ghost use Rattle.numbers.specs.Frames.{builderFrom, builderNumbers, madeWith, heldAfter, madeNumbers, placeNumbers, NextLeft, stepAfter, placeLaid, turnStep, nextWith, turnWith};
 use builder::FastPacketBuilder;
 use builder::Item;
 use builder::Next;
@@ -75,7 +75,7 @@ pub extern "C" fn hf_next_frame(
     frame: &mut [u64; 3],
     after: &mut [u64; 2],
 ) -> u32
-    ensures { λ r. ⌜ Told (nextWith (now (builder .entry)) «frame_index» «bytes_sent» (now (payload .entry))) r (now («data» .exit)) (now (frame .exit))
+    ensures { λ r. ⌜ NextLeft (nextWith (now (builder .entry)) «frame_index» «bytes_sent» (now (payload .entry))) r (now («data» .exit)) (now (frame .exit))
         × (now (after .exit) ≡ stepAfter (nextWith (now (builder .entry)) «frame_index» «bytes_sent» (now (payload .entry)))) ⌝ }
 {
     let b = builder_from(builder);
@@ -97,7 +97,7 @@ pub extern "C" fn hf_builder_build(builder: &[u64; 6], place: &mut [u64; 2])
 
 // The step that an item is.
 fn step_in(item: Item) -> Next
-    ensures { λ r. ⌜ stepOf r ≡ turnStep (turnOf item) ⌝ }
+    ensures { λ r. ⌜ ofNext r ≡ turnStep (turnOf item) ⌝ }
 {
     let t = item.iterator;
     let f = item.frame;
@@ -119,7 +119,7 @@ pub extern "C" fn hf_frame_iterator_next(
     data: &mut [u8; 8],
     frame: &mut [u64; 3],
 ) -> u32
-    ensures { λ r. ⌜ Told (turnWith (now (builder .entry)) (now (place .entry)) (now (payload .entry))) r (now («data» .exit)) (now (frame .exit))
+    ensures { λ r. ⌜ NextLeft (turnWith (now (builder .entry)) (now (place .entry)) (now (payload .entry))) r (now («data» .exit)) (now (frame .exit))
         × (now (place .exit) ≡ placeLaid (now (place .entry)) (turnWith (now (builder .entry)) (now (place .entry)) (now (payload .entry)))) ⌝ }
 {
     let t = iterator_from(builder, place);

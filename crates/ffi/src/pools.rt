@@ -1,11 +1,11 @@
 // The receive call: a pool as its size, 64 numbers for the heads of its slots and their bytes, the counters as five numbers.
 ghost use mathlib.Core.Path.{_≡_};
-ghost use Rattle.assembler.specs.Making.{freshPool, madeOf};
+ghost use Rattle.assembler.specs.Making.{freshPool, newPool};
 ghost use Rattle.fast_packet.specs.FastPacket.{listedIn};
-ghost use Rattle.numbers.specs.Pool.{heardOf, Left, MadeAs, plainly};
+ghost use Rattle.numbers.specs.Pool.{heardOf, CallLeft, MadeAs, plainly};
 ghost use Rattle.ffi.specs.Calls.{calledWith, calledWithLength};
 use assembler::HeardWithLength;
-use assembler::Made;
+use assembler::MadePool;
 use assembler::POOL_BYTES;
 use assembler::Pool;
 use assembler::handles;
@@ -34,7 +34,7 @@ pub extern "C" fn hf_pool_new(
     bytes: &mut [u8; POOL_BYTES],
     size: &mut usize,
 ) -> u32
-    ensures { λ code. ⌜ MadeAs (madeOf wanted) (now (heads .entry)) (now (bytes .entry)) code (now (heads .exit)) (now (bytes .exit)) (now (size .exit)) ⌝ }
+    ensures { λ code. ⌜ MadeAs (newPool wanted) (now (heads .entry)) (now (bytes .entry)) code (now (heads .exit)) (now (bytes .exit)) (now (size .exit)) ⌝ }
 {
     leave_made(Pool::new(wanted), heads, bytes, size)
 }
@@ -49,7 +49,7 @@ pub extern "C" fn hf_pool_default(
     ensures { λ code. ⌜ MadeAs (plainly (freshPool 4)) (now (heads .entry)) (now (bytes .entry)) code (now (heads .exit)) (now (bytes .exit)) (now (size .exit)) ⌝ }
 {
     let pool = Pool::default();
-    let made = Made {
+    let made = MadePool {
         refused: 0,
         pool: pool,
     };
@@ -71,7 +71,7 @@ pub extern "C" fn hf_process_frame(
     payload: &mut [u8; MAX_FAST_PACKET_PAYLOAD],
     length: &mut usize,
 ) -> u32
-    ensures { λ code. ⌜ Left
+    ensures { λ code. ⌜ CallLeft
         (calledWith size (now (heads .entry)) (now (bytes .entry)) (now (counters .entry)) (now (pgns .entry)) (heardOf «now_ms» pgn «source_address» (now («data» .entry))))
         (now (heads .entry)) (now (payload .entry)) code (now (heads .exit)) (now (bytes .exit)) (now (counters .exit)) (now (payload .exit)) (now (length .exit)) ⌝ }
 {
@@ -103,7 +103,7 @@ pub extern "C" fn hf_receive(
     payload: &mut [u8; MAX_FAST_PACKET_PAYLOAD],
     length: &mut usize,
 ) -> u32
-    ensures { λ code. ⌜ Left
+    ensures { λ code. ⌜ CallLeft
         (calledWith size (now (heads .entry)) (now (bytes .entry)) (now (counters .entry)) (now (pgns .entry)) (heardOf «now_ms» pgn «source_address» (now («data» .entry))))
         (now (heads .entry)) (now (payload .entry)) code (now (heads .exit)) (now (bytes .exit)) (now (counters .exit)) (now (payload .exit)) (now (length .exit)) ⌝ }
 {
@@ -136,7 +136,7 @@ pub extern "C" fn hf_process_frame_with_length(
     payload: &mut [u8; MAX_FAST_PACKET_PAYLOAD],
     length: &mut usize,
 ) -> u32
-    ensures { λ code. ⌜ Left
+    ensures { λ code. ⌜ CallLeft
         (calledWithLength size (now (heads .entry)) (now (bytes .entry)) (now (counters .entry)) (now (pgns .entry)) (heardOf «now_ms» pgn «source_address» (now («data» .entry))) «frame_length»)
         (now (heads .entry)) (now (payload .entry)) code (now (heads .exit)) (now (bytes .exit)) (now (counters .exit)) (now (payload .exit)) (now (length .exit)) ⌝ }
 {

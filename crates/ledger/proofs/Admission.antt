@@ -9,7 +9,7 @@ use native.Mathlib.Omega.{arith}
 use lib.ListN.{getD}
 use lib.Dec.{eqb, ltb, leb}
 use borrow.Author.Tests.{leb-false, leb-true, ltb-false, ltb-true, le-leb, lt-leb, ne-eqb}
-use Rattle.base.specs.Lists.{next, here, orElse, firstAt, any, total}
+use Rattle.base.specs.Lists.{nextPlace, here, orElse, firstAt, any, total}
 use Rattle.base.proofs.First.{Test, test, passes, fails}
 use Rattle.fast_packet.specs.FastPacket.{maxPayload}
 use Rattle.session.specs.declared.Head.{Head}
@@ -20,9 +20,9 @@ use Rattle.assembler.specs.Call.{Call, listed, isOpener}
 use Rattle.assembler.specs.Slots.{Slot, within, onHead, chosen}
 use Rattle.assembler.specs.Runs.{World}
 use Rattle.assembler.specs.View.{headOf}
-use Rattle.ledger.specs.Ledger.{Message, Place, idle, holds, late, itsTurn, full, grown, liveHeld, takenBy, Event}
+use Rattle.ledger.specs.Ledger.{Message, Place, idle, holds, late, itsTurn, full, grown, liveHeld, takenBy, CallAccount}
 use Rattle.ledger.specs.Ledger.{nothingMoved, endLate, openingAt, tellOpen, tellShort, tellSized, tellFull, tellTurn, tellHeld, tellContinue, tellIndex, tellListed, tellOne, Ledger, numbered, nextEvent}
-use Rattle.ledger.specs.Ledger.{Opened, Refused, columnNumber, post, posts, posted, one, asNumber, onlyIf, weighs}
+use Rattle.ledger.specs.Ledger.{Opened, NoSlot, columnNumber, post, posts, posted, one, asNumber, onlyIf, weighs}
 use Rattle.ledger.specs.Demand3.{hasRoom, Admitted}
 use Rattle.ledger.specs.Runs.{seenOf}
 use Rattle.ledger.proofs.Match.{chosen-same}
@@ -40,7 +40,7 @@ found-or none b = refl
 found-or (some i) b = refl
 
 found-here : (b : Bool) (o : Option ℕ) → found (here b o) ≡ (b || found o)
-unfolding found here next
+unfolding found here nextPlace
 found-here true o = refl
 found-here false none = refl
 found-here false (some i) = refl
@@ -91,9 +91,9 @@ found-chosen R c ss =
 -- ---- what each branch posts
 
 -- one posting in the column, or none
-record Posts (n : ℕ) (e : Event) (o r : Bool) : Type 0 where
+record Posts (n : ℕ) (e : CallAccount) (o r : Bool) : Type 0 where
   opens : posted Opened one n e ≡ asNumber o
-  refuses : posted Refused one n e ≡ asNumber r
+  refuses : posted NoSlot one n e ≡ asNumber r
 
 module _ (R : Rules) (n : ℕ) (ps : List Place) (c : Call) where
   posts-late : (b : Bool) (m : Message) → Posts n (endLate b m) true false

@@ -7,7 +7,7 @@ pub mod Admission
 pub mod Received
 pub mod Demand3
 pub mod Moments
-pub mod Bench
+pub mod EveryFate
 pub mod Trials
 pub mod Parts
 pub mod Wrong

@@ -24,20 +24,20 @@ use Rattle.assembler.specs.Call.{Call, CallOk, listed}
 use Rattle.assembler.specs.Slots.{Slot, slotAt, freshSlot, onHead, chosen, live, copiedSlot}
 use Rattle.assembler.specs.Step as act
 use Rattle.assembler.specs.Step.{message, saidOf, slotsAfter, opensAt, firstShort, firstSized, copyAt, turnAt, continuesAt, byIndex, byList, eventOf}
-use Rattle.assembler.specs.View.{kindOf, payloadOf, lengthOf}
+use Rattle.assembler.specs.View.{replyKind, replyPayload, replyLength}
 use Rattle.ledger.specs.Ledger.{Message, Place, idle, holds, keyHeld, late, free, freeOfSource, liveHeld, takenBy, grown}
-use Rattle.ledger.specs.Ledger.{Event, unlisted, badly, refused, stray, atOnce, opening, restarting, reclaiming, copied, delivered, broken}
+use Rattle.ledger.specs.Ledger.{CallAccount, unlisted, badly, noSlot, stray, atOnce, opening, restarting, reclaiming, copied, delivered, broken}
 use Rattle.ledger.specs.Ledger.{Told, nothingMoved, endLate, openingAt, full, itsTurn, tellOpen, tellShort, tellSized, tellFull, tellTurn, tellHeld, tellContinue, tellIndex, tellListed, tellOne}
-use Rattle.ledger.specs.Ledger.{bytesOf, ownBytes, announced, briefly, wholly, delivery, answerTo, lengthDue}
+use Rattle.ledger.specs.Ledger.{framesBytes, ownBytes, announced, briefly, wholly, delivery, sayingFor, lengthDue}
 use Rattle.ledger.specs.Runs.{replySays}
 use Rattle.ledger.proofs.Moves.{within-taken}
 use Rattle.ledger.proofs.Shows.{Shows, HeldSlot, room-of, held-source, key-same, late-same, free-same, freeOfSource-same, live-same, possible, reset-shows, opened-shows, copied-room, full-same, copied-shows, cut-same, copied-source, turn-same, short-cut, short-due, whole-due}
 
 -- which counter an event of the ledger marks
-unfoldable pub markOf : Event → Mark
+unfoldable pub markOf : CallAccount → Mark
 markOf unlisted = Unknown
 markOf badly = Rejected
-markOf refused = Exhausted
+markOf noSlot = Exhausted
 markOf stray = Lost
 markOf atOnce = Nothing
 markOf opening = Nothing
@@ -71,8 +71,8 @@ module _ (R : Rules) where
   pub record Match (c : Call) (ss : List Slot) (t : Told) (e : act.Event) : Type 0 where
     pub kept : length (slotsAfter (c .heard) ss e) ≡ length ss
     pub shows : All2 (Shows R) (t .places) (slotsAfter (c .heard) ss e)
-    pub says : replySays (gives (saidOf (c .heard) ss e)) ≡ answerTo c (t .event)
-    pub due : lengthOf (gives (saidOf (c .heard) ss e)) ≡ lengthDue c (t .event)
+    pub says : replySays (gives (saidOf (c .heard) ss e)) ≡ sayingFor c (t .event)
+    pub due : replyLength (gives (saidOf (c .heard) ss e)) ≡ lengthDue c (t .event)
     pub marks : act.markOf e ≡ markOf (t .event)
 
   late-marks : (b : Bool) (m : Message) → expiredMark b ≡ markOf (endLate b m)
@@ -85,13 +85,13 @@ module _ (R : Rules) where
   opening-marks c (idle from) s h = rw (h .busy) (unfold expiredMark markOf in refl)
   opening-marks c (holds m) s h = cc (h .busy, late-same R c m s h, late-marks (late R c m) m)
 
-  late-says : (b : Bool) (c : Call) (m : Message) → answerTo c opening ≡ answerTo c (endLate b m)
-  unfolding answerTo endLate
+  late-says : (b : Bool) (c : Call) (m : Message) → sayingFor c opening ≡ sayingFor c (endLate b m)
+  unfolding sayingFor endLate
   late-says true c m = refl
   late-says false c m = refl
 
-  opening-says : (c : Call) (p : Place) → answerTo c opening ≡ answerTo c (openingAt (late R c) p)
-  unfolding openingAt answerTo
+  opening-says : (c : Call) (p : Place) → sayingFor c opening ≡ sayingFor c (openingAt (late R c) p)
+  unfolding openingAt sayingFor
   opening-says c (idle from) = refl
   opening-says c (holds m) = late-says (late R c m) c m
 
@@ -115,7 +115,7 @@ module _ (R : Rules) where
 
   module _ (n : ℕ) (c : Call) (ok : CallOk R c) {ps : List Place} {ss : List Slot} (h : All2 (Shows R) ps ss) where
     match-open : 7 ≤ sizeOf (c .heard) → sizeOf (c .heard) ≤ maxPayload → (o : Option ℕ) → Within (length ps) o → Match c ss (tellOpen R n ps c o) (opensAt R (c .heard) ss o)
-    unfolding tellOpen opensAt nothingMoved slotsAfter saidOf act.markOf markOf replySays kindOf payloadOf lengthOf answerTo briefly lengthDue
+    unfolding tellOpen opensAt nothingMoved slotsAfter saidOf act.markOf markOf replySays replyKind replyPayload replyLength sayingFor briefly lengthDue
     match-open low high none u = record { kept = refl; shows = h; says = refl; due = refl; marks = refl }
     match-open low high (some i) u =
         let q : Shows R (getD ps i (idle 0)) (slotAt ss i) = all2-at h i u (idle 0) freshSlot in
@@ -128,32 +128,32 @@ module _ (R : Rules) where
         }
 
     match-short : (b : Bool) → leb (sizeOf (c .heard)) 6 ≡ b → sizeOf (c .heard) ≤ maxPayload → Match c ss (tellShort b R n ps c) (firstShort b R (c .heard) ss)
-    unfolding tellShort firstShort nothingMoved slotsAfter saidOf act.markOf markOf replySays kindOf payloadOf lengthOf answerTo message wholly delivery bytesOf lengthDue
+    unfolding tellShort firstShort nothingMoved slotsAfter saidOf act.markOf markOf replySays replyKind replyPayload replyLength sayingFor message wholly delivery framesBytes lengthDue
     match-short true e high = record { kept = refl; shows = h; says = rw (short-cut R c ok); due = short-due R c ok (leb-true (sizeOf (c .heard)) 6 e); marks = refl }
     match-short false e high =
         subst (λ (o : Option ℕ). Match c ss (tellOpen R n ps c (takenBy R c ps)) (opensAt R (c .heard) ss o)) (chosen-same c h)
         (match-open (leb-false (sizeOf (c .heard)) 6 e) high (takenBy R c ps) (within-taken R c ps))
 
     match-sized : (b : Bool) → badSize (c .heard) ≡ b → Match c ss (tellSized b R n ps c) (firstSized b R (c .heard) ss)
-    unfolding tellSized firstSized nothingMoved slotsAfter saidOf act.markOf markOf replySays kindOf payloadOf lengthOf answerTo briefly lengthDue
+    unfolding tellSized firstSized nothingMoved slotsAfter saidOf act.markOf markOf replySays replyKind replyPayload replyLength sayingFor briefly lengthDue
     match-sized true e = record { kept = refl; shows = h; says = refl; due = refl; marks = refl }
     match-sized false e = match-short (leb (sizeOf (c .heard)) 6) refl (good-size c e)
 
     module _ (i : ℕ) (m : Message) (q : HeldSlot R m (slotAt ss i)) where
       match-full : (b : Bool) → itsTurn c m ≡ true → full (grown m c) ≡ b → Match c ss (tellFull b ps i (grown m c)) (copyAt b i)
-      unfolding tellFull copyAt slotsAfter saidOf act.markOf markOf replySays kindOf payloadOf lengthOf answerTo briefly message wholly delivery lengthDue
+      unfolding tellFull copyAt slotsAfter saidOf act.markOf markOf replySays replyKind replyPayload replyLength sayingFor briefly message wholly delivery lengthDue
       match-full true turn e =
           record {
             kept = simp length-set;
             shows = all2-set h i (reset-shows R (grown m c) (copiedSlot (c .heard) (slotAt ss i)) (copied-source R c m (slotAt ss i) q) (copied-room R c m (slotAt ss i) ok q));
-            says = rw (cut-same R c m (slotAt ss i) ok q e) (unfold grown ownBytes bytesOf announced in refl);
+            says = rw (cut-same R c m (slotAt ss i) ok q e) (unfold grown ownBytes framesBytes announced in refl);
             due = whole-due R c m (slotAt ss i) ok q;
             marks = refl;
           }
       match-full false turn e = record { kept = simp length-set; shows = all2-set h i (copied-shows R c m (slotAt ss i) ok q turn e); says = refl; due = refl; marks = refl }
 
       match-turn : (b : Bool) → itsTurn c m ≡ b → Match c ss (tellTurn b ps c i m) (turnAt b (c .heard) i (slotAt ss i .head))
-      unfolding tellTurn turnAt slotsAfter saidOf act.markOf markOf replySays kindOf payloadOf lengthOf answerTo briefly lengthDue
+      unfolding tellTurn turnAt slotsAfter saidOf act.markOf markOf replySays replyKind replyPayload replyLength sayingFor briefly lengthDue
       match-turn true turn = rw (full-same R c m (slotAt ss i) ok q (full (grown m c)) refl) (match-full (full (grown m c)) turn refl)
       match-turn false turn = record { kept = simp length-set; shows = all2-set h i (reset-shows R m (slotAt ss i) (held-source R m (slotAt ss i) q) (q .room)); says = refl; due = refl; marks = refl }
 
@@ -163,7 +163,7 @@ module _ (R : Rules) where
     match-held i (holds m) q live = rw (← turn-same R c m (slotAt ss i) q) (match-turn i m q (itsTurn c m) refl)
 
     match-continue : (o : Option ℕ) → firstAt (liveHeld R c) ps ≡ o → Match c ss (tellContinue ps c o) (continuesAt (c .heard) ss o)
-    unfolding tellContinue continuesAt nothingMoved slotsAfter saidOf act.markOf markOf replySays kindOf payloadOf lengthOf answerTo briefly lengthDue
+    unfolding tellContinue continuesAt nothingMoved slotsAfter saidOf act.markOf markOf replySays replyKind replyPayload replyLength sayingFor briefly lengthDue
     match-continue none e = record { kept = refl; shows = h; says = refl; due = refl; marks = refl }
     match-continue (some i) e =
         let found = first-passes (liveHeld R c) ps (idle 0) i e in match-held i (getD ps i (idle 0)) (all2-at h i (found .inside) (idle 0) freshSlot) (found .passed)
@@ -174,7 +174,7 @@ module _ (R : Rules) where
     match-index false = rw (← live-found c h) (match-continue (firstAt (liveHeld R c) ps) refl)
 
     match-listed : (b : Bool) → Match c ss (tellListed b R n ps c) (byList b R (c .heard) ss)
-    unfolding tellListed byList nothingMoved slotsAfter saidOf act.markOf markOf replySays kindOf payloadOf lengthOf answerTo briefly lengthDue
+    unfolding tellListed byList nothingMoved slotsAfter saidOf act.markOf markOf replySays replyKind replyPayload replyLength sayingFor briefly lengthDue
     match-listed false = record { kept = refl; shows = h; says = refl; due = refl; marks = refl }
     match-listed true = match-index (eqb (indexOf (c .heard)) 0)
 

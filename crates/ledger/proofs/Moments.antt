@@ -12,7 +12,7 @@ use Rattle.assembler.specs.Call.{Call}
 use Rattle.assembler.specs.View.{receiveOf}
 use Rattle.ledger.specs.Ledger.{Ledger, tellOne, tell, tells, written, blank, ledgerOf, tally, held, is, Opened, Delivered, Broken, Restarted, Reclaimed}
 use Rattle.ledger.specs.Demand3.{Seen, Demand3, AllOk, none, more, Agreed, Admitted}
-use Rattle.ledger.specs.Runs.{Receive, State, start, next, receives, seenIn, received}
+use Rattle.ledger.specs.Runs.{Receive, State, newState, afterCall, receives, seenIn, received}
 use Rattle.ledger.proofs.Demand3.{demand-3}
 
 -- ---- prefixes
@@ -45,18 +45,18 @@ module _ (f : Receive) where
   receives-append : (z : State) (cs ds : List Call) → receives f z (cs ++ ds) ≡ receives f (receives f z cs) ds
   unfolding receives
   receives-append z [] ds = refl
-  receives-append z (c ∷ cs) ds = receives-append (next z (f (c .pgns) (c .heard) (z .pool) (z .counters))) cs ds
+  receives-append z (c ∷ cs) ds = receives-append (afterCall z (f (c .pgns) (c .heard) (z .pool) (z .counters))) cs ds
 
   said-kept : (z : State) (ds : List Call) → drop (length ds) (receives f z ds .said) ≡ z .said
-  unfolding receives next
+  unfolding receives afterCall
   said-kept z [] = refl
   said-kept z (d ∷ ds) =
-      let z′ : State = next z (f (d .pgns) (d .heard) (z .pool) (z .counters)) in drop-one (length ds) (receives f z′ ds .said) (z .said) _ (said-kept z′ ds)
+      let z′ : State = afterCall z (f (d .pgns) (d .heard) (z .pool) (z .counters)) in drop-one (length ds) (receives f z′ ds .said) (z .said) _ (said-kept z′ ds)
 
   -- and so have its answers
   pub answers-kept : (n : ℕ) (cs ds : List Call) → drop (length ds) (received f n (cs ++ ds) .said) ≡ received f n cs .said
   unfolding received seenIn
-  answers-kept n cs ds = rw (receives-append (start n) cs ds) (said-kept (receives f (start n) cs) ds)
+  answers-kept n cs ds = rw (receives-append (newState n) cs ds) (said-kept (receives f (newState n) cs) ds)
 
 -- demand 3 after the first calls of any run
 pub at-every-moment : (n : ℕ) → n ≤ poolLimit → (cs ds : List Call) → AllOk base (cs ++ ds) → length (cs ++ ds) ≤ 4294967295

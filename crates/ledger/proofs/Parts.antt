@@ -13,7 +13,7 @@ use Rattle.session.specs.declared.Mark.the-variants.{Nothing, Exhausted, Reject
 use Rattle.session.specs.Rules.{base}
 use Rattle.session.specs.Frames.{sizeOf, firstBytes}
 use Rattle.session.specs.Counting.{raised, expiredMark}
-use Rattle.assembler.specs.declared.pool.Pool.{Pool}
+use Rattle.assembler.specs.declared.Pool.{Pool}
 use Rattle.assembler.specs.Call.{Call}
 use Rattle.assembler.specs.Slots.{Slot, Slots, within, slotAt, impossible, openedSlot, resetSlot, copiedSlot}
 use Rattle.assembler.specs.Step.{Event, notListed, rejected, shortMessage, poolFull, opened, stray, outOfTurn, copied, completed, eventOf, slotsAfter, markOf, Said, ignored, consumed, message, saidOf, Outcome, outcome, stepIf, step}

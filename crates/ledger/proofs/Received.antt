@@ -14,14 +14,14 @@ use Rattle.session.specs.Counting.{most}
 use Rattle.assembler.specs.Call.{Call}
 use Rattle.assembler.specs.Slots.{Slot, Slots, freshSlot}
 use Rattle.assembler.specs.Step.{step}
-use Rattle.assembler.specs.Runs.{World, after, call, calls}
-use Rattle.assembler.specs.Making.{freshPool, madeIf, madeOf}
+use Rattle.assembler.specs.Runs.{World, afterOutcome, callOne, callAll}
+use Rattle.assembler.specs.Making.{freshPool, madeIf, newPool}
 use Rattle.assembler.specs.View.{slotsFrom, slotsOf, headOf, shown, receiveOf}
 use Rattle.assembler.proofs.Views.{Sized, none, more, sized-append, view-forth}
 use Rattle.ledger.specs.Ledger.{Ledger, Place, tellOne, tell, numbered, blank}
 use Rattle.ledger.specs.Demand3 as demand
 use Rattle.ledger.specs.Demand3.{AllOk}
-use Rattle.ledger.specs.Runs.{State, start, sayingOf, next, receives, seenIn, replySays, seenOf}
+use Rattle.ledger.specs.Runs.{State, newState, sayingOf, afterCall, receives, seenIn, replySays, seenOf}
 use Rattle.ledger.proofs.Shows.{Shows, room-of}
 use Rattle.ledger.proofs.Run.{Follows, begun, follows-begun, follows-call, step-rest, numbered-tell}
 
@@ -70,28 +70,28 @@ unfolding seenIn seenOf slotsOf
 same-seen z w s = rw (← s .pool, ← s .counters, ← s .said, heads-within (z .pool .size) (z .pool .heads) (z .pool .bytes))
 
 module _ (R : Rules) where
-  next-same : (z : State) (w : World) (c : Call) → Same z w → Sized (call (step R) w c .pool .slots) → Same (next z (receiveOf R (c .pgns) (c .heard) (z .pool) (z .counters))) (call (step R) w c)
-  unfolding next call after receiveOf shown sayingOf replySays
+  next-same : (z : State) (w : World) (c : Call) → Same z w → Sized (callOne (step R) w c .pool .slots) → Same (afterCall z (receiveOf R (c .pgns) (c .heard) (z .pool) (z .counters))) (callOne (step R) w c)
+  unfolding afterCall callOne afterOutcome receiveOf shown sayingOf replySays
   next-same z w c s h =
       rw (s .pool, s .counters) (record { pool = view-forth (step R (w .pool) (w .counters) c .pool) h; counters = refl; said = ap (_∷_ (replySays (step R (w .pool) (w .counters) c .reply))) (s .said) })
 
-  runs-same : (z : State) (w : World) (L : Ledger) {cs : List Call} → AllOk R cs → Follows R w L → Sized (rest (w .pool)) → Same z w → numbered L + length cs ≤ most → Same (receives (receiveOf R) z cs) (calls (step R) w cs)
-  unfolding receives calls
+  runs-same : (z : State) (w : World) (L : Ledger) {cs : List Call} → AllOk R cs → Follows R w L → Sized (rest (w .pool)) → Same z w → numbered L + length cs ≤ most → Same (receives (receiveOf R) z cs) (callAll (step R) w cs)
+  unfolding receives callAll
   runs-same z w L demand.none f h s l = s
   runs-same z w L (demand.more {c} {cs} ok oks) f h s l =
-      let w′ : World = call (step R) w c in
+      let w′ : World = callOne (step R) w c in
       let f′ : Follows R w′ (tell (tellOne R) L c) = follows-call R w L c ok f (omega arith) in
       let h′ : Sized (rest (w′ .pool)) = rw (step-rest R w L c ok f) h in
-      runs-same (next z (receiveOf R (c .pgns) (c .heard) (z .pool) (z .counters))) w′ (tell (tellOne R) L c) oks f′ h′ (next-same z w c s (sized R w′ (tell (tellOne R) L c) f′ h′)) (omega (arith, numbered-tell R L c))
+      runs-same (afterCall z (receiveOf R (c .pgns) (c .heard) (z .pool) (z .counters))) w′ (tell (tellOne R) L c) oks f′ h′ (next-same z w c s (sized R w′ (tell (tellOne R) L c) f′ h′)) (omega (arith, numbered-tell R L c))
 
-made-fresh : (n : ℕ) → n ≤ poolLimit → madeOf n .pool ≡ freshPool n
-unfolding madeOf madeIf
+made-fresh : (n : ℕ) → n ≤ poolLimit → newPool n .pool ≡ freshPool n
+unfolding newPool madeIf
 made-fresh n h = rw (le-ltb poolLimit n h)
 
-start-same : (n : ℕ) → n ≤ poolLimit → Same (start n) (begun poolLimit n)
-unfolding start begun
+start-same : (n : ℕ) → n ≤ poolLimit → Same (newState n) (begun poolLimit n)
+unfolding newState begun
 start-same n h = rw (made-fresh n h) (record { pool = unfold freshPool slotsOf slotsFrom freshSlot in refl; counters = refl; said = refl })
 
-pub run-same : (R : Rules) (n : ℕ) → n ≤ R .limit → n ≤ poolLimit → {cs : List Call} → AllOk R cs → length cs ≤ most → Same (receives (receiveOf R) (start n) cs) (calls (step R) (begun poolLimit n) cs)
+pub run-same : (R : Rules) (n : ℕ) → n ≤ R .limit → n ≤ poolLimit → {cs : List Call} → AllOk R cs → length cs ≤ most → Same (receives (receiveOf R) (newState n) cs) (callAll (step R) (begun poolLimit n) cs)
 run-same R n h g oks l =
-    runs-same R (start n) (begun poolLimit n) (blank n) oks (follows-begun R poolLimit n h g) (unfold begun in sized-drop n (sized-replicate poolLimit)) (start-same n g) (unfold numbered blank in omega arith)
+    runs-same R (newState n) (begun poolLimit n) (blank n) oks (follows-begun R poolLimit n h g) (unfold begun in sized-drop n (sized-replicate poolLimit)) (start-same n g) (unfold numbered blank in omega arith)

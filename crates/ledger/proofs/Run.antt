@@ -23,12 +23,12 @@ use Rattle.assembler.specs.Call.{Call, CallOk}
 use Rattle.assembler.specs.Slots.{Slot, freshSlot, within, impossible}
 use Rattle.assembler.specs.Step as act
 use Rattle.assembler.specs.Step.{eventOf, slotsAfter, outcome, stepIf, step}
-use Rattle.assembler.specs.Runs.{World, after, call, calls}
+use Rattle.assembler.specs.Runs.{World, afterOutcome, callOne, callAll}
 use Rattle.assembler.specs.View.{headOf}
-use Rattle.ledger.specs.Ledger.{Place, idle, holds, late, Told, tellOne, Entry, Ledger, numbered, written, tell, tells, blank, ledgerOf, briefly, wholly, delivery, answerTo, answerOf, lengthOwed, lengthSaid}
-use Rattle.ledger.specs.Ledger.{Event, unlisted, badly, refused, stray, atOnce, opening, restarting, reclaiming, copied, delivered, broken}
-use Rattle.ledger.specs.Ledger.{Broken, Reclaimed, Refused, Stray, BadSize, Unlisted, columnNumber, post, posts, one, asNumber, onlyIf, weighs, posted, entryWeight, tally, heldAt, held}
-use Rattle.ledger.specs.Demand3.{refusal, isRefused, inProgress, Agreed, AllOk, none, more}
+use Rattle.ledger.specs.Ledger.{Place, idle, holds, late, Told, tellOne, Entry, Ledger, numbered, written, tell, tells, blank, ledgerOf, briefly, wholly, delivery, sayingFor, sayingDue, lengthOwed, lengthSaid}
+use Rattle.ledger.specs.Ledger.{CallAccount, unlisted, badly, noSlot, stray, atOnce, opening, restarting, reclaiming, copied, delivered, broken}
+use Rattle.ledger.specs.Ledger.{Broken, Reclaimed, NoSlot, Stray, BadSize, Unlisted, columnNumber, post, posts, one, asNumber, onlyIf, weighs, posted, entryWeight, tally, heldAt, held}
+use Rattle.ledger.specs.Demand3.{refusal, saysRefused, inProgress, Agreed, AllOk, none, more}
 use Rattle.ledger.specs.Runs.{replySays, seenOf}
 use Rattle.ledger.proofs.Moves.{moves}
 use Rattle.ledger.proofs.Shows.{Shows, IdleSlot}
@@ -39,7 +39,7 @@ use Rattle.ledger.proofs.Match.{all-possible, markOf, Match, match}
 pub record Counted (k : Counters) (L : Ledger) : Type 0 where
   pub expired : k .«expired_sessions» ≡ tally Reclaimed one L
   pub lost : k .«lost_fragments» ≡ tally Broken one L + tally Stray one L
-  pub exhausted : k .«pool_exhausted» ≡ tally Refused one L
+  pub exhausted : k .«pool_exhausted» ≡ tally NoSlot one L
   pub rejected : k .«rejected_frames» ≡ tally BadSize one L
   pub unknown : k .«unknown_pgn» ≡ tally Unlisted one L
   pub expired≤ : k .«expired_sessions» ≤ numbered L
@@ -52,11 +52,11 @@ counted-blank : (n : ℕ) → Counted freshCounters (blank n)
 unfolding freshCounters tally blank total numbered
 counted-blank n = omega arith
 
-counted-event : (k : Counters) (L : Ledger) (c : Call) (ps : List Place) (e : Event) → numbered L < most → Counted k L → Counted (raised (markOf e) k) (written L c (record { event = e; places = ps }))
+counted-event : (k : Counters) (L : Ledger) (c : Call) (ps : List Place) (e : CallAccount) → numbered L < most → Counted k L → Counted (raised (markOf e) k) (written L c (record { event = e; places = ps }))
 unfolding raised raise most markOf written tally total entryWeight posted weighs posts post onlyIf columnNumber one numbered
 counted-event k L c ps unlisted l h = omega arith
 counted-event k L c ps badly l h = omega arith
-counted-event k L c ps refused l h = omega arith
+counted-event k L c ps noSlot l h = omega arith
 counted-event k L c ps stray l h = omega arith
 counted-event k L c ps atOnce l h = omega arith
 counted-event k L c ps opening l h = omega arith
@@ -72,7 +72,7 @@ pub record Follows (R : Rules) (w : World) (L : Ledger) : Type 0 where
   pub size : w .pool .size ≤ R .limit
   pub enough : w .pool .size ≤ length (w .pool .slots)
   pub shows : All2 (Shows R) (L .places) (within (w .pool))
-  pub answers : map replySays (w .replies) ≡ map answerOf (L .entries)
+  pub answers : map replySays (w .replies) ≡ map sayingDue (L .entries)
   pub lengths : map lengthSaid (map replySays (w .replies)) ≡ map lengthOwed (L .entries)
   pub counts : Counted (w .counters) L
 
@@ -120,8 +120,8 @@ module _ (R : Rules) (w : World) (L : Ledger) (c : Call) (ok : CallOk R c) (h : 
   slots-length : length (slotsAfter (c .heard) (within (w .pool)) happened) ≡ w .pool .size
   slots-length = matched .kept ∙ length-take-le (w .pool .size) (w .pool .slots) (h .enough)
 
-  follows-outcome : numbered L < most → Follows R (after (outcome (c .heard) happened (w .pool) (w .counters)) (w .replies)) (written L c told)
-  unfolding after outcome written answerOf lengthSaid lengthOwed replySays
+  follows-outcome : numbered L < most → Follows R (afterOutcome (outcome (c .heard) happened (w .pool) (w .counters)) (w .replies)) (written L c told)
+  unfolding afterOutcome outcome written sayingDue lengthSaid lengthOwed replySays
   follows-outcome l =
       record {
         size = h .size;
@@ -132,13 +132,13 @@ module _ (R : Rules) (w : World) (L : Ledger) (c : Call) (ok : CallOk R c) (h : 
         counts = rw (matched .marks) (counted-event (w .counters) L c (told .places) (told .event) l (h .counts));
       }
 
-  pub follows-call : numbered L < most → Follows R (call (step R) w c) (tell (tellOne R) L c)
-  unfolding call step tell stepIf told happened
+  pub follows-call : numbered L < most → Follows R (callOne (step R) w c) (tell (tellOne R) L c)
+  unfolding callOne step tell stepIf told happened
   follows-call l = rw (never-impossible R w L h) (follows-outcome l)
 
   -- the slots past the size stay as they are
-  pub step-rest : drop (call (step R) w c .pool .size) (call (step R) w c .pool .slots) ≡ drop (w .pool .size) (w .pool .slots)
-  unfolding call after step stepIf outcome happened
+  pub step-rest : drop (callOne (step R) w c .pool .size) (callOne (step R) w c .pool .slots) ≡ drop (w .pool .size) (w .pool .slots)
+  unfolding callOne afterOutcome step stepIf outcome happened
   step-rest = rw (never-impossible R w L h) (drop-at (slotsAfter (c .heard) (within (w .pool)) happened) (drop (w .pool .size) (w .pool .slots)) (w .pool .size) slots-length)
 
 -- over all the calls
@@ -146,13 +146,13 @@ pub numbered-tell : (R : Rules) (L : Ledger) (c : Call) → numbered (tell (tell
 unfolding numbered tell written
 numbered-tell R L c = refl
 
-follows-calls : (R : Rules) (w : World) (L : Ledger) {cs : List Call} → AllOk R cs → Follows R w L → numbered L + length cs ≤ most → Follows R (calls (step R) w cs) (tells (tellOne R) L cs)
-unfolding calls tells
+follows-calls : (R : Rules) (w : World) (L : Ledger) {cs : List Call} → AllOk R cs → Follows R w L → numbered L + length cs ≤ most → Follows R (callAll (step R) w cs) (tells (tellOne R) L cs)
+unfolding callAll tells
 follows-calls R w L none h l = h
 follows-calls R w L (more {c} {cs} ok oks) h l =
-    follows-calls R (call (step R) w c) (tell (tellOne R) L c) oks (follows-call R w L c ok h (omega arith)) (omega (arith, numbered-tell R L c))
+    follows-calls R (callOne (step R) w c) (tell (tellOne R) L c) oks (follows-call R w L c ok h (omega arith)) (omega (arith, numbered-tell R L c))
 
-pub follows : (R : Rules) (k n : ℕ) → n ≤ R .limit → n ≤ k → {cs : List Call} → AllOk R cs → length cs ≤ most → Follows R (calls (step R) (begun k n) cs) (ledgerOf R n cs)
+pub follows : (R : Rules) (k n : ℕ) → n ≤ R .limit → n ≤ k → {cs : List Call} → AllOk R cs → length cs ≤ most → Follows R (callAll (step R) (begun k n) cs) (ledgerOf R n cs)
 unfolding ledgerOf
 follows R k n h g oks l = follows-calls R (begun k n) (blank n) oks (follows-begun R k n h g) (unfold numbered blank in omega arith)
 
@@ -170,11 +170,11 @@ total-heads w (s ∷ ss) = ap (λ (k : ℕ). w (s .head) + k) (total-heads w ss)
 
 -- ---- no answer that the ledger calls for is a refusal
 
-never-refused : (c : Call) (e : Event) → isRefused (answerTo c e) ≡ false
-unfolding isRefused refusal answerTo briefly delivery wholly
+never-refused : (c : Call) (e : CallAccount) → saysRefused (sayingFor c e) ≡ false
+unfolding saysRefused refusal sayingFor briefly delivery wholly
 never-refused c unlisted = refl
 never-refused c badly = refl
-never-refused c refused = refl
+never-refused c noSlot = refl
 never-refused c stray = refl
 never-refused c atOnce = refl
 never-refused c opening = refl
@@ -184,8 +184,8 @@ never-refused c (copied m) = refl
 never-refused c (delivered m) = refl
 never-refused c (broken m) = refl
 
-none-refused : (es : List Entry) → any isRefused (map answerOf es) ≡ false
-unfolding any answerOf
+none-refused : (es : List Entry) → any saysRefused (map sayingDue es) ≡ false
+unfolding any sayingDue
 none-refused [] = refl
 none-refused (e ∷ es) = rw (never-refused (e .frame) (e .event), none-refused es)
 

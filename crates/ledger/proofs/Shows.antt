@@ -15,7 +15,7 @@ use Rattle.session.specs.Frames.{sequenceOf, indexOf, sizeOf, firstBytes, nextB
 use Rattle.session.specs.Heads.{headKey, impossibleHead, hasKey, isSilent, isFree, isFreeOfSource, hasLiveKey, inTurn, openedHead, resetHead, wanted, copiedHead, allThere}
 use Rattle.assembler.specs.Call.{Call, CallOk}
 use Rattle.assembler.specs.Slots.{Slot, openedSlot, resetSlot, copiedSlot}
-use Rattle.ledger.specs.Ledger.{Message, newMessage, grown, latestOf, latest, bytesOf, ownBytes, announced, Place, idle, holds, keyHeld, late, free, sourceAt, freeOfSource, liveHeld, left, full, itsTurn}
+use Rattle.ledger.specs.Ledger.{Message, newMessage, grown, latestOf, latest, framesBytes, ownBytes, announced, Place, idle, holds, keyHeld, late, free, sourceAt, freeOfSource, liveHeld, left, full, itsTurn}
 
 module _ (R : Rules) where
   -- ---- a place and its slot
@@ -113,7 +113,7 @@ module _ (R : Rules) where
   next-length c ok = simp length-drop (rw (ok .eight))
 
   pub opened-shows : (n : ℕ) (c : Call) (s : Slot) → CallOk R c → 7 ≤ sizeOf (c .heard) → sizeOf (c .heard) ≤ maxPayload → length (s .buffer) ≡ maxPayload → Shows (holds (newMessage n c)) (openedSlot (c .heard) s)
-  unfolding newMessage openedSlot openedHead headKey keyOf announced latest latestOf ownBytes bytesOf sequenceOf
+  unfolding newMessage openedSlot openedHead headKey keyOf announced latest latestOf ownBytes framesBytes sequenceOf
   opened-shows n c s ok low high r =
       record {
         busy = refl;
@@ -156,7 +156,7 @@ module _ (R : Rules) where
     full-same false e = lt-leb (s .head .«expected_size») (s .head .«current_size» + wanted (s .head)) (omega (arith, leb-false (sizeOf (m .first .heard)) (6 + 7 * suc (length (m .later))) e, wants, h .expected, h .current))
 
     pub copied-shows : itsTurn c m ≡ true → full (grown m c) ≡ false → Shows (holds (grown m c)) (copiedSlot (c .heard) s)
-    unfolding full grown copiedSlot copiedHead announced itsTurn latest latestOf ownBytes bytesOf headKey
+    unfolding full grown copiedSlot copiedHead announced itsTurn latest latestOf ownBytes framesBytes headKey
     copied-shows turn e =
         let seven : wanted (s .head) ≡ 7 = omega (arith, leb-false (sizeOf (m .first .heard)) (6 + 7 * suc (length (m .later))) e, wants) in
         record {

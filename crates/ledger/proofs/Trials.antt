@@ -9,7 +9,7 @@ use Rattle.session.specs.Rules.{base}
 use Rattle.assembler.specs.Call.{Call, CallOk}
 use Rattle.ledger.specs.Ledger.{Saying}
 use Rattle.ledger.specs.Demand3.{AllOk, none, more}
-use Rattle.ledger.proofs.Bench.{frame, announces, goes-on}
+use Rattle.ledger.proofs.EveryFate.{frame, announces, goes-on}
 
 announces-ok : (n now from : ℕ) → CallOk base (announces n now from)
 unfolding announces frame

@@ -16,14 +16,14 @@ use Rattle.session.specs.Rules.{base}
 use Rattle.session.specs.Frames.{firstBytes, nextBytes}
 use Rattle.session.specs.Heads.{openedHead}
 use Rattle.session.specs.Counting.{freshCounters}
-use Rattle.assembler.specs.declared.pool.Pool.{Pool}
+use Rattle.assembler.specs.declared.Pool.{Pool}
 use Rattle.assembler.specs.declared.Received.{Received}
 use Rattle.assembler.specs.Slots.{Slot, openedSlot, resetSlot}
 use Rattle.assembler.specs.View.{zeros, receiveOf}
-use Rattle.ledger.specs.Ledger.{answerOf, ledgerOf, tally, held, one, Reclaimed, BadSize}
+use Rattle.ledger.specs.Ledger.{sayingDue, ledgerOf, tally, held, one, Reclaimed, BadSize}
 use Rattle.ledger.specs.Demand3.{Demand3, inProgress}
 use Rattle.ledger.specs.Runs.{Receive, received}
-use Rattle.ledger.proofs.Bench.{ran, told, frame, announces, goes-on}
+use Rattle.ledger.proofs.EveryFate.{ran, told, frame, announces, goes-on}
 use Rattle.ledger.proofs.Trials.{pair, pair-ok, twice, twice-ok, firsts, firsts-ok, lastLength, lastByte}
 use Rattle.ledger.proofs.Parts.{Parts, wholeOf, untouched, slotsBy, markBy, saidBy, outcomeBy, stepBy, by}
 
@@ -67,7 +67,7 @@ lazy-says : lastLength (received lazy 4 twice .said) ≡ 0
 unfolding ran twice announces goes-on frame lazy mute completes marker marked isMarked lastLength
 lazy-says = refl
 
-twice-says : lastLength (map answerOf (ledgerOf base 4 twice .entries)) ≡ 7
+twice-says : lastLength (map sayingDue (ledgerOf base 4 twice .entries)) ≡ 7
 unfolding told twice announces goes-on frame lastLength
 twice-says = refl
 
@@ -164,7 +164,7 @@ rejects-leaves-open d = omega (arith, d (pair 2 1) (pair-ok 2 1 (lit< tt)) (unfo
 
 -- ---- reversed bytes
 
-pair-says : lastByte 0 (map answerOf (ledgerOf base 1 (pair 1 1) .entries)) ≡ 1
+pair-says : lastByte 0 (map sayingDue (ledgerOf base 1 (pair 1 1) .entries)) ≡ 1
 unfolding told pair announces goes-on frame lastByte
 pair-says = refl
 
@@ -196,7 +196,7 @@ notCut-says : lastLength (received (by notCut) 1 (pair 1 1) .said) ≡ 13
 unfolding ran pair announces goes-on frame by stepBy outcomeBy slotsBy markBy saidBy untouched notCut lastLength
 notCut-says = refl
 
-pair-length : lastLength (map answerOf (ledgerOf base 1 (pair 1 1) .entries)) ≡ 7
+pair-length : lastLength (map sayingDue (ledgerOf base 1 (pair 1 1) .entries)) ≡ 7
 unfolding told pair announces goes-on frame lastLength
 pair-length = refl
 
@@ -221,7 +221,7 @@ losesByte-says : lastByte 5 (received (by losesByte) 1 (pair 1 1) .said) ≡ 0
 unfolding ran pair announces goes-on frame by stepBy outcomeBy slotsBy markBy saidBy wholeOf untouched losesByte lastByte
 losesByte-says = refl
 
-sixth-says : lastByte 5 (map answerOf (ledgerOf base 1 (pair 1 1) .entries)) ≡ 6
+sixth-says : lastByte 5 (map sayingDue (ledgerOf base 1 (pair 1 1) .entries)) ≡ 6
 unfolding told pair announces goes-on frame lastByte
 sixth-says = refl
 

@@ -12,7 +12,7 @@ use Rattle.session.specs.declared.Kind.the-variants as kind
 use Rattle.session.specs.Rules.{Rules}
 use Rattle.session.specs.Heads.{hasKey, isSilent}
 use Rattle.assembler.specs.Call.{Call, CallOk, isOpener}
-use Rattle.ledger.specs.Ledger.{Ledger, Saying, numbered, nextEvent, answerOf, lengthOwed, lengthSaid, OwnBook, ledgerOf, posted, tally, held, is, one, asNumber, Opened, Delivered, Broken, Restarted, Reclaimed, Refused, Stray, BadSize, Unlisted}
+use Rattle.ledger.specs.Ledger.{Ledger, Saying, numbered, nextEvent, sayingDue, lengthOwed, lengthSaid, OwnBook, ledgerOf, posted, tally, held, is, one, asNumber, Opened, Delivered, Broken, Restarted, Reclaimed, NoSlot, Stray, BadSize, Unlisted}
 
 -- what is seen after a run: all that was said, the latest first; the heads of the slots within the size; the counters
 pub record Seen : Type 0 where
@@ -26,8 +26,8 @@ refusal kind.Ignored = false
 refusal kind.FragmentConsumed = false
 refusal kind.MessageComplete = false
 
-unfoldable pub isRefused : Saying → Bool
-isRefused a = refusal (a .kind)
+unfoldable pub saysRefused : Saying → Bool
+saysRefused a = refusal (a .kind)
 
 unfoldable pub inProgress : List Head → ℕ
 inProgress hs = total (λ (h : Head). asNumber (h .«in_progress»)) hs
@@ -35,13 +35,13 @@ inProgress hs = total (λ (h : Head). asNumber (h .«in_progress»)) hs
 -- what is seen and the ledger agree
 pub record Agreed (s : Seen) (L : Ledger) : Type 0 where
   -- every answer is the one that the ledger's entry calls for: each delivered message is its own frames' bytes, cut at the announced size
-  pub answers : s .said ≡ map answerOf (L .entries)
+  pub answers : s .said ≡ map sayingDue (L .entries)
   -- ... and its own frames are the one that opened it and all that were copied for it, by the book
   pub own : OwnBook (L .entries)
   -- ... and the length of each is the announced size
   pub lengths : map lengthSaid (s .said) ≡ map lengthOwed (L .entries)
   -- no call is refused
-  pub accepted : any isRefused (s .said) ≡ false
+  pub accepted : any saysRefused (s .said) ≡ false
   -- each opened message has one fate: under every weighing of the messages the five fates together weigh what was opened ...
   pub fates : (weigh : ℕ → ℕ) → tally Delivered weigh L + tally Broken weigh L + tally Restarted weigh L + tally Reclaimed weigh L + held weigh L ≡ tally Opened weigh L
   -- ... and each number is opened at most once
@@ -51,7 +51,7 @@ pub record Agreed (s : Seen) (L : Ledger) : Type 0 where
   -- the counters
   pub expired : s .counters .«expired_sessions» ≡ tally Reclaimed one L
   pub lost : s .counters .«lost_fragments» ≡ tally Broken one L + tally Stray one L
-  pub exhausted : s .counters .«pool_exhausted» ≡ tally Refused one L
+  pub exhausted : s .counters .«pool_exhausted» ≡ tally NoSlot one L
   pub rejected : s .counters .«rejected_frames» ≡ tally BadSize one L
   pub unknown : s .counters .«unknown_pgn» ≡ tally Unlisted one L
 
@@ -63,7 +63,7 @@ hasRoom R c h = hasKey R (c .heard) h || not (h .«in_progress») || isSilent R 
 -- no other call opens a message or is refused
 pub record Admitted (R : Rules) (s : Seen) (L : Ledger) (c : Call) : Type 0 where
   pub opens : posted Opened one (numbered L) (nextEvent R L c) ≡ asNumber (isOpener c && any (hasRoom R c) (s .heads))
-  pub refuses : posted Refused one (numbered L) (nextEvent R L c) ≡ asNumber (isOpener c && not (any (hasRoom R c) (s .heads)))
+  pub refuses : posted NoSlot one (numbered L) (nextEvent R L c) ≡ asNumber (isOpener c && not (any (hasRoom R c) (s .heads)))
 
 -- each call is given eight bytes
 pub data AllOk (R : Rules) : List Call → Type 0 where

@@ -9,9 +9,9 @@ use lib.ListN.{length, getD, take, set}
 use lib.Dec.{eqb, leb}
 use Rattle.base.specs.Lists.{firstAt, orElse}
 use Rattle.book.specs.Book as book
-pub use Rattle.book.specs.Book.{idle, holds, unlisted, badly, refused, stray, atOnce, opening, restarting, reclaiming, copied, delivered, broken}
+pub use Rattle.book.specs.Book.{idle, holds, unlisted, badly, noSlot, stray, atOnce, opening, restarting, reclaiming, copied, delivered, broken}
 unfoldable pub use Rattle.book.specs.Book.{newMessage, grown, latestOf, latest, nothingMoved, endLate, openingAt, numbered, written, tell, tells, blank}
-pub use Rattle.book.specs.Book.{Column, Opened, Delivered, Broken, Restarted, Reclaimed, Refused, Stray, BadSize, Unlisted, AtOnce, Posting}
+pub use Rattle.book.specs.Book.{Column, Opened, Delivered, Broken, Restarted, Reclaimed, NoSlot, Stray, BadSize, Unlisted, AtOnce, Posting}
 unfoldable pub use Rattle.book.specs.Book.{columnNumber, post, posts, posted, one, is, asNumber, onlyIf, weighs, entryWeight, tally, heldAt, held, OwnBook}
 use Rattle.session.specs.declared.Kind.{Kind}
 use Rattle.session.specs.declared.Kind.the-variants.{Ignored, FragmentConsumed, MessageComplete}
@@ -27,8 +27,8 @@ Message = book.Message Call
 abbrev pub Place : Type 0
 Place = book.Place Call
 
-abbrev pub Event : Type 0
-Event = book.Event Call
+abbrev pub CallAccount : Type 0
+CallAccount = book.Account Call
 
 abbrev pub Told : Type 0
 Told = book.Told Call
@@ -42,12 +42,12 @@ Ledger = book.Ledger Call
 -- ---- what 01's steps make of a message and a place
 
 -- its own frames' bytes, in the order of the calls: six of the first frame, seven of each continuation
-unfoldable pub bytesOf : Call → List Call → List ℕ
-bytesOf first [] = take 6 (firstBytes (first .heard))
-bytesOf first (c ∷ older) = bytesOf first older ++ nextBytes (c .heard)
+unfoldable pub framesBytes : Call → List Call → List ℕ
+framesBytes first [] = take 6 (firstBytes (first .heard))
+framesBytes first (c ∷ older) = framesBytes first older ++ nextBytes (c .heard)
 
 unfoldable pub ownBytes : Message → List ℕ
-ownBytes m = bytesOf (m .first) (m .later)
+ownBytes m = framesBytes (m .first) (m .later)
 
 unfoldable pub announced : Message → ℕ
 announced m = sizeOf (m .first .heard)
@@ -87,7 +87,7 @@ takenBy R c ps = orElse (firstAt (keyHeld R c) ps) (orElse (firstAt (freeOfSourc
 
 -- "else Ignored, pool_exhausted"; or the message opens, and one that stood there ends: restarted in time, or reclaimed late
 unfoldable pub tellOpen : Rules → ℕ → List Place → Call → Option ℕ → Told
-tellOpen R n ps c none = nothingMoved refused ps
+tellOpen R n ps c none = nothingMoved noSlot ps
 tellOpen R n ps c (some i) = record { event = openingAt (late R c) (getD ps i (idle 0)); places = set ps i (holds (newMessage n c)) }
 
 -- "Size 1 to 6: MessageComplete at once"
@@ -147,7 +147,7 @@ tellOne R n ps c = tellListed (listed c) R n ps c
 -- ---- the ledger
 
 -- what the next call is, given what the ledger holds
-unfoldable pub nextEvent : Rules → Ledger → Call → Event
+unfoldable pub nextEvent : Rules → Ledger → Call → CallAccount
 nextEvent R L c = tellOne R (numbered L) (L .places) c .event
 
 -- of these calls, with n places
@@ -171,30 +171,30 @@ wholly bytes = record { kind = MessageComplete; payload = padded bytes; length =
 
 -- a message: its own frames' bytes, cut at the announced size
 unfoldable pub delivery : Call → List Call → Saying
-delivery first later = wholly (take (sizeOf (first .heard)) (bytesOf first later))
+delivery first later = wholly (take (sizeOf (first .heard)) (framesBytes first later))
 
 -- one delivered at once has its first frame alone
-unfoldable pub answerTo : Call → Event → Saying
-answerTo c unlisted = briefly Ignored
-answerTo c badly = briefly Ignored
-answerTo c refused = briefly Ignored
-answerTo c stray = briefly Ignored
-answerTo c atOnce = delivery c []
-answerTo c opening = briefly FragmentConsumed
-answerTo c (restarting m) = briefly FragmentConsumed
-answerTo c (reclaiming m) = briefly FragmentConsumed
-answerTo c (copied m) = briefly FragmentConsumed
-answerTo c (delivered m) = delivery (m .first) (m .later)
-answerTo c (broken m) = briefly Ignored
+unfoldable pub sayingFor : Call → CallAccount → Saying
+sayingFor c unlisted = briefly Ignored
+sayingFor c badly = briefly Ignored
+sayingFor c noSlot = briefly Ignored
+sayingFor c stray = briefly Ignored
+sayingFor c atOnce = delivery c []
+sayingFor c opening = briefly FragmentConsumed
+sayingFor c (restarting m) = briefly FragmentConsumed
+sayingFor c (reclaiming m) = briefly FragmentConsumed
+sayingFor c (copied m) = briefly FragmentConsumed
+sayingFor c (delivered m) = delivery (m .first) (m .later)
+sayingFor c (broken m) = briefly Ignored
 
-unfoldable pub answerOf : Entry → Saying
-answerOf e = answerTo (e .frame) (e .event)
+unfoldable pub sayingDue : Entry → Saying
+sayingDue e = sayingFor (e .frame) (e .event)
 
 -- the length that it must say: of a message, the announced size itself
-unfoldable pub lengthDue : Call → Event → ℕ
+unfoldable pub lengthDue : Call → CallAccount → ℕ
 lengthDue c unlisted = 0
 lengthDue c badly = 0
-lengthDue c refused = 0
+lengthDue c noSlot = 0
 lengthDue c stray = 0
 lengthDue c atOnce = sizeOf (c .heard)
 lengthDue c opening = 0

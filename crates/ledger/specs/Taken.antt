@@ -6,19 +6,19 @@ use lib.ListN.{length}
 use Rattle.session.specs.Rules.{base}
 use Rattle.assembler.specs.Call.{Call}
 use Rattle.assembler.specs.View.{receiveOf}
-use Rattle.batch.specs.Rows.{Rows, frameAt, Run, runOf}
+use Rattle.batch.specs.Rows.{Rows, frameInRows, Run, runOf}
 use Rattle.ledger.specs.Ledger.{ledgerOf}
 use Rattle.ledger.specs.Demand3.{Agreed}
-use Rattle.ledger.specs.Runs.{State, start, receives, seenIn}
+use Rattle.ledger.specs.Runs.{State, newState, receives, seenIn}
 
 -- n frames of the rows as calls with this list, the first of them frame i
 unfoldable pub callsOf : List ℕ → Rows → ℕ → ℕ → List Call
 callsOf pgns w zero i = []
-callsOf pgns w (suc n) i = record { pgns = pgns; heard = frameAt w i } ∷ callsOf pgns w n (suc i)
+callsOf pgns w (suc n) i = record { pgns = pgns; heard = frameInRows w i } ∷ callsOf pgns w n (suc i)
 
 -- the state after these calls, from a new pool of n slots
 abbrev pub afterCalls : ℕ → List Call → State
-afterCalls n cs = receives (receiveOf base) (start n) cs
+afterCalls n cs = receives (receiveOf base) (newState n) cs
 
 -- what a batch does on what the calls so far left
 abbrev pub batchAfter : ℕ → List Call → List ℕ → Rows → ℕ → Run

@@ -4,11 +4,11 @@ use mathlib.Core.List.{List, [], _∷_}
 use mathlib.Core.Path.{_≡_}
 use lib.ListN.{getD}
 use Rattle.base.specs.Pick.{pick}
-use Rattle.builder.specs.Builder.{madeOf}
-use Rattle.builder.specs.Next.{Kind, Step, frame, end, refusal, nextOf}
+use Rattle.builder.specs.Builder.{newBuilder}
+use Rattle.builder.specs.Next.{NextAnswer, Step, frame, end, refusal, nextOf}
 use Rattle.builder.specs.Frames.{Turn, nextTurn}
 use Rattle.builder.specs.declared.FastPacketBuilder.{FastPacketBuilder}
-use Rattle.builder.specs.declared.Made.{Made}
+use Rattle.builder.specs.declared.MadeBuilder.{MadeBuilder}
 use Rattle.builder.specs.declared.FrameIterator.{FrameIterator}
 use Rattle.numbers.specs.Numbers.{isSet, byteOn, toAddress, addressOf, carriesOf}
 
@@ -29,14 +29,14 @@ builderNumbers b =
     b .pgn ∷ b .«source_address» ∷ addressOf (b .destination) ∷ b .priority ∷ b .«sequence_id» ∷ pick (b .fast) 1 0 ∷ []
 
 -- a new builder, to a destination that is a number
-unfoldable pub madeWith : ℕ → ℕ → ℕ → List ℕ → List ℕ → ℕ → Made
-madeWith pgn source destination payload pgns held = madeOf pgn source (toAddress destination) payload pgns held
+unfoldable pub madeWith : ℕ → ℕ → ℕ → List ℕ → List ℕ → ℕ → MadeBuilder
+madeWith pgn source destination payload pgns held = newBuilder pgn source (toAddress destination) payload pgns held
 
 -- of a new builder: its numbers, and the number that the caller holds from now on
-unfoldable pub madeNumbers : Made → List ℕ
+unfoldable pub madeNumbers : MadeBuilder → List ℕ
 madeNumbers m = builderNumbers (m .builder)
 
-unfoldable pub heldAfter : Made → ℕ
+unfoldable pub heldAfter : MadeBuilder → ℕ
 heldAfter m = m .«sequence_id»
 
 -- an iterator is a builder and its place: frame index and bytes sent
@@ -47,18 +47,18 @@ unfoldable pub placeNumbers : FrameIterator → List ℕ
 placeNumbers t = t .«frame_index» ∷ t .«bytes_sent» ∷ []
 
 -- what asking for the next frame returns: 0 for a frame, 256 for End, a refusal's number
-abbrev pub kindNumber : Kind → ℕ
-kindNumber frame = 0
-kindNumber end = 256
-kindNumber (refusal n l) = n
+abbrev pub nextCode : NextAnswer → ℕ
+nextCode frame = 0
+nextCode end = 256
+nextCode (refusal n l) = n
 
-abbrev pub kindCarries : Kind → ℕ
+abbrev pub kindCarries : NextAnswer → ℕ
 kindCarries frame = 0
 kindCarries end = 0
 kindCarries (refusal n l) = carriesOf l
 
 unfoldable pub stepNumber : Step → ℕ
-stepNumber s = kindNumber (s .kind)
+stepNumber s = nextCode (s .kind)
 
 -- and lends out: the frame's bytes
 unfoldable pub stepBytes : Step → List ℕ
@@ -69,7 +69,7 @@ unfoldable pub stepFrame : Step → List ℕ
 stepFrame s = s .sent .id .0 ∷ s .sent .len ∷ kindCarries (s .kind) ∷ []
 
 -- what asking for the next frame leaves: what is returned, the frame's bytes, and its numbers
-pub record Told (s : Step) (code : ℕ) (bytes frame : List ℕ) : Type 0 where
+pub record NextLeft (s : Step) (code : ℕ) (bytes frame : List ℕ) : Type 0 where
   pub told : code ≡ stepNumber s
   pub filled : bytes ≡ stepBytes s
   pub named : frame ≡ stepFrame s

@@ -12,8 +12,8 @@ use Rattle.session.specs.declared.Heard.{Heard}
 use Rattle.session.specs.declared.Counters.{Counters}
 use Rattle.session.specs.declared.Kind.{Kind}
 use Rattle.session.specs.declared.Kind.the-variants.{Refused, Ignored, FragmentConsumed, MessageComplete}
-use Rattle.assembler.specs.declared.pool.Pool.{Pool}
-use Rattle.assembler.specs.declared.pool.Made.{Made}
+use Rattle.assembler.specs.declared.Pool.{Pool}
+use Rattle.assembler.specs.declared.MadePool.{MadePool}
 use Rattle.assembler.specs.declared.Received.{Received}
 use Rattle.numbers.specs.Numbers.{isSet, flagOn, byteOn, wordOn}
 
@@ -101,7 +101,7 @@ deliveredOn FragmentConsumed message old = old
 deliveredOn MessageComplete message old = message
 
 -- what an answer leaves: what is returned, and the lent heads, bytes, counters, payload and length; heads and payload were `old` and `was`
-pub record Left (r : Received) (old was : List ℕ) (code : ℕ) (heads bytes counters payload : List ℕ) (len : ℕ) : Type 0 where
+pub record CallLeft (r : Received) (old was : List ℕ) (code : ℕ) (heads bytes counters payload : List ℕ) (len : ℕ) : Type 0 where
   pub told : code ≡ kindCode (r .kind)
   pub kept : heads ≡ laid 8 (r .pool .heads) old
   pub stored : bytes ≡ r .pool .bytes
@@ -110,16 +110,16 @@ pub record Left (r : Received) (old was : List ℕ) (code : ℕ) (heads bytes co
   pub measured : len ≡ r .length
 
 -- a fresh pool is laid on 64 zeros
-unfoldable pub blank : List ℕ
-blank = replicate 64 0
+unfoldable pub blankHeads : List ℕ
+blankHeads = replicate 64 0
 
 -- what making a pool leaves: without a refusal its heads and bytes, and with one what was there
-pub record MadeAs (m : Made) (old was : List ℕ) (code : ℕ) (heads bytes : List ℕ) (size : ℕ) : Type 0 where
+pub record MadeAs (m : MadePool) (old was : List ℕ) (code : ℕ) (heads bytes : List ℕ) (size : ℕ) : Type 0 where
   pub told : code ≡ m .refused
-  pub kept : heads ≡ pick (eqb (m .refused) 0) (laid 8 (m .pool .heads) blank) old
+  pub kept : heads ≡ pick (eqb (m .refused) 0) (laid 8 (m .pool .heads) blankHeads) old
   pub stored : bytes ≡ pick (eqb (m .refused) 0) (m .pool .bytes) was
   pub sized : size ≡ m .pool .size
 
 -- a pool made without a refusal
-abbrev pub plainly : Pool → Made
+abbrev pub plainly : Pool → MadePool
 plainly p = record { refused = 0; pool = p }

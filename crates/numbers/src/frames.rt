@@ -1,8 +1,8 @@
 // The frame builder, its iterator and its answers, as numbers.
 ghost use mathlib.Core.Path.{_≡_};
 ghost use mathlib.Core.List.{[], _∷_};
-ghost use Rattle.builder.specs.Next.{kindOf, stepOf};
-ghost use Rattle.numbers.specs.Frames.{builderFrom, builderNumbers, heldAfter, madeNumbers, iteratorFrom, placeNumbers, kindNumber, kindCarries, Told, stepAfter, placeLaid};
+ghost use Rattle.builder.specs.Next.{ofNextKind, ofNext};
+ghost use Rattle.numbers.specs.Frames.{builderFrom, builderNumbers, heldAfter, madeNumbers, iteratorFrom, placeNumbers, nextCode, kindCarries, NextLeft, stepAfter, placeLaid};
 use crate::byte_on;
 use crate::carried;
 use crate::destination_from;
@@ -11,7 +11,7 @@ use crate::number_of;
 use crate::refusal;
 use builder::FastPacketBuilder;
 use builder::FrameIterator;
-use builder::Made;
+use builder::MadeBuilder;
 use builder::Next;
 use builder::NextKind;
 use can_id::CanFrame;
@@ -45,7 +45,7 @@ pub fn builder_numbers(b: FastPacketBuilder) -> [u64; 6]
     ]
 }
 
-pub fn lay_made(made: Made, builder: &mut [u64; 6]) -> u8
+pub fn lay_made(made: MadeBuilder, builder: &mut [u64; 6]) -> u8
     ensures { λ r. ⌜ (r ≡ heldAfter made) × (now (builder .exit) ≡ madeNumbers made) ⌝ }
 {
     let b = made.builder;
@@ -56,7 +56,7 @@ pub fn lay_made(made: Made, builder: &mut [u64; 6]) -> u8
 // ---- an answer as numbers
 
 fn kind_number(kind: NextKind) -> u32
-    ensures { λ r. ⌜ r ≡ kindNumber (kindOf kind) ⌝ }
+    ensures { λ r. ⌜ r ≡ nextCode (ofNextKind kind) ⌝ }
 {
     match kind {
         NextKind::Frame => 0,
@@ -66,7 +66,7 @@ fn kind_number(kind: NextKind) -> u32
 }
 
 fn kind_carries(kind: NextKind) -> u32
-    ensures { λ r. ⌜ r ≡ kindCarries (kindOf kind) ⌝ }
+    ensures { λ r. ⌜ r ≡ kindCarries (ofNextKind kind) ⌝ }
 {
     match kind {
         NextKind::Frame => 0,
@@ -76,7 +76,7 @@ fn kind_carries(kind: NextKind) -> u32
 }
 
 fn frame_numbers(frame: CanFrame, kind: NextKind) -> [u64; 3]
-    ensures { λ r. ⌜ r ≡ (frame .id .0 ∷ frame .len ∷ kindCarries (kindOf kind) ∷ []) ⌝ }
+    ensures { λ r. ⌜ r ≡ (frame .id .0 ∷ frame .len ∷ kindCarries (ofNextKind kind) ∷ []) ⌝ }
 {
     [
         frame.id.0 as u64,
@@ -86,7 +86,7 @@ fn frame_numbers(frame: CanFrame, kind: NextKind) -> [u64; 3]
 }
 
 pub fn told(next: Next, data: &mut [u8; 8], frame: &mut [u64; 3]) -> u32
-    ensures { λ r. ⌜ Told (stepOf next) r (now («data» .exit)) (now (frame .exit)) ⌝ }
+    ensures { λ r. ⌜ NextLeft (ofNext next) r (now («data» .exit)) (now (frame .exit)) ⌝ }
 {
     let f = next.frame;
     let kind = next.kind;
@@ -97,7 +97,7 @@ pub fn told(next: Next, data: &mut [u8; 8], frame: &mut [u64; 3]) -> u32
 }
 
 pub fn after_numbers(next: Next) -> [u64; 2]
-    ensures { λ r. ⌜ r ≡ stepAfter (stepOf next) ⌝ }
+    ensures { λ r. ⌜ r ≡ stepAfter (ofNext next) ⌝ }
 {
     [next.frame_index as u64, next.bytes_sent as u64]
 }
@@ -123,7 +123,7 @@ pub fn place_numbers(t: FrameIterator) -> [u64; 2]
 
 // A place goes on; its frame index is written only where it changes.
 pub fn go_on(place: &mut [u64; 2], next: Next)
-    ensures { λ _. ⌜ now (place .exit) ≡ placeLaid (now (place .entry)) (stepOf next) ⌝ }
+    ensures { λ _. ⌜ now (place .exit) ≡ placeLaid (now (place .entry)) (ofNext next) ⌝ }
 {
     *place = [byte_on(place[0], next.frame_index), next.bytes_sent as u64];
 }

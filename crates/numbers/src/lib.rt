@@ -1,13 +1,13 @@
 // The numbers that stand for what C does not have. The entries are the crate `ffi`'s.
-mod bench;
+mod bench_answers;
 mod frames;
 mod numbers;
 mod pools;
 
-pub use bench::split_count;
-pub use bench::split_number;
-pub use bench::told_checked;
-pub use bench::told_reassembled;
+pub use bench_answers::split_count;
+pub use bench_answers::split_number;
+pub use bench_answers::told_checked;
+pub use bench_answers::told_reassembled;
 pub use frames::after_numbers;
 pub use frames::builder_from;
 pub use frames::builder_numbers;

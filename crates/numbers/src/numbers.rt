@@ -1,7 +1,7 @@
 // Numbers for what C does not have: a destination that may be missing, and a refusal.
 ghost use mathlib.Core.Path.{_≡_};
 ghost use Rattle.base.specs.Pick.{pick};
-ghost use Rattle.can_id.specs.Build.{answerOf, numberOf, carriedOf};
+ghost use Rattle.can_id.specs.Build.{ofBuilt, errorNumber, errorCarries};
 ghost use Rattle.numbers.specs.Numbers.{flagOn, byteOn, wordOn, toAddress, addressOf, codeOf, valueOf, carriesOf};
 use can_id::Built;
 use can_id::CanIdBuildError;
@@ -67,7 +67,7 @@ pub fn number_of(destination: Destination) -> u16
 }
 
 pub fn refusal(error: CanIdBuildError) -> u32
-    ensures { λ r. ⌜ r ≡ numberOf error ⌝ }
+    ensures { λ r. ⌜ r ≡ errorNumber error ⌝ }
 {
     match error {
         CanIdBuildError::InvalidData => 2,
@@ -80,7 +80,7 @@ pub fn refusal(error: CanIdBuildError) -> u32
 }
 
 pub fn carried(error: CanIdBuildError) -> u32
-    ensures { λ r. ⌜ r ≡ carriesOf (carriedOf error) ⌝ }
+    ensures { λ r. ⌜ r ≡ carriesOf (errorCarries error) ⌝ }
 {
     match error {
         CanIdBuildError::InvalidData => 0,
@@ -94,7 +94,7 @@ pub fn carried(error: CanIdBuildError) -> u32
 
 // The refusal's number or 0; in `value` the identifier, or what the refusal carries.
 pub fn answered(built: Built, value: &mut u32) -> u32
-    ensures { λ r. ⌜ (r ≡ codeOf (answerOf built)) × (now (value .exit) ≡ valueOf (answerOf built)) ⌝ }
+    ensures { λ r. ⌜ (r ≡ codeOf (ofBuilt built)) × (now (value .exit) ≡ valueOf (ofBuilt built)) ⌝ }
 {
     match built {
         Built::Id(id) => {

@@ -2,11 +2,11 @@
 ghost use mathlib.Core.Path.{_≡_};
 ghost use Prim.Native.Nat.{_<_, _%_};
 ghost use lib.ListN.{getD};
-ghost use Rattle.numbers.specs.Pool.{headAt, putFlag, putByte, putWord, keyLaid, sizesLaid, headLaid, headsFrom, laid, poolFrom, countersFrom, counterNumbers, kindCode, deliveredOn, Left, blank, MadeAs};
+ghost use Rattle.numbers.specs.Pool.{headAt, putFlag, putByte, putWord, keyLaid, sizesLaid, headLaid, headsFrom, laid, poolFrom, countersFrom, counterNumbers, kindCode, deliveredOn, CallLeft, blankHeads, MadeAs};
 use crate::byte_on;
 use crate::flag_on;
 use crate::word_on;
-use assembler::Made;
+use assembler::MadePool;
 use assembler::POOL_BYTES;
 use assembler::Pool;
 use assembler::Received;
@@ -206,7 +206,7 @@ pub fn leave(
     payload: &mut [u8; MAX_FAST_PACKET_PAYLOAD],
     length: &mut usize,
 ) -> u32
-    ensures { λ code. ⌜ Left r (now (heads .entry)) (now (payload .entry)) code (now (heads .exit)) (now (bytes .exit)) (now (counters .exit)) (now (payload .exit)) (now (length .exit)) ⌝ }
+    ensures { λ code. ⌜ CallLeft r (now (heads .entry)) (now (payload .entry)) code (now (heads .exit)) (now (bytes .exit)) (now (counters .exit)) (now (payload .exit)) (now (length .exit)) ⌝ }
 {
     let pool = r.pool;
     let h = pool.heads;
@@ -225,14 +225,14 @@ pub fn leave(
 // ---- a pool made
 
 fn fresh_heads(heads: &mut [u64; 64], h: [Head; POOL_LIMIT])
-    ensures { λ _. ⌜ now (heads .exit) ≡ laid 8 h blank ⌝ }
+    ensures { λ _. ⌜ now (heads .exit) ≡ laid 8 h blankHeads ⌝ }
 {
     *heads = [0; 64];
     put_heads(heads, h);
 }
 
 pub fn leave_made(
-    made: Made,
+    made: MadePool,
     heads: &mut [u64; 64],
     bytes: &mut [u8; POOL_BYTES],
     size: &mut usize,

@@ -17,22 +17,22 @@ use lib.Seq.{sets, length-take-le, take-all, drop-drop, take-append-add, drop-ap
 use Rattle.base.specs.Answer.{Answer, gives, refuses, counted}
 use Rattle.base.specs.Pick.{pick}
 use Rattle.base.proofs.Cases.{tested, less?, same?, when-eq, when-ne, when-lt, when-ge, when-true, when-false}
-use Rattle.splitter.specs.Frames.{eight, bytesOf}
+use Rattle.splitter.specs.Frames.{eight, frameBytes}
 use Rattle.oracle.specs.Ids.{isOther}
-use Rattle.oracle.specs.Frames.{indexOf, sequenceOf, oddOf, paddingAt, firstThen, laterThen, messageEnd, faultAt}
+use Rattle.oracle.specs.Frames.{benchIndex, benchSequence, oddOf, paddingAt, firstThen, laterThen, messageEnd, faultAt}
 use Rattle.oracle.proofs.VerdictLaws.{row-passed, row-refused}
-use Rattle.oracle.specs.Strict.{Message, Open, Outcome, refused, waits, whole, collectedAt, firstFrame, laterFrame, outcomeOf, before, thenOf, endOf, messagesFrom, messagesOf, payloadsOf, listFrom, roomFor, deliveredTo, arenaWith, listWith}
-use Rattle.oracle.specs.FaultNumbers.{numberOf, valuesOf}
+use Rattle.oracle.specs.Strict.{BenchMessage, Open, FrameOutcome, refused, waits, whole, collectedAt, firstFrame, laterFrame, outcomeOf, before, thenOf, endOf, messagesFrom, messagesOf, payloadsOf, listFrom, roomFor, deliveredTo, arenaWith, listWith}
+use Rattle.oracle.specs.FaultNumbers.{faultNumber, faultValues}
 use Rattle.oracle.specs.Numbers.{ofReassembled}
-use Rattle.oracle.specs.inner.Scan.{headOf, missingOf, faultOf, skipped, refusedAt, taken, isRefused, stepOn, stepOf, scanOf, startOf, Counted, addedOf, rowOf, bytesLaid, rowsLaid, verdictOf, isNone}
-use Rattle.splitter.specs.declared.bench_frames.Frame.{Frame}
+use Rattle.oracle.specs.inner.Scan.{headerBytes, missingOf, faultOf, skipped, refusedAt, taken, isFaulty, stepOn, scanFrame, scanOf, startOf, Counted, addedOf, rowOf, bytesLaid, rowsLaid, verdictOf, isNone}
+use Rattle.splitter.specs.declared.Frame.{Frame}
 use Rattle.oracle.specs.declared.Scan.{Scan}
-use Rattle.oracle.specs.declared.faults.Fault.{Fault}
-use Rattle.oracle.specs.declared.faults.Fault.the-variants.{Length, Restarted, Announced, Stray, Order, Padding}
+use Rattle.oracle.specs.declared.Fault.{Fault}
+use Rattle.oracle.specs.declared.Fault.the-variants.{Length, Restarted, Announced, Stray, Order, Padding}
 use Rattle.oracle.specs.declared.faults.Standing.{Standing}
 use Rattle.oracle.specs.declared.faults.Standing.the-variants.{Clear, At}
-use Rattle.oracle.specs.declared.verdicts.Reassembled.{Reassembled}
-use Rattle.oracle.specs.declared.verdicts.Reassembled.the-variants.{Messages, Refused, Incomplete, NoRoom}
+use Rattle.oracle.specs.declared.Reassembled.{Reassembled}
+use Rattle.oracle.specs.declared.Reassembled.the-variants.{Messages, Refused, Incomplete, NoRoom}
 use Rattle.splitter.proofs.FrameLaws.{eight-long}
 use Rattle.oracle.proofs.Grows.{head-low, head-high, added-end}
 
@@ -55,13 +55,13 @@ had (some o) = o .bytes
 
 -- ---- what the code does where the paper has this outcome
 abbrev pub added : Scan → List ℕ → List ℕ
-added s bs = take (taken s bs .total - s .total) (drop (headOf bs) bs)
+added s bs = take (taken s bs .total - s .total) (drop (headerBytes bs) bs)
 
 pub record Refuses (s : Scan) (bs : List ℕ) (len k : ℕ) (vs : List ℕ) : Type 0 where
   pub why : Fault
   pub found : faultOf s bs len ≡ At why
-  pub number : numberOf why ≡ k
-  pub values : valuesOf why ≡ vs
+  pub number : faultNumber why ≡ k
+  pub values : faultValues why ≡ vs
 
 pub record Waits (s : Scan) (bs : List ℕ) (len : ℕ) (q : List ℕ) (o : Open) : Type 0 where
   pub clear : faultOf s bs len ≡ Clear
@@ -69,7 +69,7 @@ pub record Waits (s : Scan) (bs : List ℕ) (len : ℕ) (q : List ℕ) (o : Open
   pub still : taken s bs .messages ≡ s .messages
   pub bytes : q ++ added s bs ≡ o .bytes
 
-pub record Whole (s : Scan) (bs : List ℕ) (len : ℕ) (q : List ℕ) (m : Message) : Type 0 where
+pub record Whole (s : Scan) (bs : List ℕ) (len : ℕ) (q : List ℕ) (m : BenchMessage) : Type 0 where
   pub clear : faultOf s bs len ≡ Clear
   pub shut : taken s bs .missing ≡ 0
   pub one-more : taken s bs .messages ≡ s .messages + 1
@@ -77,7 +77,7 @@ pub record Whole (s : Scan) (bs : List ℕ) (len : ℕ) (q : List ℕ) (m : Mess
   pub same-size : taken s bs .announced ≡ length (m .payload)
   pub bytes : q ++ added s bs ≡ m .payload
 
-abbrev pub Does : Scan → List ℕ → ℕ → List ℕ → Outcome → Type 0
+abbrev pub Does : Scan → List ℕ → ℕ → List ℕ → FrameOutcome → Type 0
 Does s bs len q (refused k vs) = Refuses s bs len k vs
 Does s bs len q (waits o) = Waits s bs len q o
 Does s bs len q (whole m) = Whole s bs len q m
@@ -90,7 +90,7 @@ abbrev firstOf : Scan → List ℕ → Standing
 firstOf s bs = firstThen (s .n) (s .missing) (getD bs 1 0) (paddingOf s bs)
 
 abbrev laterOf : Scan → List ℕ → Standing
-laterOf s bs = laterThen (s .n) (s .missing) (s .sequence) (s .index) (sequenceOf bs) (indexOf bs) (paddingOf s bs)
+laterOf s bs = laterThen (s .n) (s .missing) (s .sequence) (s .index) (benchSequence bs) (benchIndex bs) (paddingOf s bs)
 
 -- the message's bytes end where those that it lacks do
 both : (t : Bool) (a b : ℕ) → pick t (2 + a) (1 + b) ≡ pick t 2 1 + pick t a b
@@ -98,18 +98,18 @@ unfolding pick
 both true a b = refl
 both false a b = refl
 
-end-is : (s : Scan) (bs : List ℕ) → messageEnd (s .missing) (getD bs 0 0) (getD bs 1 0) ≡ headOf bs + missingOf s bs
-unfolding messageEnd headOf missingOf
-end-is s bs = both (eqb (indexOf bs) 0) (getD bs 1 0) (s .missing)
+end-is : (s : Scan) (bs : List ℕ) → messageEnd (s .missing) (getD bs 0 0) (getD bs 1 0) ≡ headerBytes bs + missingOf s bs
+unfolding messageEnd headerBytes missingOf
+end-is s bs = both (eqb (benchIndex bs) 0) (getD bs 1 0) (s .missing)
 
 -- ---- a frame that passes every test but that of its padding
 module _ (s : Scan) (bs : List ℕ) (len : ℕ) (q : List ℕ) (a sq ix : ℕ) (long : length bs ≡ 8) (pads : faultOf s bs len ≡ paddingOf s bs)
-    (lacks : missingOf s bs + length q ≡ a) (some-left : 1 ≤ missingOf s bs) (es : sequenceOf bs ≡ sq) (ea : pick (eqb (indexOf bs) 0) (getD bs 1 0) (s .announced) ≡ a) (ei : indexOf bs + 1 ≡ ix) where
+    (lacks : missingOf s bs + length q ≡ a) (some-left : 1 ≤ missingOf s bs) (es : benchSequence bs ≡ sq) (ea : pick (eqb (benchIndex bs) 0) (getD bs 1 0) (s .announced) ≡ a) (ei : benchIndex bs + 1 ≡ ix) where
   abbrev m : ℕ
   m = missingOf s bs
 
   abbrev h : ℕ
-  h = headOf bs
+  h = headerBytes bs
 
   abbrev b : List ℕ
   b = drop h bs
@@ -140,8 +140,8 @@ module _ (s : Scan) (bs : List ℕ) (len : ℕ) (q : List ℕ) (a sq ix : ℕ) (
   stays-open : 8 - h < m → Does s bs len q (collectedAt (s .n) opened)
   unfolding collectedAt taken oddOf
   stays-open k =
-      let lo : 1 ≤ headOf bs = head-low bs in
-      let hi : headOf bs ≤ 2 = head-high bs in
+      let lo : 1 ≤ headerBytes bs = head-low bs in
+      let hi : headerBytes bs ≤ 2 = head-high bs in
       let g : length (q ++ b) < a = omega (arith, grown) in
       let z : drop (h + m) bs ≡ [] = drop-of-length-le bs {i = h + m} (omega arith) in
       let r : pick (ltb (8 - h) m) (8 - h) m ≡ 8 - h = sym (when-lt (8 - h) m k refl) in
@@ -156,7 +156,7 @@ module _ (s : Scan) (bs : List ℕ) (len : ℕ) (q : List ℕ) (a sq ix : ℕ) (
       })
 
   gets-whole : m ≤ 8 - h → Does s bs len q (collectedAt (s .n) opened)
-  unfolding collectedAt taken numberOf valuesOf
+  unfolding collectedAt taken faultNumber faultValues
   gets-whole k =
       let g : a ≤ length (q ++ b) = omega (arith, grown) in
       let r : pick (ltb (8 - h) m) (8 - h) m ≡ m = sym (when-ge (8 - h) m k refl) in
@@ -189,13 +189,13 @@ module _ (s : Scan) (bs : List ℕ) (len : ℕ) (q : List ℕ) (a sq ix : ℕ) (
 -- ---- one frame
 module _ (s : Scan) (bs : List ℕ) (len : ℕ) (long : length bs ≡ 8) (full : len ≡ 8) where
   -- index 0
-  module _ (zeroth : indexOf bs ≡ 0) where
+  module _ (zeroth : benchIndex bs ≡ 0) where
     first-fault : {x : Standing} → x ≡ firstOf s bs → x ≡ faultOf s bs len
     unfolding faultAt
     first-fault e = when-eq _ _ full (when-eq _ _ zeroth e)
 
-    first-head : headOf bs ≡ 2
-    unfolding headOf
+    first-head : headerBytes bs ≡ 2
+    unfolding headerBytes
     first-head = sym (when-eq _ _ zeroth refl)
 
     first-missing : missingOf s bs ≡ getD bs 1 0
@@ -205,14 +205,14 @@ module _ (s : Scan) (bs : List ℕ) (len : ℕ) (long : length bs ≡ 8) (full :
     byte-there : (getD bs 1 0 ≡ 0 → ⊥) → 1 ≤ missingOf s bs
     byte-there x = same? (getD bs 1 0) 0 (λ e. absurd (x e)) (λ y. omega (arith, first-missing))
 
-    first-passed : s .missing ≡ 0 → (getD bs 1 0 ≡ 0 → ⊥) → getD bs 1 0 ≤ 223 → Does s bs len [] (collectedAt (s .n) (record { sequence = sequenceOf bs; announced = getD bs 1 0; index = 1; bytes = drop 2 bs }))
+    first-passed : s .missing ≡ 0 → (getD bs 1 0 ≡ 0 → ⊥) → getD bs 1 0 ≤ 223 → Does s bs len [] (collectedAt (s .n) (record { sequence = benchSequence bs; announced = getD bs 1 0; index = 1; bytes = drop 2 bs }))
     first-passed k x y =
         let f : faultOf s bs len ≡ paddingOf s bs = sym (first-fault (when-ge _ _ {a = 0} {b = s .missing} (omega arith) (when-ne _ _ x (when-ge _ _ {a = 223} {b = getD bs 1 0} y refl)))) in
-        subst (λ (n : ℕ). Does s bs len [] (collectedAt (s .n) (record { sequence = sequenceOf bs; announced = getD bs 1 0; index = 1; bytes = drop n bs }))) first-head
-        (collects s bs len [] (getD bs 1 0) (sequenceOf bs) 1 long f (omega (arith, first-missing)) (byte-there x) refl (sym (when-eq _ _ zeroth refl)) (omega (arith, zeroth)))
+        subst (λ (n : ℕ). Does s bs len [] (collectedAt (s .n) (record { sequence = benchSequence bs; announced = getD bs 1 0; index = 1; bytes = drop n bs }))) first-head
+        (collects s bs len [] (getD bs 1 0) (benchSequence bs) 1 long f (omega (arith, first-missing)) (byte-there x) refl (sym (when-eq _ _ zeroth refl)) (omega (arith, zeroth)))
 
     first-does : (o : Option Open) → Knows s o → Does s bs len (had o) (firstFrame (s .n) o bs)
-    unfolding firstFrame numberOf valuesOf
+    unfolding firstFrame faultNumber faultValues
     first-does (some o) k =
         let w : 0 < s .missing = k .waiting in
         record { why = Restarted (s .n); found = sym (first-fault (when-lt _ _ w refl)); number = refl; values = refl }
@@ -228,13 +228,13 @@ module _ (s : Scan) (bs : List ℕ) (len : ℕ) (long : length bs ≡ 8) (full :
         (λ y. subst (Does s bs len []) (when-ge _ _ {a = 223} {b = getD bs 1 0} y refl) (first-passed k x y))))
 
   -- any other index
-  module _ (other : indexOf bs ≡ 0 → ⊥) where
+  module _ (other : benchIndex bs ≡ 0 → ⊥) where
     later-fault : {x : Standing} → x ≡ laterOf s bs → x ≡ faultOf s bs len
     unfolding faultAt
     later-fault e = when-eq _ _ full (when-ne _ _ other e)
 
-    later-head : headOf bs ≡ 1
-    unfolding headOf
+    later-head : headerBytes bs ≡ 1
+    unfolding headerBytes
     later-head = sym (when-ne _ _ other refl)
 
     later-missing : missingOf s bs ≡ s .missing
@@ -246,13 +246,13 @@ module _ (s : Scan) (bs : List ℕ) (len : ℕ) (long : length bs ≡ 8) (full :
       some-missing e = let w : 1 ≤ s .missing = k .waiting in omega arith
 
       abbrev wrong : Fault
-      wrong = Order (s .n) (sequenceOf bs) (indexOf bs) (s .sequence) (s .index)
+      wrong = Order (s .n) (benchSequence bs) (benchIndex bs) (s .sequence) (s .index)
 
-      told-wrong : valuesOf wrong ≡ s .n ∷ sequenceOf bs ∷ indexOf bs ∷ o .sequence ∷ o .index ∷ []
-      unfolding valuesOf
+      told-wrong : faultValues wrong ≡ s .n ∷ benchSequence bs ∷ benchIndex bs ∷ o .sequence ∷ o .index ∷ []
+      unfolding faultValues
       told-wrong = rw (k .same-sequence, k .same-index)
 
-      later-passed : sequenceOf bs ≡ o .sequence → indexOf bs ≡ o .index
+      later-passed : benchSequence bs ≡ o .sequence → benchIndex bs ≡ o .index
           → Does s bs len (o .bytes) (collectedAt (s .n) (record { sequence = o .sequence; announced = o .announced; index = o .index + 1; bytes = o .bytes ++ drop 1 bs }))
       later-passed x y =
           let f : faultOf s bs len ≡ paddingOf s bs = sym (later-fault (when-ne _ _ some-missing (when-eq _ _ (x ∙ sym (k .same-sequence)) (when-eq _ _ (y ∙ sym (k .same-index)) refl)))) in
@@ -262,11 +262,11 @@ module _ (s : Scan) (bs : List ℕ) (len : ℕ) (long : length bs ≡ 8) (full :
           (collects s bs len (o .bytes) (o .announced) (o .sequence) (o .index + 1) long f (omega (arith, later-missing)) (omega (arith, later-missing)) x (sym (when-ne _ _ other (sym (k .same-size)))) (omega (arith, y)))
 
       later-open : Does s bs len (o .bytes) (laterFrame (s .n) (some o) bs)
-      unfolding laterFrame numberOf
+      unfolding laterFrame faultNumber
       later-open =
-          same? (sequenceOf bs) (o .sequence)
+          same? (benchSequence bs) (o .sequence)
           (λ x. subst (Does s bs len (o .bytes)) (when-eq _ _ x refl)
-          (same? (indexOf bs) (o .index)
+          (same? (benchIndex bs) (o .index)
           (λ y. subst (Does s bs len (o .bytes)) (when-eq _ _ y refl) (later-passed x y))
           (λ y. subst (Does s bs len (o .bytes)) (when-ne _ _ y refl)
           (record { why = wrong; found = sym (later-fault (when-ne _ _ some-missing (when-eq _ _ (x ∙ sym (k .same-sequence)) (when-ne _ _ (λ e. y (e ∙ k .same-index)) refl)))); number = refl; values = told-wrong }))))
@@ -274,16 +274,16 @@ module _ (s : Scan) (bs : List ℕ) (len : ℕ) (long : length bs ≡ 8) (full :
           (record { why = wrong; found = sym (later-fault (when-ne _ _ some-missing (when-ne _ _ (λ e. x (e ∙ k .same-sequence)) refl))); number = refl; values = told-wrong }))
 
     later-does : (o : Option Open) → Knows s o → Does s bs len (had o) (laterFrame (s .n) o bs)
-    unfolding laterFrame numberOf valuesOf
+    unfolding laterFrame faultNumber faultValues
     later-does (some o) k = later-open o k
     later-does none k = record { why = Stray (s .n); found = sym (later-fault (when-eq _ _ k refl)); number = refl; values = refl }
 
 pub frame-does : (s : Scan) (bs : List ℕ) (len : ℕ) → length bs ≡ 8 → (o : Option Open) → Knows s o → Does s bs len (had o) (outcomeOf (s .n) o bs len)
-unfolding outcomeOf faultAt numberOf valuesOf
+unfolding outcomeOf faultAt faultNumber faultValues
 frame-does s bs len long o k =
     same? len 8
     (λ full. subst (Does s bs len (had o)) (when-eq _ _ full refl)
-    (same? (indexOf bs) 0
+    (same? (benchIndex bs) 0
     (λ x. subst (Does s bs len (had o)) (when-eq _ _ x refl) (first-does s bs len long full x o k))
     (λ x. subst (Does s bs len (had o)) (when-ne _ _ x refl) (later-does s bs len long full x o k))))
     (λ x. subst (Does s bs len (had o)) (when-ne _ _ x refl)
@@ -291,107 +291,107 @@ frame-does s bs len long o k =
 
 -- ---- the code's last state has this refusal
 pub data Stops (e : Scan) (k : ℕ) (vs : List ℕ) : Type 0 where
-  by-fault : (f : Fault) → e .fault ≡ At f → numberOf f ≡ k → valuesOf f ≡ vs → Stops e k vs
+  by-fault : (f : Fault) → e .fault ≡ At f → faultNumber f ≡ k → faultValues f ≡ vs → Stops e k vs
   by-end : e .fault ≡ Clear → 1 ≤ e .missing → 26 ≡ k → (e .announced ∷ []) ≡ vs → Stops e k vs
 
 -- or it delivers these messages: `q` was collected before, and the first message starts at `at`
-pub record Done (s : Scan) (q : List ℕ) (fs : List Frame) (ms : List Message) : Type 0 where
+pub record Done (s : Scan) (q : List ℕ) (fs : List Frame) (ms : List BenchMessage) : Type 0 where
   pub clear : scanOf s fs .fault ≡ Clear
   pub shut : scanOf s fs .missing ≡ 0
   pub many : scanOf s fs .messages ≡ s .messages + length ms
   pub bytes : q ++ bytesLaid s fs ≡ payloadsOf ms
   pub rows : (at : ℕ) → at + length q ≡ s .total → rowsLaid s fs ≡ listFrom at ms
 
-abbrev pub Tells : Scan → List ℕ → List Frame → Answer (List Message) → Type 0
+abbrev pub Tells : Scan → List ℕ → List Frame → Answer (List BenchMessage) → Type 0
 Tells s q fs (refuses k vs) = Stops (scanOf s fs) k vs
 Tells s q fs (gives ms) = Done s q fs ms
 
 -- what is said of the frames after `f` holds of them with `f`
-module _ (s : Scan) (f : Frame) (fs : List Frame) {t : Scan} (et : stepOf s f ≡ t) (q : List ℕ) where
+module _ (s : Scan) (f : Frame) (fs : List Frame) {t : Scan} (et : scanFrame s f ≡ t) (q : List ℕ) where
   total-after : t .total ≡ s .total + length (addedOf s f)
   total-after = sym (ap (λ (u : Scan). u .total) et) ∙ added-end s f
 
-  stops-on : {k : ℕ} {vs : List ℕ} → Stops (scanOf t fs) k vs → Stops (scanOf (stepOf s f) fs) k vs
+  stops-on : {k : ℕ} {vs : List ℕ} → Stops (scanOf t fs) k vs → Stops (scanOf (scanFrame s f) fs) k vs
   stops-on {k} {vs} = subst (λ (u : Scan). Stops (scanOf u fs) k vs) (sym et)
 
   no-row : t .messages ≡ s .messages → rowOf s f ≡ []
   unfolding rowOf
-  no-row e = sym (when-ge _ _ {a = s .messages} {b = stepOf s f .messages} (omega (arith, ap (λ (u : Scan). u .messages) et)) refl)
+  no-row e = sym (when-ge _ _ {a = s .messages} {b = scanFrame s f .messages} (omega (arith, ap (λ (u : Scan). u .messages) et)) refl)
 
-  waits-on : {q′ : List ℕ} {ms : List Message} → t .messages ≡ s .messages → q ++ addedOf s f ≡ q′ → Done t q′ fs ms → Done s q (f ∷ fs) ms
+  waits-on : {q′ : List ℕ} {ms : List BenchMessage} → t .messages ≡ s .messages → q ++ addedOf s f ≡ q′ → Done t q′ fs ms → Done s q (f ∷ fs) ms
   waits-on {q′} {ms} e b d =
       let l : length q + length (addedOf s f) ≡ length q′ = sym (length-append q (addedOf s f)) ∙ ap length b in
-      let d′ : Done (stepOf s f) q′ fs ms = subst (λ (u : Scan). Done u q′ fs ms) (sym et) d in
+      let d′ : Done (scanFrame s f) q′ fs ms = subst (λ (u : Scan). Done u q′ fs ms) (sym et) d in
       record {
         clear = d′ .clear;
         shut = d′ .shut;
         many = d′ .many ∙ ap (λ (n : ℕ). n + length ms) (ap (λ (u : Scan). u .messages) et ∙ e);
-        bytes = sym (append-assoc q (addedOf s f) (bytesLaid (stepOf s f) fs)) ∙ ap (λ (x : List ℕ). x ++ bytesLaid (stepOf s f) fs) b ∙ d′ .bytes;
-        rows = λ at h. ap (λ (r : List ℕ). r ++ rowsLaid (stepOf s f) fs) (no-row e) ∙ d′ .rows at (omega (arith, added-end s f));
+        bytes = sym (append-assoc q (addedOf s f) (bytesLaid (scanFrame s f) fs)) ∙ ap (λ (x : List ℕ). x ++ bytesLaid (scanFrame s f) fs) b ∙ d′ .bytes;
+        rows = λ at h. ap (λ (r : List ℕ). r ++ rowsLaid (scanFrame s f) fs) (no-row e) ∙ d′ .rows at (omega (arith, added-end s f));
       }
 
-  one-row : {m : Message} (at : ℕ) → at + length q ≡ s .total → t .messages ≡ s .messages + 1 → t .sequence ≡ m .sequence → t .announced ≡ length (m .payload) → q ++ addedOf s f ≡ m .payload
+  one-row : {m : BenchMessage} (at : ℕ) → at + length q ≡ s .total → t .messages ≡ s .messages + 1 → t .sequence ≡ m .sequence → t .announced ≡ length (m .payload) → q ++ addedOf s f ≡ m .payload
       → rowOf s f ≡ m .sequence ∷ at ∷ length (m .payload) ∷ []
   unfolding rowOf
   one-row {m} at h e g n b =
       let l : length q + length (addedOf s f) ≡ length (m .payload) = sym (length-append q (addedOf s f)) ∙ ap length b in
       let z : t .total - t .announced ≡ at = omega (arith, total-after) in
-      sym (when-lt _ _ {a = s .messages} {b = stepOf s f .messages} (omega (arith, ap (λ (u : Scan). u .messages) et)) refl)
+      sym (when-lt _ _ {a = s .messages} {b = scanFrame s f .messages} (omega (arith, ap (λ (u : Scan). u .messages) et)) refl)
       ∙ ap (λ (u : Scan). u .sequence ∷ (u .total - u .announced) ∷ u .announced ∷ []) et
       ∙ rw (g, z, n)
 
-  gets-one : {m : Message} {ms : List Message} → t .messages ≡ s .messages + 1 → t .sequence ≡ m .sequence → t .announced ≡ length (m .payload) → q ++ addedOf s f ≡ m .payload
+  gets-one : {m : BenchMessage} {ms : List BenchMessage} → t .messages ≡ s .messages + 1 → t .sequence ≡ m .sequence → t .announced ≡ length (m .payload) → q ++ addedOf s f ≡ m .payload
       → Done t [] fs ms → Done s q (f ∷ fs) (m ∷ ms)
   unfolding payloadsOf listFrom
   gets-one {m} {ms} e g n b d =
       let l : length q + length (addedOf s f) ≡ length (m .payload) = sym (length-append q (addedOf s f)) ∙ ap length b in
-      let d′ : Done (stepOf s f) [] fs ms = subst (λ (u : Scan). Done u [] fs ms) (sym et) d in
+      let d′ : Done (scanFrame s f) [] fs ms = subst (λ (u : Scan). Done u [] fs ms) (sym et) d in
       record {
         clear = d′ .clear;
         shut = d′ .shut;
         many = d′ .many ∙ ap (λ (k : ℕ). k + length ms) (ap (λ (u : Scan). u .messages) et ∙ e) ∙ omega arith;
-        bytes = sym (append-assoc q (addedOf s f) (bytesLaid (stepOf s f) fs)) ∙ ap (λ (x : List ℕ). x ++ bytesLaid (stepOf s f) fs) b ∙ ap (λ (x : List ℕ). m .payload ++ x) (d′ .bytes);
-        rows = λ at h. ap (λ (r : List ℕ). r ++ rowsLaid (stepOf s f) fs) (one-row at h e g n b) ∙ ap (λ (r : List ℕ). m .sequence ∷ at ∷ length (m .payload) ∷ r) (d′ .rows (at + length (m .payload)) (omega (arith, added-end s f)));
+        bytes = sym (append-assoc q (addedOf s f) (bytesLaid (scanFrame s f) fs)) ∙ ap (λ (x : List ℕ). x ++ bytesLaid (scanFrame s f) fs) b ∙ ap (λ (x : List ℕ). m .payload ++ x) (d′ .bytes);
+        rows = λ at h. ap (λ (r : List ℕ). r ++ rowsLaid (scanFrame s f) fs) (one-row at h e g n b) ∙ ap (λ (r : List ℕ). m .sequence ∷ at ∷ length (m .payload) ∷ r) (d′ .rows (at + length (m .payload)) (omega (arith, added-end s f)));
       }
 
 -- a refusal stands
-still-refused : (s : Scan) (f : Frame) → isRefused (s .fault) ≡ true → stepOf s f ≡ s
+still-refused : (s : Scan) (f : Frame) → isFaulty (s .fault) ≡ true → scanFrame s f ≡ s
 unfolding stepOn
 still-refused s f e = sym (when-true _ _ e refl)
 
-stays : (fs : List Frame) (s : Scan) → isRefused (s .fault) ≡ true → scanOf s fs ≡ s
+stays : (fs : List Frame) (s : Scan) → isFaulty (s .fault) ≡ true → scanOf s fs ≡ s
 stays [] s e = refl
 stays (f ∷ fs) s e = ap (λ (t : Scan). scanOf t fs) (still-refused s f e) ∙ stays fs s e
 
 -- ---- the row
 module _ (s : Scan) (f : Frame) (clear : s .fault ≡ Clear) where
   abbrev bs : List ℕ
-  bs = bytesOf f
+  bs = frameBytes f
 
-  pub skips : isOther (s .source) (s .pgn) (f .id) ≡ true → stepOf s f ≡ skipped s
+  pub skips : isOther (s .source) (s .pgn) (f .id) ≡ true → scanFrame s f ≡ skipped s
   unfolding stepOn
-  skips e = sym (when-false _ _ (ap isRefused clear) (when-true _ _ e refl))
+  skips e = sym (when-false _ _ (ap isFaulty clear) (when-true _ _ e refl))
 
   module _ (own : isOther (s .source) (s .pgn) (f .id) ≡ false) where
-    pub finds : {why : Fault} → faultOf s bs (f .len) ≡ At why → stepOf s f ≡ refusedAt s (At why)
+    pub finds : {why : Fault} → faultOf s bs (f .len) ≡ At why → scanFrame s f ≡ refusedAt s (At why)
     unfolding stepOn
-    finds {why} e = sym (when-false _ _ (ap isRefused clear) (when-false _ _ own (when-true _ _ (ap isRefused e) (ap (refusedAt s) (sym e)))))
+    finds {why} e = sym (when-false _ _ (ap isFaulty clear) (when-false _ _ own (when-true _ _ (ap isFaulty e) (ap (refusedAt s) (sym e)))))
 
-    pub takes : faultOf s bs (f .len) ≡ Clear → stepOf s f ≡ taken s bs
+    pub takes : faultOf s bs (f .len) ≡ Clear → scanFrame s f ≡ taken s bs
     unfolding stepOn
-    takes e = sym (when-false _ _ (ap isRefused clear) (when-false _ _ own (when-false _ _ (ap isRefused e) refl)))
+    takes e = sym (when-false _ _ (ap isFaulty clear) (when-false _ _ own (when-false _ _ (ap isFaulty e) refl)))
 
   taken-clear : taken s bs .fault ≡ Clear
   unfolding taken
   taken-clear = clear
 
-  pub adds : stepOf s f ≡ taken s bs → addedOf s f ≡ added s bs
+  pub adds : scanFrame s f ≡ taken s bs → addedOf s f ≡ added s bs
   unfolding addedOf
-  adds e = ap (λ (u : Scan). take (u .total - s .total) (drop (headOf bs) bs)) e
+  adds e = ap (λ (u : Scan). take (u .total - s .total) (drop (headerBytes bs) bs)) e
 
-  pub skip-adds : stepOf s f ≡ skipped s → addedOf s f ≡ []
+  pub skip-adds : scanFrame s f ≡ skipped s → addedOf s f ≡ []
   unfolding addedOf
-  skip-adds e = let z : s .total - s .total ≡ 0 = omega arith in ap (λ (u : Scan). take (u .total - s .total) (drop (headOf bs) bs)) e ∙ ap (λ (n : ℕ). take n (drop (headOf bs) bs)) z
+  skip-adds e = let z : s .total - s .total ≡ 0 = omega arith in ap (λ (u : Scan). take (u .total - s .total) (drop (headerBytes bs) bs)) e ∙ ap (λ (n : ℕ). take n (drop (headerBytes bs) bs)) z
 
 pub skip-knows : (s : Scan) (o : Option Open) → Knows s o → Knows (skipped s) o
 skip-knows s none k = k
@@ -402,54 +402,54 @@ abbrev Rest : List Frame → Type 0
 Rest fs = (t : Scan) (o : Option Open) → t .fault ≡ Clear → Knows t o → Tells t (had o) fs (messagesFrom (t .source) (t .pgn) (t .n) o fs)
 
 module _ (s : Scan) (f : Frame) (fs : List Frame) (rest : Rest fs) (clear : s .fault ≡ Clear) where
-  skip-tells : (q : List ℕ) → stepOf s f ≡ skipped s → (x : Answer (List Message)) → Tells (skipped s) q fs x → Tells s q (f ∷ fs) x
+  skip-tells : (q : List ℕ) → scanFrame s f ≡ skipped s → (x : Answer (List BenchMessage)) → Tells (skipped s) q fs x → Tells s q (f ∷ fs) x
   skip-tells q e (refuses k vs) d = stops-on s f fs e q d
   skip-tells q e (gives ms) d = waits-on s f fs e q refl (ap (λ (l : List ℕ). q ++ l) (skip-adds s f clear e) ∙ append-nil q) d
 
   module _ (own : isOther (s .source) (s .pgn) (f .id) ≡ false) (q : List ℕ) where
-    wait-tells : (o : Open) → Waits s (bytesOf f) (f .len) q o → (x : Answer (List Message)) → Tells (taken s (bytesOf f)) (o .bytes) fs x → Tells s q (f ∷ fs) x
+    wait-tells : (o : Open) → Waits s (frameBytes f) (f .len) q o → (x : Answer (List BenchMessage)) → Tells (taken s (frameBytes f)) (o .bytes) fs x → Tells s q (f ∷ fs) x
     wait-tells o w (refuses k vs) d = stops-on s f fs (takes s f clear own (w .clear)) q d
     wait-tells o w (gives ms) d =
-        let e : stepOf s f ≡ taken s (bytesOf f) = takes s f clear own (w .clear) in
+        let e : scanFrame s f ≡ taken s (frameBytes f) = takes s f clear own (w .clear) in
         waits-on s f fs e q (w .still) (ap (λ (l : List ℕ). q ++ l) (adds s f clear e) ∙ w .bytes) d
 
-    whole-tells : (m : Message) → Whole s (bytesOf f) (f .len) q m → (x : Answer (List Message)) → Tells (taken s (bytesOf f)) [] fs x → Tells s q (f ∷ fs) (before m x)
+    whole-tells : (m : BenchMessage) → Whole s (frameBytes f) (f .len) q m → (x : Answer (List BenchMessage)) → Tells (taken s (frameBytes f)) [] fs x → Tells s q (f ∷ fs) (before m x)
     unfolding before
     whole-tells m w (refuses k vs) d = stops-on s f fs (takes s f clear own (w .clear)) q d
     whole-tells m w (gives ms) d =
-        let e : stepOf s f ≡ taken s (bytesOf f) = takes s f clear own (w .clear) in
+        let e : scanFrame s f ≡ taken s (frameBytes f) = takes s f clear own (w .clear) in
         gets-one s f fs e q (w .one-more) (w .same-sequence) (w .same-size) (ap (λ (l : List ℕ). q ++ l) (adds s f clear e) ∙ w .bytes) d
 
-    outcome-tells : (x : Outcome) → Does s (bytesOf f) (f .len) q x → Tells s q (f ∷ fs) (thenOf x (λ o′. messagesFrom (s .source) (s .pgn) (s .n + 1) o′ fs))
+    outcome-tells : (x : FrameOutcome) → Does s (frameBytes f) (f .len) q x → Tells s q (f ∷ fs) (thenOf x (λ o′. messagesFrom (s .source) (s .pgn) (s .n + 1) o′ fs))
     unfolding thenOf taken
     outcome-tells (refused k vs) d =
-        let e : stepOf s f ≡ refusedAt s (At (d .why)) = finds s f clear own (d .found) in
+        let e : scanFrame s f ≡ refusedAt s (At (d .why)) = finds s f clear own (d .found) in
         stops-on s f fs e q (subst (λ (u : Scan). Stops u k vs) (sym (stays fs (refusedAt s (At (d .why))) refl)) (by-fault (d .why) refl (d .number) (d .values)))
-    outcome-tells (waits o) d = wait-tells o d (messagesFrom (s .source) (s .pgn) (s .n + 1) (some o) fs) (rest (taken s (bytesOf f)) (some o) clear (d .shows))
-    outcome-tells (whole m) d = whole-tells m d (messagesFrom (s .source) (s .pgn) (s .n + 1) none fs) (rest (taken s (bytesOf f)) none clear (d .shut))
+    outcome-tells (waits o) d = wait-tells o d (messagesFrom (s .source) (s .pgn) (s .n + 1) (some o) fs) (rest (taken s (frameBytes f)) (some o) clear (d .shows))
+    outcome-tells (whole m) d = whole-tells m d (messagesFrom (s .source) (s .pgn) (s .n + 1) none fs) (rest (taken s (frameBytes f)) none clear (d .shut))
 
 pub row-tells : (fs : List Frame) → Rest fs
 unfolding messagesFrom endOf payloadsOf listFrom
 row-tells [] s none clear k = record { clear = clear; shut = k; many = omega arith; bytes = refl; rows = λ at h. refl }
 row-tells [] s (some o) clear k = by-end clear (k .waiting) refl (ap (λ (n : ℕ). n ∷ []) (k .same-size))
 row-tells (f ∷ fs) s o clear k =
-    let go : Tells s (had o) (f ∷ fs) (pick (isOther (s .source) (s .pgn) (f .id)) (messagesFrom (s .source) (s .pgn) (s .n + 1) o fs) (thenOf (outcomeOf (s .n) o (bytesOf f) (f .len)) (λ o′. messagesFrom (s .source) (s .pgn) (s .n + 1) o′ fs))) =
+    let go : Tells s (had o) (f ∷ fs) (pick (isOther (s .source) (s .pgn) (f .id)) (messagesFrom (s .source) (s .pgn) (s .n + 1) o fs) (thenOf (outcomeOf (s .n) o (frameBytes f) (f .len)) (λ o′. messagesFrom (s .source) (s .pgn) (s .n + 1) o′ fs))) =
     tested (isOther (s .source) (s .pgn) (f .id))
     (λ e. subst (Tells s (had o) (f ∷ fs)) (when-true _ _ e refl) (skip-tells s f fs (row-tells fs) clear (had o) (skips s f clear e) (messagesFrom (s .source) (s .pgn) (s .n + 1) o fs) (row-tells fs (skipped s) o clear (skip-knows s o k))))
-    (λ e. subst (Tells s (had o) (f ∷ fs)) (when-false _ _ e refl) (outcome-tells s f fs (row-tells fs) clear e (had o) (outcomeOf (s .n) o (bytesOf f) (f .len)) (frame-does s (bytesOf f) (f .len) (eight-long (f .«data»)) o k))) in
+    (λ e. subst (Tells s (had o) (f ∷ fs)) (when-false _ _ e refl) (outcome-tells s f fs (row-tells fs) clear e (had o) (outcomeOf (s .n) o (frameBytes f) (f .len)) (frame-does s (frameBytes f) (f .len) (eight-long (f .«data»)) o k))) in
     go
 
 -- ---- the answer, the list and the arena
 total-all : (fs : List Frame) (s : Scan) → scanOf s fs .total ≡ s .total + length (bytesLaid s fs)
 total-all [] s = omega arith
-total-all (f ∷ fs) s = total-all fs (stepOf s f) ∙ omega (arith, added-end s f, length-append (addedOf s f) (bytesLaid (stepOf s f) fs))
+total-all (f ∷ fs) s = total-all fs (scanFrame s f) ∙ omega (arith, added-end s f, length-append (addedOf s f) (bytesLaid (scanFrame s f) fs))
 
 -- the promise's three facts, where the code answered v and left the list l′ and the arena o′
 module _ (s : Scan) (fs : List Frame) (l o : List ℕ) where
   abbrev e : Scan
   e = scanOf s fs
 
-  pub record Kept (v : Reassembled) (x : Answer (List Message)) : Type 0 where
+  pub record Kept (v : Reassembled) (x : Answer (List BenchMessage)) : Type 0 where
     pub answer : ofReassembled v ≡ counted x
     pub none-list : isNone v ≡ true → l ≡ listWith x l
     pub none-arena : isNone v ≡ true → o ≡ arenaWith x o
@@ -477,7 +477,7 @@ module _ (s : Scan) (fs : List Frame) (l o : List ℕ) where
 
   -- a fresh start
   module _ (fresh : s .total ≡ 0) (none-yet : s .messages ≡ 0) where
-    gives-kept : (ms : List Message) → Done s [] fs ms → Kept (verdictOf (scanOf s fs) (length l) (length o)) (roomFor (length l) (length o) (gives ms))
+    gives-kept : (ms : List BenchMessage) → Done s [] fs ms → Kept (verdictOf (scanOf s fs) (length l) (length o)) (roomFor (length l) (length o) (gives ms))
     unfolding ofReassembled roomFor counted listWith arenaWith
     gives-kept ms d =
         let many : scanOf s fs .messages ≡ length ms = d .many ∙ omega arith in
@@ -500,7 +500,7 @@ module _ (s : Scan) (fs : List Frame) (l o : List ℕ) where
           some-arena = λ _. ap (sets o 0) (d .bytes);
         })))))
 
-    kept-told : (x : Answer (List Message)) → Tells s [] fs x → Kept (verdictOf (scanOf s fs) (length l) (length o)) (roomFor (length l) (length o) x)
+    kept-told : (x : Answer (List BenchMessage)) → Tells s [] fs x → Kept (verdictOf (scanOf s fs) (length l) (length o)) (roomFor (length l) (length o) x)
     unfolding roomFor
     kept-told (refuses k vs) d = stops-kept k vs d
     kept-told (gives ms) d = gives-kept ms d

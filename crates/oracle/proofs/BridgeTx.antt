@@ -16,33 +16,33 @@ use lib.Seq.{sets, sets-eq, length-sets, length-take-le, take-append-seam, getD-
 use Rattle.base.specs.Answer.{Answer, gives, refuses}
 use Rattle.base.specs.Pick.{pick}
 use Rattle.base.proofs.Cases.{tested, less?, same?, pick-all, when-eq, when-ne, when-lt, when-ge, when-true, when-false}
-use Rattle.splitter.specs.Frames.{eight, bytesOf}
+use Rattle.splitter.specs.Frames.{eight, frameBytes}
 use Rattle.oracle.specs.Ids.{isOther}
 use Rattle.oracle.specs.Claims.{claimAfter}
 use Rattle.oracle.specs.declared.bench_ids.Claim.{Claim}
 use Rattle.oracle.specs.declared.bench_ids.Claim.the-variants.{Awaited, Made, Missed}
-use Rattle.oracle.specs.Frames.{indexOf, sequenceOf, oddOf}
-use Rattle.oracle.specs.Strict.{Message, Open, Outcome, refused, waits, whole, collectedAt, firstFrame, laterFrame, outcomeOf, before, thenOf, endOf, messagesFrom, messagesOf}
+use Rattle.oracle.specs.Frames.{benchIndex, benchSequence, oddOf}
+use Rattle.oracle.specs.Strict.{BenchMessage, Open, FrameOutcome, refused, waits, whole, collectedAt, firstFrame, laterFrame, outcomeOf, before, thenOf, endOf, messagesFrom, messagesOf}
 use Rattle.oracle.specs.Check.{follows, eachFrom, isClaimed, sentOf, checkTxOf}
 use Rattle.oracle.specs.Messages.{hoursOf, offFrom, messageOf}
-use Rattle.oracle.specs.FaultNumbers.{numberOf, valuesOf}
+use Rattle.oracle.specs.FaultNumbers.{faultNumber, faultValues}
 use Rattle.oracle.specs.Numbers.{ofReassembled, ofChecked}
-use Rattle.oracle.specs.inner.Scan.{headOf, faultOf, skipped, refusedAt, taken, isRefused, stepOn, stepOf, scanOf, startOf, Counted, addedOf}
+use Rattle.oracle.specs.inner.Scan.{headerBytes, faultOf, skipped, refusedAt, taken, isFaulty, stepOn, scanFrame, scanOf, startOf, Counted, addedOf}
 use Rattle.oracle.specs.inner.Tx.{isBad, bufferOf, badOf, lastOf, isUnclaimed, txOf, txAll, txStart, overOf, faultyOf, ranOf, checkedOf}
-use Rattle.splitter.specs.declared.bench_frames.Frame.{Frame}
+use Rattle.splitter.specs.declared.Frame.{Frame}
 use Rattle.oracle.specs.declared.Scan.{Scan}
 use Rattle.oracle.specs.declared.Tx.{Tx}
-use Rattle.oracle.specs.declared.faults.Fault.{Fault}
+use Rattle.oracle.specs.declared.Fault.{Fault}
 use Rattle.oracle.specs.declared.faults.Standing.{Standing}
 use Rattle.oracle.specs.declared.faults.Standing.the-variants.{Clear, At}
-use Rattle.oracle.specs.declared.verdicts.Checked.{Checked}
-use Rattle.oracle.specs.declared.verdicts.Checked.the-variants.{Good, NoCount, Over, NoClaim, Faulty, Open as OpenAt, Count, Size, Hours, Pattern, Sequence}
+use Rattle.oracle.specs.declared.Checked.{Checked}
+use Rattle.oracle.specs.declared.Checked.the-variants.{Good, NoCount, Over, NoClaim, Faulty, Open as OpenAt, Count, Size, Hours, Pattern, Sequence}
 use Rattle.splitter.proofs.FrameLaws.{eight-long}
 use Rattle.oracle.proofs.Grows.{added-end}
 use Rattle.oracle.proofs.Bridge.{Shows, Knows, had, added, Does, Refuses, Waits, Whole, frame-does, Stops, by-fault, by-end, Done, Tells, row-tells, skips, finds, takes, adds, skip-adds, skip-knows}
 
 -- ---- what a frame does not change
-source-kept : (s : Scan) (f : Frame) → stepOf s f .source ≡ s .source
+source-kept : (s : Scan) (f : Frame) → scanFrame s f .source ≡ s .source
 unfolding stepOn taken
 source-kept s f = pick-all (λ (t : Scan). t .source ≡ s .source) _ refl (pick-all (λ (t : Scan). t .source ≡ s .source) _ refl (pick-all (λ (t : Scan). t .source ≡ s .source) _ refl refl))
 
@@ -96,7 +96,7 @@ abbrev Fits : Option Open → Type 0
 Fits none = Unit {0}
 Fits (some o) = o .announced ≤ 223
 
-abbrev FitsIn : Outcome → Type 0
+abbrev FitsIn : FrameOutcome → Type 0
 FitsIn (refused k vs) = Unit {0}
 FitsIn (waits o) = o .announced ≤ 223
 FitsIn (whole m) = length (m .payload) ≤ 223
@@ -115,7 +115,7 @@ outcome-fits n none bs len h =
     (pick-all FitsIn _ tt
     (less? 223 (getD bs 1 0)
     (λ x. subst FitsIn (when-lt _ _ x refl) tt)
-    (λ x. subst FitsIn (when-ge _ _ {a = 223} {b = getD bs 1 0} x refl) (collected-fits n (record { sequence = sequenceOf bs; announced = getD bs 1 0; index = 1; bytes = drop 2 bs }) x))))
+    (λ x. subst FitsIn (when-ge _ _ {a = 223} {b = getD bs 1 0} x refl) (collected-fits n (record { sequence = benchSequence bs; announced = getD bs 1 0; index = 1; bytes = drop 2 bs }) x))))
     tt)
     tt
 outcome-fits n (some o) bs len h =
@@ -134,7 +134,7 @@ laid-after l q v p eq ep h =
     let f : sets l (length q) v ≡ p ++ drop (length q + length v) l = e ∙ ap (λ (x : List ℕ). x ++ v ++ drop (length q + length v) l) eq ∙ ap (λ (x : List ℕ). x ++ drop (length q + length v) l) ep in
     ap (take (length p)) f ∙ take-append-seam p (drop (length q + length v) l)
 
-module _ (t : Tx) (f : Frame) {a : Scan} (ea : stepOf (t .scan) f ≡ a) (q p : List ℕ) (starts : take (length q) (t .buffer) ≡ q) (grows : q ++ addedOf (t .scan) f ≡ p)
+module _ (t : Tx) (f : Frame) {a : Scan} (ea : scanFrame (t .scan) f ≡ a) (q p : List ℕ) (starts : take (length q) (t .buffer) ≡ q) (grows : q ++ addedOf (t .scan) f ≡ p)
     (stands : a .announced - a .missing ≡ length p) (fits : length p ≤ length (t .buffer)) where
   buffer-at : a .announced - a .missing - (a .total - t .scan .total) ≡ length q
   buffer-at =
@@ -171,7 +171,7 @@ follow-same i last sequence =
     same? i 0 (λ h. rw (eq-eqb i 0 h)) (λ h. rw (ne-eqb i 0 h, e))
 
 -- where the code tells a fault of message i, or none, the paper tells it, or goes on
-module _ (base i last : ℕ) (m : Message) (ms : List Message) (l : List ℕ) (starts : take (length (m .payload)) l ≡ m .payload) where
+module _ (base i last : ℕ) (m : BenchMessage) (ms : List BenchMessage) (l : List ℕ) (starts : take (length (m .payload)) l ≡ m .payload) where
   abbrev p : List ℕ
   p = m .payload
 
@@ -246,46 +246,46 @@ pub record Holds (t : Tx) (o : Option Open) : Type 0 where
   pub fits : Fits o
 
 -- the first bad message of those that the row gives
-abbrev pub BadTells : Tx → List Frame → Answer (List Message) → Type 0
+abbrev pub BadTells : Tx → List Frame → Answer (List BenchMessage) → Type 0
 BadTells t fs (refuses k vs) = Unit {0}
 BadTells t fs (gives ms) = ofChecked (txAll t fs .bad) ≡ pick (isBad (t .bad)) (ofChecked (t .bad)) (eachFrom (t .base) (t .scan .messages) (previousOf (t .scan .messages) (t .last)) ms)
 
 -- a frame that makes no message whole
-module _ (t : Tx) (f : Frame) (fs : List Frame) {a : Scan} (ea : stepOf (t .scan) f ≡ a) (same : a .messages ≡ t .scan .messages) where
-  messages-same : stepOf (t .scan) f .messages ≡ t .scan .messages
+module _ (t : Tx) (f : Frame) (fs : List Frame) {a : Scan} (ea : scanFrame (t .scan) f ≡ a) (same : a .messages ≡ t .scan .messages) where
+  messages-same : scanFrame (t .scan) f .messages ≡ t .scan .messages
   messages-same = ap (λ (u : Scan). u .messages) ea ∙ same
 
   bad-none : txOf t f .bad ≡ pick (isBad (t .bad)) (t .bad) Good
   unfolding txOf badOf
-  bad-none = ap (pick (isBad (t .bad)) (t .bad)) (sym (when-ge _ _ {a = t .scan .messages} {b = stepOf (t .scan) f .messages} (omega (arith, messages-same)) refl))
+  bad-none = ap (pick (isBad (t .bad)) (t .bad)) (sym (when-ge _ _ {a = t .scan .messages} {b = scanFrame (t .scan) f .messages} (omega (arith, messages-same)) refl))
 
   last-none : txOf t f .last ≡ t .last
   unfolding txOf lastOf
-  last-none = sym (when-ge _ _ {a = t .scan .messages} {b = stepOf (t .scan) f .messages} (omega (arith, messages-same)) refl)
+  last-none = sym (when-ge _ _ {a = t .scan .messages} {b = scanFrame (t .scan) f .messages} (omega (arith, messages-same)) refl)
 
-  none-tells : (ms : List Message) → BadTells (txOf t f) fs (gives ms) → BadTells t (f ∷ fs) (gives ms)
+  none-tells : (ms : List BenchMessage) → BadTells (txOf t f) fs (gives ms) → BadTells t (f ∷ fs) (gives ms)
   unfolding txOf pick
   none-tells ms d =
       let all : Answer ℕ = eachFrom (t .base) (t .scan .messages) (previousOf (t .scan .messages) (t .last)) ms in
       d
-      ∙ ap (λ (b : Checked). pick (isBad b) (ofChecked b) (eachFrom (t .base) (stepOf (t .scan) f .messages) (previousOf (stepOf (t .scan) f .messages) (lastOf t (stepOf (t .scan) f))) ms)) bad-none
-      ∙ ap (λ (n : ℕ). pick (isBad (pick (isBad (t .bad)) (t .bad) Good)) (ofChecked (pick (isBad (t .bad)) (t .bad) Good)) (eachFrom (t .base) n (previousOf n (lastOf t (stepOf (t .scan) f))) ms)) messages-same
+      ∙ ap (λ (b : Checked). pick (isBad b) (ofChecked b) (eachFrom (t .base) (scanFrame (t .scan) f .messages) (previousOf (scanFrame (t .scan) f .messages) (lastOf t (scanFrame (t .scan) f))) ms)) bad-none
+      ∙ ap (λ (n : ℕ). pick (isBad (pick (isBad (t .bad)) (t .bad) Good)) (ofChecked (pick (isBad (t .bad)) (t .bad) Good)) (eachFrom (t .base) n (previousOf n (lastOf t (scanFrame (t .scan) f))) ms)) messages-same
       ∙ ap (λ (n : ℕ). pick (isBad (pick (isBad (t .bad)) (t .bad) Good)) (ofChecked (pick (isBad (t .bad)) (t .bad) Good)) (eachFrom (t .base) (t .scan .messages) (previousOf (t .scan .messages) n) ms)) last-none
       ∙ first-stands (t .bad) Good all all refl
 
 -- a frame that makes one whole
-module _ (t : Tx) (f : Frame) (fs : List Frame) {a : Scan} (ea : stepOf (t .scan) f ≡ a) (m : Message) (more : a .messages ≡ t .scan .messages + 1)
+module _ (t : Tx) (f : Frame) (fs : List Frame) {a : Scan} (ea : scanFrame (t .scan) f ≡ a) (m : BenchMessage) (more : a .messages ≡ t .scan .messages + 1)
     (same-sequence : a .sequence ≡ m .sequence) (same-size : a .announced ≡ length (m .payload)) (starts : take (length (m .payload)) (bufferOf t f) ≡ m .payload) where
   abbrev i : ℕ
   i = t .scan .messages
 
-  messages-more : stepOf (t .scan) f .messages ≡ t .scan .messages + 1
+  messages-more : scanFrame (t .scan) f .messages ≡ t .scan .messages + 1
   messages-more = ap (λ (u : Scan). u .messages) ea ∙ more
 
-  sequence-is : stepOf (t .scan) f .sequence ≡ m .sequence
+  sequence-is : scanFrame (t .scan) f .sequence ≡ m .sequence
   sequence-is = ap (λ (u : Scan). u .sequence) ea ∙ same-sequence
 
-  size-is : stepOf (t .scan) f .announced ≡ length (m .payload)
+  size-is : scanFrame (t .scan) f .announced ≡ length (m .payload)
   size-is = ap (λ (u : Scan). u .announced) ea ∙ same-size
 
   abbrev judged : Checked
@@ -295,24 +295,24 @@ module _ (t : Tx) (f : Frame) (fs : List Frame) {a : Scan} (ea : stepOf (t .scan
   unfolding txOf badOf
   bad-one =
       ap (pick (isBad (t .bad)) (t .bad))
-      (sym (when-lt _ _ {a = i} {b = stepOf (t .scan) f .messages} (omega (arith, messages-more)) refl)
-      ∙ ap (λ (q : ℕ). messageOf (t .base) i (t .last) q (stepOf (t .scan) f .announced) (bufferOf t f)) sequence-is
+      (sym (when-lt _ _ {a = i} {b = scanFrame (t .scan) f .messages} (omega (arith, messages-more)) refl)
+      ∙ ap (λ (q : ℕ). messageOf (t .base) i (t .last) q (scanFrame (t .scan) f .announced) (bufferOf t f)) sequence-is
       ∙ ap (λ (n : ℕ). messageOf (t .base) i (t .last) (m .sequence) n (bufferOf t f)) size-is)
 
   last-one : txOf t f .last ≡ m .sequence
   unfolding txOf lastOf
-  last-one = sym (when-lt _ _ {a = i} {b = stepOf (t .scan) f .messages} (omega (arith, messages-more)) refl) ∙ sequence-is
+  last-one = sym (when-lt _ _ {a = i} {b = scanFrame (t .scan) f .messages} (omega (arith, messages-more)) refl) ∙ sequence-is
 
   previous-one : previousOf (i + 1) (m .sequence) ≡ some (m .sequence)
   previous-one = sym (when-ne _ _ {a = i + 1} {b = 0} (λ e. omega arith) refl)
 
-  one-tells : (ms : List Message) → BadTells (txOf t f) fs (gives ms) → BadTells t (f ∷ fs) (gives (m ∷ ms))
+  one-tells : (ms : List BenchMessage) → BadTells (txOf t f) fs (gives ms) → BadTells t (f ∷ fs) (gives (m ∷ ms))
   unfolding txOf
   one-tells ms d =
       let rest : Answer ℕ = eachFrom (t .base) (i + 1) (some (m .sequence)) ms in
       d
-      ∙ ap (λ (b : Checked). pick (isBad b) (ofChecked b) (eachFrom (t .base) (stepOf (t .scan) f .messages) (previousOf (stepOf (t .scan) f .messages) (lastOf t (stepOf (t .scan) f))) ms)) bad-one
-      ∙ ap (λ (n : ℕ). pick (isBad (pick (isBad (t .bad)) (t .bad) judged)) (ofChecked (pick (isBad (t .bad)) (t .bad) judged)) (eachFrom (t .base) n (previousOf n (lastOf t (stepOf (t .scan) f))) ms)) messages-more
+      ∙ ap (λ (b : Checked). pick (isBad b) (ofChecked b) (eachFrom (t .base) (scanFrame (t .scan) f .messages) (previousOf (scanFrame (t .scan) f .messages) (lastOf t (scanFrame (t .scan) f))) ms)) bad-one
+      ∙ ap (λ (n : ℕ). pick (isBad (pick (isBad (t .bad)) (t .bad) judged)) (ofChecked (pick (isBad (t .bad)) (t .bad) judged)) (eachFrom (t .base) n (previousOf n (lastOf t (scanFrame (t .scan) f))) ms)) messages-more
       ∙ ap (λ (n : ℕ). pick (isBad (pick (isBad (t .bad)) (t .bad) judged)) (ofChecked (pick (isBad (t .bad)) (t .bad) judged)) (eachFrom (t .base) (i + 1) (previousOf (i + 1) n) ms)) last-one
       ∙ ap (λ (o : Option ℕ). pick (isBad (pick (isBad (t .bad)) (t .bad) judged)) (ofChecked (pick (isBad (t .bad)) (t .bad) judged)) (eachFrom (t .base) (i + 1) o ms)) previous-one
       ∙ first-stands (t .bad) judged rest (eachFrom (t .base) i (previousOf i (t .last)) (m ∷ ms)) (message-tells (t .base) i (t .last) m ms (bufferOf t f) starts)
@@ -335,13 +335,13 @@ module _ (t : Tx) (f : Frame) (fs : List Frame) (o : Option Open) (hold : Holds 
   s = t .scan
 
   abbrev bs : List ℕ
-  bs = bytesOf f
+  bs = frameBytes f
 
-  none-all : {a : Scan} → stepOf (t .scan) f ≡ a → a .messages ≡ t .scan .messages → (x : Answer (List Message)) → BadTells (txOf t f) fs x → BadTells t (f ∷ fs) x
+  none-all : {a : Scan} → scanFrame (t .scan) f ≡ a → a .messages ≡ t .scan .messages → (x : Answer (List BenchMessage)) → BadTells (txOf t f) fs x → BadTells t (f ∷ fs) x
   none-all ea same (refuses k vs) d = tt
   none-all ea same (gives ms) d = none-tells t f fs ea same ms d
 
-  hold-next : {a : Scan} → stepOf (t .scan) f ≡ a → (o′ : Option Open) → a .fault ≡ Clear → Knows a o′ → take (length (had o′)) (bufferOf t f) ≡ had o′ → Fits o′ → Holds (txOf t f) o′
+  hold-next : {a : Scan} → scanFrame (t .scan) f ≡ a → (o′ : Option Open) → a .fault ≡ Clear → Knows a o′ → take (length (had o′)) (bufferOf t f) ≡ had o′ → Fits o′ → Holds (txOf t f) o′
   unfolding txOf
   hold-next ea o′ c k b g = record {
     clear = ap (λ (u : Scan). u .fault) ea ∙ c;
@@ -351,50 +351,50 @@ module _ (t : Tx) (f : Frame) (fs : List Frame) (o : Option Open) (hold : Holds 
     fits = g;
   }
 
-  rest-from : {a : Scan} → stepOf (t .scan) f ≡ a → (o′ : Option Open) → Holds (txOf t f) o′ → BadTells (txOf t f) fs (messagesFrom (a .source) (a .pgn) (a .n) o′ fs)
+  rest-from : {a : Scan} → scanFrame (t .scan) f ≡ a → (o′ : Option Open) → Holds (txOf t f) o′ → BadTells (txOf t f) fs (messagesFrom (a .source) (a .pgn) (a .n) o′ fs)
   unfolding txOf
   rest-from ea o′ h = subst (λ (u : Scan). BadTells (txOf t f) fs (messagesFrom (u .source) (u .pgn) (u .n) o′ fs)) ea (rest (txOf t f) o′ h)
 
   buffer-kept : addedOf (t .scan) f ≡ [] → bufferOf t f ≡ t .buffer
   unfolding bufferOf
-  buffer-kept e = ap (sets (t .buffer) (stepOf (t .scan) f .announced - stepOf (t .scan) f .missing - (stepOf (t .scan) f .total - t .scan .total))) e
+  buffer-kept e = ap (sets (t .buffer) (scanFrame (t .scan) f .announced - scanFrame (t .scan) f .missing - (scanFrame (t .scan) f .total - t .scan .total))) e
 
-  skip-bad : stepOf (t .scan) f ≡ skipped (t .scan) → BadTells t (f ∷ fs) (messagesFrom (t .scan .source) (t .scan .pgn) (t .scan .n + 1) o fs)
+  skip-bad : scanFrame (t .scan) f ≡ skipped (t .scan) → BadTells t (f ∷ fs) (messagesFrom (t .scan .source) (t .scan .pgn) (t .scan .n + 1) o fs)
   skip-bad e =
       let b : take (length (had o)) (bufferOf t f) ≡ had o = ap (take (length (had o))) (buffer-kept (skip-adds (t .scan) f (hold .clear) e)) ∙ hold .starts in
       none-all e refl (messagesFrom (t .scan .source) (t .scan .pgn) (t .scan .n + 1) o fs)
       (rest-from e o (hold-next e o (hold .clear) (skip-knows (t .scan) o (hold .knows)) b (hold .fits)))
 
   module _ (own : isOther (t .scan .source) (t .scan .pgn) (f .id) ≡ false) where
-    wait-bad : (p : Open) → Waits (t .scan) (bytesOf f) (f .len) (had o) p → p .announced ≤ 223 → BadTells t (f ∷ fs) (messagesFrom (t .scan .source) (t .scan .pgn) (t .scan .n + 1) (some p) fs)
+    wait-bad : (p : Open) → Waits (t .scan) (frameBytes f) (f .len) (had o) p → p .announced ≤ 223 → BadTells t (f ∷ fs) (messagesFrom (t .scan .source) (t .scan .pgn) (t .scan .n + 1) (some p) fs)
     unfolding taken
     wait-bad p w g =
-        let e : stepOf (t .scan) f ≡ taken (t .scan) (bytesOf f) = takes (t .scan) f (hold .clear) own (w .clear) in
+        let e : scanFrame (t .scan) f ≡ taken (t .scan) (frameBytes f) = takes (t .scan) f (hold .clear) own (w .clear) in
         let grows : had o ++ addedOf (t .scan) f ≡ p .bytes = ap (λ (l : List ℕ). had o ++ l) (adds (t .scan) f (hold .clear) e) ∙ w .bytes in
-        let small : length (p .bytes) ≤ 223 = shows-fit (taken (t .scan) (bytesOf f)) p (w .shows) g in
+        let small : length (p .bytes) ≤ 223 = shows-fit (taken (t .scan) (frameBytes f)) p (w .shows) g in
         let long : length (t .buffer) ≡ 223 = hold .long in
-        let b : take (length (p .bytes)) (bufferOf t f) ≡ p .bytes = buffer-starts t f e (had o) (p .bytes) (hold .starts) grows (shows-at (taken (t .scan) (bytesOf f)) p (w .shows)) (omega arith) in
+        let b : take (length (p .bytes)) (bufferOf t f) ≡ p .bytes = buffer-starts t f e (had o) (p .bytes) (hold .starts) grows (shows-at (taken (t .scan) (frameBytes f)) p (w .shows)) (omega arith) in
         none-all e (w .still) (messagesFrom (t .scan .source) (t .scan .pgn) (t .scan .n + 1) (some p) fs)
         (rest-from e (some p) (hold-next e (some p) (hold .clear) (w .shows) b g))
 
-    one-all : (m : Message) → Whole (t .scan) (bytesOf f) (f .len) (had o) m → take (length (m .payload)) (bufferOf t f) ≡ m .payload → (x : Answer (List Message)) → BadTells (txOf t f) fs x → BadTells t (f ∷ fs) (before m x)
+    one-all : (m : BenchMessage) → Whole (t .scan) (frameBytes f) (f .len) (had o) m → take (length (m .payload)) (bufferOf t f) ≡ m .payload → (x : Answer (List BenchMessage)) → BadTells (txOf t f) fs x → BadTells t (f ∷ fs) (before m x)
     unfolding before
     one-all m w b (refuses k vs) d = tt
     one-all m w b (gives ms) d = one-tells t f fs (takes (t .scan) f (hold .clear) own (w .clear)) m (w .one-more) (w .same-sequence) (w .same-size) b ms d
 
-    whole-bad : (m : Message) → Whole (t .scan) (bytesOf f) (f .len) (had o) m → length (m .payload) ≤ 223 → BadTells t (f ∷ fs) (before m (messagesFrom (t .scan .source) (t .scan .pgn) (t .scan .n + 1) none fs))
+    whole-bad : (m : BenchMessage) → Whole (t .scan) (frameBytes f) (f .len) (had o) m → length (m .payload) ≤ 223 → BadTells t (f ∷ fs) (before m (messagesFrom (t .scan .source) (t .scan .pgn) (t .scan .n + 1) none fs))
     unfolding taken
     whole-bad m w g =
-        let e : stepOf (t .scan) f ≡ taken (t .scan) (bytesOf f) = takes (t .scan) f (hold .clear) own (w .clear) in
+        let e : scanFrame (t .scan) f ≡ taken (t .scan) (frameBytes f) = takes (t .scan) f (hold .clear) own (w .clear) in
         let grows : had o ++ addedOf (t .scan) f ≡ m .payload = ap (λ (l : List ℕ). had o ++ l) (adds (t .scan) f (hold .clear) e) ∙ w .bytes in
         let long : length (t .buffer) ≡ 223 = hold .long in
-        let shut : taken (t .scan) (bytesOf f) .missing ≡ 0 = w .shut in
-        let size : taken (t .scan) (bytesOf f) .announced ≡ length (m .payload) = w .same-size in
+        let shut : taken (t .scan) (frameBytes f) .missing ≡ 0 = w .shut in
+        let size : taken (t .scan) (frameBytes f) .announced ≡ length (m .payload) = w .same-size in
         let b : take (length (m .payload)) (bufferOf t f) ≡ m .payload = buffer-starts t f e (had o) (m .payload) (hold .starts) grows (omega (arith, shut, size)) (omega arith) in
         one-all m w b (messagesFrom (t .scan .source) (t .scan .pgn) (t .scan .n + 1) none fs)
         (rest-from e none (hold-next e none (hold .clear) (w .shut) refl tt))
 
-    outcome-bad : (x : Outcome) → Does (t .scan) (bytesOf f) (f .len) (had o) x → FitsIn x → BadTells t (f ∷ fs) (thenOf x (λ o′. messagesFrom (t .scan .source) (t .scan .pgn) (t .scan .n + 1) o′ fs))
+    outcome-bad : (x : FrameOutcome) → Does (t .scan) (frameBytes f) (f .len) (had o) x → FitsIn x → BadTells t (f ∷ fs) (thenOf x (λ o′. messagesFrom (t .scan .source) (t .scan .pgn) (t .scan .n + 1) o′ fs))
     unfolding thenOf
     outcome-bad (refused k vs) d g = tt
     outcome-bad (waits p) d g = wait-bad p d g
@@ -408,8 +408,8 @@ bad-tells (f ∷ fs) t o h =
     tested (isOther (t .scan .source) (t .scan .pgn) (f .id))
     (λ e. subst (BadTells t (f ∷ fs)) (when-true _ _ e refl) (skip-bad t f fs o h (bad-tells fs) (skips (t .scan) f (h .clear) e)))
     (λ e. subst (BadTells t (f ∷ fs)) (when-false _ _ e refl)
-    (outcome-bad t f fs o h (bad-tells fs) e (outcomeOf (t .scan .n) o (bytesOf f) (f .len))
-    (frame-does (t .scan) (bytesOf f) (f .len) (eight-long (f .«data»)) o (h .knows)) (outcome-fits (t .scan .n) o (bytesOf f) (f .len) (h .fits))))
+    (outcome-bad t f fs o h (bad-tells fs) e (outcomeOf (t .scan .n) o (frameBytes f) (f .len))
+    (frame-does (t .scan) (frameBytes f) (f .len) (eight-long (f .«data»)) o (h .knows)) (outcome-fits (t .scan .n) o (frameBytes f) (f .len) (h .fits))))
 
 -- ---- the answer
 pushed : {A B : Type 0} (g : A → B) (t : Bool) (x y : A) → g (pick t x y) ≡ pick t (g x) (g y)
@@ -427,23 +427,23 @@ module _ (e : Tx) (expected base : ℕ) where
   ran-stops : (k : ℕ) (vs : List ℕ) → Stops (e .scan) k vs → ofChecked (ranOf e expected) ≡ refuses k vs
   unfolding ranOf ofChecked
   ran-stops k vs (by-fault f g n v) =
-      let r : Faulty f ≡ ranOf e expected = when-true _ _ (ap isRefused g) (sym (ap faultyOf g)) in
+      let r : Faulty f ≡ ranOf e expected = when-true _ _ (ap isFaulty g) (sym (ap faultyOf g)) in
       sym (ap ofChecked r) ∙ rw (n, v)
   ran-stops k vs (by-end g m n v) =
-      let r : OpenAt (e .scan .announced) ≡ ranOf e expected = when-false _ _ (ap isRefused g) (when-lt _ _ {a = 0} {b = e .scan .missing} m refl) in
+      let r : OpenAt (e .scan .announced) ≡ ranOf e expected = when-false _ _ (ap isFaulty g) (when-lt _ _ {a = 0} {b = e .scan .missing} m refl) in
       sym (ap ofChecked r) ∙ rw (← n, ← v)
 
   -- 33, and then the messages
-  ran-ends : (ms : List Message) → e .scan .fault ≡ Clear → e .scan .missing ≡ 0 → e .scan .messages ≡ length ms → ofChecked (e .bad) ≡ eachFrom base 0 none ms → ofChecked (ranOf e expected) ≡ sentOf expected base (gives ms)
+  ran-ends : (ms : List BenchMessage) → e .scan .fault ≡ Clear → e .scan .missing ≡ 0 → e .scan .messages ≡ length ms → ofChecked (e .bad) ≡ eachFrom base 0 none ms → ofChecked (ranOf e expected) ≡ sentOf expected base (gives ms)
   unfolding ranOf sentOf ofChecked
   ran-ends ms clear shut many each =
-      let r : pick (eqb (e .scan .messages) expected) (e .bad) (Count (e .scan .messages)) ≡ ranOf e expected = when-false _ _ (ap isRefused clear) (when-ge _ _ {a = 0} {b = e .scan .missing} (omega arith) refl) in
+      let r : pick (eqb (e .scan .messages) expected) (e .bad) (Count (e .scan .messages)) ≡ ranOf e expected = when-false _ _ (ap isFaulty clear) (when-ge _ _ {a = 0} {b = e .scan .missing} (omega arith) refl) in
       sym (ap ofChecked r) ∙ pushed ofChecked (eqb (e .scan .messages) expected) (e .bad) (Count (e .scan .messages))
       ∙ ap (λ (x : Answer ℕ). pick (eqb (e .scan .messages) expected) x (ofChecked (Count (e .scan .messages)))) each
       ∙ ap (λ (n : ℕ). pick (eqb n expected) (eachFrom base 0 none ms) (ofChecked (Count n))) many
 
-  ran-tells : (s : Scan) (fs : List Frame) → e .scan ≡ scanOf s fs → s .messages ≡ 0 → (x : Answer (List Message)) → Tells s [] fs x
-      → ((ms : List Message) → x ≡ gives ms → ofChecked (e .bad) ≡ eachFrom base 0 none ms) → ofChecked (ranOf e expected) ≡ sentOf expected base x
+  ran-tells : (s : Scan) (fs : List Frame) → e .scan ≡ scanOf s fs → s .messages ≡ 0 → (x : Answer (List BenchMessage)) → Tells s [] fs x
+      → ((ms : List BenchMessage) → x ≡ gives ms → ofChecked (e .bad) ≡ eachFrom base 0 none ms) → ofChecked (ranOf e expected) ≡ sentOf expected base x
   unfolding sentOf
   ran-tells s fs es z (refuses k vs) d each = ran-stops k vs (subst (λ (u : Scan). Stops u k vs) (sym es) d)
   ran-tells s fs es z (gives ms) d each =
@@ -457,7 +457,7 @@ module _ (fs : List Frame) (source expected base : ℕ) where
   abbrev last : Tx
   last = txAll t₀ fs
 
-  each-told : (ms : List Message) → messagesOf fs source 127489 ≡ gives ms → ofChecked (txAll (txStart source base) fs .bad) ≡ eachFrom base 0 none ms
+  each-told : (ms : List BenchMessage) → messagesOf fs source 127489 ≡ gives ms → ofChecked (txAll (txStart source base) fs .bad) ≡ eachFrom base 0 none ms
   unfolding pick
   each-told ms e = subst (BadTells t₀ fs) e (bad-tells fs t₀ none (record { clear = refl; knows = refl; long = refl; starts = refl; fits = tt }))
 

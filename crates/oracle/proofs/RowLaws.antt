@@ -8,9 +8,9 @@ use lib.Seq.{sets}
 use Rattle.splitter.specs.Frames.{countIn}
 use Rattle.oracle.specs.Rows.{frameIn, framesIn, rowIn, frameOrNone}
 use Rattle.oracle.proofs.SliceLaws.{frame-there}
-use Rattle.oracle.specs.inner.Scan.{stepOf, scanOf, addedOf, rowOf, bytesLaid, rowsLaid, Counted, Small}
+use Rattle.oracle.specs.inner.Scan.{scanFrame, scanOf, addedOf, rowOf, bytesLaid, rowsLaid, Counted, Small}
 use Rattle.oracle.specs.inner.Tx.{txOf, txAll}
-use Rattle.splitter.specs.declared.bench_frames.Frame.{Frame}
+use Rattle.splitter.specs.declared.Frame.{Frame}
 use Rattle.oracle.specs.declared.Scan.{Scan}
 use Rattle.oracle.specs.declared.Tx.{Tx}
 use Rattle.oracle.proofs.Grows.{counts, arena-more, list-more}
@@ -46,8 +46,8 @@ module _ (ids bytes lens : List ℕ) where
     pub scan-none : n ≡ countIn (length ids) (length bytes) (length lens) → scanOf s₀ (rest n 0) ≡ scanOf s₀ row
     scan-none e = ap (scanOf s₀) (all-are e)
 
-    pub scan-turn : (s : Scan) {t : Scan} {f : Frame} (i : ℕ) → n ≡ countIn (length ids) (length bytes) (length lens) → i < n → f ≡ frameOrNone ids bytes lens i → t ≡ stepOf s f → scanOf s (rest n i) ≡ scanOf s₀ row → scanOf t (rest n (i + 1)) ≡ scanOf s₀ row
-    scan-turn s i k h ef et e = ap (λ (u : Scan). scanOf u (rest n (i + 1))) (et ∙ ap (stepOf s) (ef ∙ frame-there ids bytes lens i k h)) ∙ sym (ap (scanOf s) (one-is n i h)) ∙ e
+    pub scan-turn : (s : Scan) {t : Scan} {f : Frame} (i : ℕ) → n ≡ countIn (length ids) (length bytes) (length lens) → i < n → f ≡ frameOrNone ids bytes lens i → t ≡ scanFrame s f → scanOf s (rest n i) ≡ scanOf s₀ row → scanOf t (rest n (i + 1)) ≡ scanOf s₀ row
+    scan-turn s i k h ef et e = ap (λ (u : Scan). scanOf u (rest n (i + 1))) (et ∙ ap (scanFrame s) (ef ∙ frame-there ids bytes lens i k h)) ∙ sym (ap (scanOf s) (one-is n i h)) ∙ e
 
     pub scan-done : (s : Scan) (i : ℕ) → n ≤ i → scanOf s (rest n i) ≡ scanOf s₀ row → s ≡ scanOf s₀ row
     scan-done s i h e = sym (ap (scanOf s) (none-is n i h)) ∙ e
@@ -67,7 +67,7 @@ module _ (ids bytes lens : List ℕ) where
     pub arena-none : n ≡ countIn (length ids) (length bytes) (length lens) → arenaLeft s₀ o₀ (rest n 0) ≡ arenaLeft s₀ o₀ row
     arena-none e = ap (arenaLeft s₀ o₀) (all-are e)
 
-    pub arena-turn : (s : Scan) {t : Scan} {f : Frame} (o : List ℕ) {p : List ℕ} (i : ℕ) → n ≡ countIn (length ids) (length bytes) (length lens) → i < n → f ≡ frameOrNone ids bytes lens i → t ≡ stepOf s f → p ≡ sets o (s .total) (addedOf s f)
+    pub arena-turn : (s : Scan) {t : Scan} {f : Frame} (o : List ℕ) {p : List ℕ} (i : ℕ) → n ≡ countIn (length ids) (length bytes) (length lens) → i < n → f ≡ frameOrNone ids bytes lens i → t ≡ scanFrame s f → p ≡ sets o (s .total) (addedOf s f)
         → arenaLeft s o (rest n i) ≡ arenaLeft s₀ o₀ row → arenaLeft t p (rest n (i + 1)) ≡ arenaLeft s₀ o₀ row
     arena-turn s o i k h ef et ep e =
         let g : Frame = frameIn ids bytes lens i in
@@ -80,7 +80,7 @@ module _ (ids bytes lens : List ℕ) where
     pub list-none : n ≡ countIn (length ids) (length bytes) (length lens) → listLeft s₀ o₀ (rest n 0) ≡ listLeft s₀ o₀ row
     list-none e = ap (listLeft s₀ o₀) (all-are e)
 
-    pub list-turn : (s : Scan) {t : Scan} {f : Frame} (o : List ℕ) {p : List ℕ} (i : ℕ) → n ≡ countIn (length ids) (length bytes) (length lens) → i < n → f ≡ frameOrNone ids bytes lens i → t ≡ stepOf s f → p ≡ sets o (3 * s .messages) (rowOf s f)
+    pub list-turn : (s : Scan) {t : Scan} {f : Frame} (o : List ℕ) {p : List ℕ} (i : ℕ) → n ≡ countIn (length ids) (length bytes) (length lens) → i < n → f ≡ frameOrNone ids bytes lens i → t ≡ scanFrame s f → p ≡ sets o (3 * s .messages) (rowOf s f)
         → listLeft s o (rest n i) ≡ listLeft s₀ o₀ row → listLeft t p (rest n (i + 1)) ≡ listLeft s₀ o₀ row
     list-turn s o i k h ef et ep e =
         let g : Frame = frameIn ids bytes lens i in
@@ -90,7 +90,7 @@ module _ (ids bytes lens : List ℕ) where
     pub list-done : (s : Scan) {o : List ℕ} (i : ℕ) → n ≤ i → listLeft s o (rest n i) ≡ listLeft s₀ o₀ row → o ≡ listLeft s₀ o₀ row
     list-done s {o} i h e = sym (ap (listLeft s o) (none-is n i h)) ∙ e
 
-pub counts-on : (i : ℕ) (s : Scan) {t : Scan} (f : Frame) → Counted i s → t ≡ stepOf s f → Counted (i + 1) t
+pub counts-on : (i : ℕ) (s : Scan) {t : Scan} (f : Frame) → Counted i s → t ≡ scanFrame s f → Counted (i + 1) t
 counts-on i s f c e = rw e (counts i s f c)
 
 pub counts-tx : (i : ℕ) (s : Tx) {t : Tx} (f : Frame) → Counted i (s .scan) → t ≡ txOf s f → Counted (i + 1) (t .scan)

@@ -8,7 +8,7 @@ use lib.ListN.{length, getD, drop, replicate}
 use lib.Seq.{getD-drop}
 use Rattle.base.proofs.Cases.{when-lt, when-ge}
 use Rattle.splitter.specs.Frames.{eight, countIn}
-use Rattle.splitter.specs.declared.bench_frames.Frame.{Frame}
+use Rattle.splitter.specs.declared.Frame.{Frame}
 use Rattle.oracle.specs.Rows.{frameIn, frameOrNone}
 
 -- eight bytes, one by one

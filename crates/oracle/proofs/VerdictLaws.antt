@@ -13,10 +13,10 @@ use Rattle.base.specs.Pick.{pick}
 use Rattle.base.proofs.Cases.{same?, when-eq, when-true, when-false}
 use Rattle.oracle.specs.declared.faults.Standing.{Standing}
 use Rattle.oracle.specs.declared.faults.Standing.the-variants.{Clear, At}
-use Rattle.oracle.specs.declared.faults.Fault.{Fault}
-use Rattle.oracle.specs.declared.verdicts.Checked.{Checked}
-use Rattle.oracle.specs.declared.verdicts.Reassembled.{Reassembled}
-use Rattle.oracle.specs.declared.verdicts.Reassembled.the-variants.{Refused}
+use Rattle.oracle.specs.declared.Fault.{Fault}
+use Rattle.oracle.specs.declared.Checked.{Checked}
+use Rattle.oracle.specs.declared.Reassembled.{Reassembled}
+use Rattle.oracle.specs.declared.Reassembled.the-variants.{Refused}
 use Rattle.oracle.specs.Messages.{wantAt, offFrom}
 use Rattle.oracle.specs.RowVerdict.{passedWith, verdictAt}
 

@@ -4,16 +4,16 @@ use mathlib.Core.List.{List, [], _∷_}
 use lib.ListN.{getD, drop}
 use lib.Dec.{eqb, ltb}
 use Rattle.base.specs.Pick.{pick}
-use Rattle.oracle.specs.declared.faults.Fault.the-variants.{Length, Restarted, Announced, Stray, Order, Padding}
+use Rattle.oracle.specs.declared.Fault.the-variants.{Length, Restarted, Announced, Stray, Order, Padding}
 use Rattle.oracle.specs.declared.faults.Standing.{Standing}
 use Rattle.oracle.specs.declared.faults.Standing.the-variants.{Clear, At}
 
 -- "Index .. (low 5 bits of byte 0; sequence is the top 3)"
-abbrev pub indexOf : List ℕ → ℕ
-indexOf bs = getD bs 0 0 % 32
+abbrev pub benchIndex : List ℕ → ℕ
+benchIndex bs = getD bs 0 0 % 32
 
-abbrev pub sequenceOf : List ℕ → ℕ
-sequenceOf bs = getD bs 0 0 / 32
+abbrev pub benchSequence : List ℕ → ℕ
+benchSequence bs = getD bs 0 0 / 32
 
 -- the first byte that is not 0xFF; 0xFF if there is none
 unfoldable pub oddOf : List ℕ → ℕ

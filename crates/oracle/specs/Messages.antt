@@ -5,8 +5,8 @@ use mathlib.Core.List.{List, [], _∷_}
 use lib.ListN.{getD, take}
 use lib.Dec.{eqb, ltb}
 use Rattle.base.specs.Pick.{pick}
-use Rattle.oracle.specs.declared.verdicts.Checked.{Checked}
-use Rattle.oracle.specs.declared.verdicts.Checked.the-variants.{Good, Size, Hours, Pattern, Sequence}
+use Rattle.oracle.specs.declared.Checked.{Checked}
+use Rattle.oracle.specs.declared.Checked.the-variants.{Good, Size, Hours, Pattern, Sequence}
 
 -- "little-endian hours at byte 11"
 unfoldable pub hoursOf : List ℕ → ℕ

@@ -4,8 +4,8 @@ use lib.Dec.{ltb}
 use Rattle.base.specs.Pick.{pick}
 use Rattle.oracle.specs.declared.faults.Standing.{Standing}
 use Rattle.oracle.specs.declared.faults.Standing.the-variants.{Clear, At}
-use Rattle.oracle.specs.declared.verdicts.Reassembled.{Reassembled}
-use Rattle.oracle.specs.declared.verdicts.Reassembled.the-variants.{Messages, Refused, Incomplete, NoRoom}
+use Rattle.oracle.specs.declared.Reassembled.{Reassembled}
+use Rattle.oracle.specs.declared.Reassembled.the-variants.{Messages, Refused, Incomplete, NoRoom}
 
 -- "After the last frame, still open (26). Only if all pass: 27 if messages outnumber the lent list or their bytes together exceed the lent arena": a message is
 -- open while bytes of it are missing, and a list of so many numbers holds a third as many messages

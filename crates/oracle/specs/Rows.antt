@@ -5,7 +5,7 @@ use lib.Dec.{ltb}
 use lib.ListN.{length, getD, drop, replicate}
 use Rattle.base.specs.Pick.{pick}
 use Rattle.splitter.specs.Frames.{eight, countIn}
-use Rattle.splitter.specs.declared.bench_frames.Frame.{Frame}
+use Rattle.splitter.specs.declared.Frame.{Frame}
 
 -- frame i has the identifier at i, the eight bytes from 8 × i on, and the length at i
 unfoldable pub frameIn : List ℕ → List ℕ → List ℕ → ℕ → Frame

@@ -1,6 +1,6 @@
 // What an identifier tells the bench: whose frame it is, and whether its source has claimed an address. It shares no code with `can_id`.
 ghost use mathlib.Core.Path.{_≡_};
-ghost use Rattle.oracle.specs.Ids.{pgnOf, isOther};
+ghost use Rattle.oracle.specs.Ids.{benchPgn, isOther};
 ghost use Rattle.oracle.specs.Claims.{claimAfter};
 ghost use Rattle.oracle.specs.declared.bench_ids.Claim.the-variants.{Awaited};
 use splitter::FRAME_BYTES;
@@ -14,7 +14,7 @@ const CLAIM_PGN: u32 = 60928;
 pub(crate) const ENGINE_PGN: u32 = 127489;
 
 fn pgn_of(id: u32) -> u32
-    ensures { λ r. ⌜ r ≡ pgnOf id ⌝ }
+    ensures { λ r. ⌜ r ≡ benchPgn id ⌝ }
 {
     if (id >> 16) % 0x100 < FIRST_BROADCAST_PF {
         (id >> 16) % 0x400 * 0x100

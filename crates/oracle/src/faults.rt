@@ -2,20 +2,11 @@
 ghost use mathlib.Core.Path.{_≡_};
 ghost use lib.ListN.{drop};
 ghost use Rattle.oracle.specs.Frames.{oddOf, paddingAt, firstThen, laterThen, faultThen, messageEnd, faultAt};
+use crate::Fault;
 use splitter::FILL;
 use splitter::FRAME_BYTES;
 use splitter::INDICES;
 use splitter::MAX_FAST_PACKET_PAYLOAD;
-
-// Why a row of frames is refused, at frame n: 20 to 25 of the paper.
-pub enum Fault {
-    Length(usize, usize),
-    Restarted(usize),
-    Announced(usize, u8),
-    Stray(usize),
-    Order(usize, u8, u8, u8, u8),
-    Padding(usize, u8),
-}
 
 // Whether a row was refused so far.
 pub(crate) enum Standing {

@@ -1,8 +1,8 @@
 // A whole row of frames, judged by what is known after the last.
 ghost use mathlib.Core.Path.{_≡_};
 ghost use Rattle.oracle.specs.RowVerdict.{passedWith, verdictAt};
+use crate::Reassembled;
 use crate::faults::Standing;
-use crate::verdicts::Reassembled;
 
 // The list has three numbers for a message: sequence, start and length.
 pub(crate) const LIST_ROW: usize = 3;

@@ -19,14 +19,14 @@ use Rattle.base.specs.Pick.{pick}
 use Rattle.base.specs.Lists.{fill}
 use Rattle.base.proofs.Fills.{length-fill, take-fill}
 use Rattle.base.proofs.Cases.{tested, less?, same?, when-eq, when-ne, when-lt, when-ge, when-true, when-false}
-use Rattle.splitter.specs.Frames.{eight, bytesOf}
-use Rattle.oracle.specs.Ids.{sourceOf, pgnOf, isOther}
-use Rattle.oracle.specs.Frames.{indexOf, sequenceOf, oddOf}
-use Rattle.oracle.specs.Strict.{Message, Open, Outcome, refused, waits, whole, collectedAt, firstFrame, laterFrame, outcomeOf, before, thenOf, endOf, messagesFrom, messagesOf, payloadsOf, roomFor, deliveredTo}
-use Rattle.splitter.specs.Bytes.{bytesAt, frameAt, countOf}
-use Rattle.splitter.specs.Split.{framesFrom, framesOf}
+use Rattle.splitter.specs.Frames.{eight, frameBytes}
+use Rattle.oracle.specs.Ids.{benchSource, benchPgn, isOther}
+use Rattle.oracle.specs.Frames.{benchIndex, benchSequence, oddOf}
+use Rattle.oracle.specs.Strict.{BenchMessage, Open, FrameOutcome, refused, waits, whole, collectedAt, firstFrame, laterFrame, outcomeOf, before, thenOf, endOf, messagesFrom, messagesOf, payloadsOf, roomFor, deliveredTo}
+use Rattle.splitter.specs.Bytes.{splitBytes, splitFrame, countOf}
+use Rattle.splitter.specs.Split.{splitFramesFrom, splitFrames}
 use Rattle.round_trip.specs.Sent.{own, under, splitAll, AreSplit}
-use Rattle.splitter.specs.declared.bench_frames.Frame.{Frame}
+use Rattle.splitter.specs.declared.Frame.{Frame}
 use Rattle.splitter.proofs.FrameLaws.{eight-same}
 use Rattle.splitter.proofs.SplitLaws.{bytes-eight}
 use Rattle.round_trip.proofs.Accepted.{owned, passed}
@@ -87,21 +87,21 @@ told-sequence q k h g =
     rw (a, b) (omega arith)
 
 -- ---- what strict reassembly makes of the splitter's frame k
-abbrev openAt : Message → ℕ → Open
+abbrev openAt : BenchMessage → ℕ → Open
 openAt m k = record { sequence = m .sequence; announced = length (m .payload); index = k; bytes = take (7 * k - 1) (m .payload) }
 
-module _ (n : ℕ) (m : Message) (sq : m .sequence ≤ 7) (some-bytes : 1 ≤ length (m .payload)) (most : length (m .payload) ≤ 223) where
+module _ (n : ℕ) (m : BenchMessage) (sq : m .sequence ≤ 7) (some-bytes : 1 ≤ length (m .payload)) (most : length (m .payload) ≤ 223) where
   abbrev p : List ℕ
   p = m .payload
 
   abbrev first : List ℕ
-  first = bytesAt (m .sequence) p 0
+  first = splitBytes (m .sequence) p 0
 
-  first-bytes : bytesAt (m .sequence) (m .payload) 0 ≡ (m .sequence % 8 * 32 + 0 % 32) ∷ length p ∷ fill 6 p
-  unfolding bytesAt pick
+  first-bytes : splitBytes (m .sequence) (m .payload) 0 ≡ (m .sequence % 8 * 32 + 0 % 32) ∷ length p ∷ fill 6 p
+  unfolding splitBytes pick
   first-bytes = refl
 
-  first-collects : outcomeOf n none (bytesAt (m .sequence) (m .payload) 0) 8 ≡ collectedAt n (record { sequence = m .sequence; announced = length (m .payload); index = 1; bytes = take 0 (m .payload) ++ fill 6 (drop 0 (m .payload)) })
+  first-collects : outcomeOf n none (splitBytes (m .sequence) (m .payload) 0) 8 ≡ collectedAt n (record { sequence = m .sequence; announced = length (m .payload); index = 1; bytes = take 0 (m .payload) ++ fill 6 (drop 0 (m .payload)) })
   unfolding outcomeOf firstFrame
   first-collects =
       let z : (m .sequence % 8 * 32 + 0 % 32) % 32 ≡ 0 = told-index (m .sequence) 0 sq zero≤ in
@@ -110,18 +110,18 @@ module _ (n : ℕ) (m : Message) (sq : m .sequence ≤ 7) (some-bytes : 1 ≤ le
       (sym (when-eq _ _ {a = 8} {b = 8} refl (when-eq _ _ z (when-ne _ _ {a = length p} {b = 0} (λ e. omega arith) (when-ge _ _ {a = 223} {b = length p} most refl))))
       ∙ ap (λ (x : ℕ). collectedAt n (record { sequence = x; announced = length p; index = 1; bytes = fill 6 p })) q)
 
-  first-waits : 6 < length (m .payload) → outcomeOf n none (bytesAt (m .sequence) (m .payload) 0) 8 ≡ waits (openAt m 1)
+  first-waits : 6 < length (m .payload) → outcomeOf n none (splitBytes (m .sequence) (m .payload) 0) 8 ≡ waits (openAt m 1)
   first-waits h = first-collects ∙ goes-on n (m .sequence) p 0 6 1 (omega arith) h
 
-  first-whole : length (m .payload) ≤ 6 → outcomeOf n none (bytesAt (m .sequence) (m .payload) 0) 8 ≡ whole m
+  first-whole : length (m .payload) ≤ 6 → outcomeOf n none (splitBytes (m .sequence) (m .payload) 0) 8 ≡ whole m
   first-whole h = first-collects ∙ ends-here n (m .sequence) p 0 6 1 (omega arith) h
 
   module _ (k : ℕ) (lo : 1 ≤ k) (hi : 7 * k - 1 < length (m .payload)) where
-    later-bytes : bytesAt (m .sequence) (m .payload) k ≡ (m .sequence % 8 * 32 + k % 32) ∷ fill 7 (drop (7 * k - 1) (m .payload))
-    unfolding bytesAt
+    later-bytes : splitBytes (m .sequence) (m .payload) k ≡ (m .sequence % 8 * 32 + k % 32) ∷ fill 7 (drop (7 * k - 1) (m .payload))
+    unfolding splitBytes
     later-bytes = sym (ap (λ (x : List ℕ). (m .sequence % 8 * 32 + k % 32) ∷ x) (when-ne _ _ {a = k} {b = 0} (λ e. omega arith) refl))
 
-    later-collects : outcomeOf n (some (openAt m k)) (bytesAt (m .sequence) (m .payload) k) 8 ≡ collectedAt n (record { sequence = m .sequence; announced = length (m .payload); index = k + 1; bytes = take (7 * k - 1) (m .payload) ++ fill 7 (drop (7 * k - 1) (m .payload)) })
+    later-collects : outcomeOf n (some (openAt m k)) (splitBytes (m .sequence) (m .payload) k) 8 ≡ collectedAt n (record { sequence = m .sequence; announced = length (m .payload); index = k + 1; bytes = take (7 * k - 1) (m .payload) ++ fill 7 (drop (7 * k - 1) (m .payload)) })
     unfolding outcomeOf laterFrame
     later-collects =
         let z : (m .sequence % 8 * 32 + k % 32) % 32 ≡ k = told-index (m .sequence) k sq (omega arith) in
@@ -129,62 +129,62 @@ module _ (n : ℕ) (m : Message) (sq : m .sequence ≤ 7) (some-bytes : 1 ≤ le
         rw later-bytes
         (sym (when-eq _ _ {a = 8} {b = 8} refl (when-ne _ _ {a = (m .sequence % 8 * 32 + k % 32) % 32} {b = 0} (λ e. let x : k ≡ 0 = sym z ∙ e in omega arith) (when-eq _ _ q (when-eq _ _ z refl)))))
 
-    later-waits : 7 * (k + 1) - 1 < length (m .payload) → outcomeOf n (some (openAt m k)) (bytesAt (m .sequence) (m .payload) k) 8 ≡ waits (openAt m (k + 1))
+    later-waits : 7 * (k + 1) - 1 < length (m .payload) → outcomeOf n (some (openAt m k)) (splitBytes (m .sequence) (m .payload) k) 8 ≡ waits (openAt m (k + 1))
     later-waits h =
         let e : 7 * k - 1 + 7 ≡ 7 * (k + 1) - 1 = omega arith in
         later-collects ∙ goes-on n (m .sequence) p (7 * k - 1) 7 (k + 1) (omega arith) (omega arith)
         ∙ ap (λ (j : ℕ). waits (record { sequence = m .sequence; announced = length p; index = k + 1; bytes = take j p })) e
 
-    later-whole : length (m .payload) ≤ 7 * (k + 1) - 1 → outcomeOf n (some (openAt m k)) (bytesAt (m .sequence) (m .payload) k) 8 ≡ whole m
+    later-whole : length (m .payload) ≤ 7 * (k + 1) - 1 → outcomeOf n (some (openAt m k)) (splitBytes (m .sequence) (m .payload) k) 8 ≡ whole m
     later-whole h = later-collects ∙ ends-here n (m .sequence) p (7 * k - 1) 7 (k + 1) (omega arith) (omega arith)
 
 -- ---- the row
 module _ (id source pgn : ℕ) where
   -- with no message open, and while message m waits for its frame k
   record Returns (fs : List Frame) : Type 0 where
-    shut : (n : ℕ) (ms : List Message) → AreSplit ms → under id (own source pgn fs) ≡ splitAll id ms → messagesFrom source pgn n none fs ≡ gives ms
-    going : (n : ℕ) (m : Message) (k : ℕ) (later : List Message) → AreSplit (m ∷ later) → 1 ≤ k → 7 * k - 1 < length (m .payload)
-        → under id (own source pgn fs) ≡ framesFrom id (m .sequence) (m .payload) k (countOf (length (m .payload)) - k) ++ splitAll id later → messagesFrom source pgn n (some (openAt m k)) fs ≡ gives (m ∷ later)
+    shut : (n : ℕ) (ms : List BenchMessage) → AreSplit ms → under id (own source pgn fs) ≡ splitAll id ms → messagesFrom source pgn n none fs ≡ gives ms
+    going : (n : ℕ) (m : BenchMessage) (k : ℕ) (later : List BenchMessage) → AreSplit (m ∷ later) → 1 ≤ k → 7 * k - 1 < length (m .payload)
+        → under id (own source pgn fs) ≡ splitFramesFrom id (m .sequence) (m .payload) k (countOf (length (m .payload)) - k) ++ splitAll id later → messagesFrom source pgn n (some (openAt m k)) fs ≡ gives (m ∷ later)
 
   module _ (f : Frame) (fs : List Frame) where
     abbrev body : Frame
-    body = record { id = id; «data» = bytesOf f; len = f .len }
+    body = record { id = id; «data» = frameBytes f; len = f .len }
 
     skip-from : isOther source pgn (f .id) ≡ true → (n : ℕ) (o : Option Open) → messagesFrom source pgn n o (f ∷ fs) ≡ messagesFrom source pgn (n + 1) o fs
     unfolding messagesFrom
     skip-from h n o = sym (when-true _ _ h refl)
 
     module _ (mine : isOther source pgn (f .id) ≡ false) where
-      take-from : (n : ℕ) (o : Option Open) {x : Outcome} → outcomeOf n o (bytesOf f) (f .len) ≡ x → messagesFrom source pgn n o (f ∷ fs) ≡ thenOf x (λ o′. messagesFrom source pgn (n + 1) o′ fs)
+      take-from : (n : ℕ) (o : Option Open) {x : FrameOutcome} → outcomeOf n o (frameBytes f) (f .len) ≡ x → messagesFrom source pgn n o (f ∷ fs) ≡ thenOf x (λ o′. messagesFrom source pgn (n + 1) o′ fs)
       unfolding messagesFrom
-      take-from n o e = sym (when-false _ _ mine refl) ∙ ap (λ (y : Outcome). thenOf y (λ o′. messagesFrom source pgn (n + 1) o′ fs)) e
+      take-from n o e = sym (when-false _ _ mine refl) ∙ ap (λ (y : FrameOutcome). thenOf y (λ o′. messagesFrom source pgn (n + 1) o′ fs)) e
 
       -- the frame that comes, and the frames after it
-      module _ (q : ℕ) (p : List ℕ) (k : ℕ) (rest : List Frame) (e : under id (own source pgn (f ∷ fs)) ≡ frameAt id q p k ∷ rest) where
-        is-it : record { id = id; «data» = bytesOf f; len = f .len } ∷ under id (own source pgn fs) ≡ frameAt id q p k ∷ rest
+      module _ (q : ℕ) (p : List ℕ) (k : ℕ) (rest : List Frame) (e : under id (own source pgn (f ∷ fs)) ≡ splitFrame id q p k ∷ rest) where
+        is-it : record { id = id; «data» = frameBytes f; len = f .len } ∷ under id (own source pgn fs) ≡ splitFrame id q p k ∷ rest
         is-it = sym (owned id source pgn f fs mine) ∙ e
 
-        its-bytes : bytesOf f ≡ bytesAt q p k
-        unfolding frameAt
+        its-bytes : frameBytes f ≡ splitBytes q p k
+        unfolding splitFrame
         its-bytes = ap (λ (l : List Frame). getD l 0 body .«data») is-it
 
         its-length : f .len ≡ 8
-        unfolding frameAt
+        unfolding splitFrame
         its-length = ap (λ (l : List Frame). getD l 0 body .len) is-it
 
         after-it : under id (own source pgn fs) ≡ rest
         after-it = ap (drop 1) is-it
 
-        its-outcome : (n : ℕ) (o : Option Open) → outcomeOf n o (bytesOf f) (f .len) ≡ outcomeOf n o (bytesAt q p k) 8
+        its-outcome : (n : ℕ) (o : Option Open) → outcomeOf n o (frameBytes f) (f .len) ≡ outcomeOf n o (splitBytes q p k) 8
         its-outcome n o = rw (its-bytes, its-length)
 
-      module _ (back : Returns fs) (n : ℕ) (m : Message) (later : List Message) (fits : AreSplit (m ∷ later)) where
-        one-whole : (o : Option Open) → outcomeOf n o (bytesOf f) (f .len) ≡ whole m → under id (own source pgn fs) ≡ splitAll id later → messagesFrom source pgn n o (f ∷ fs) ≡ gives (m ∷ later)
+      module _ (back : Returns fs) (n : ℕ) (m : BenchMessage) (later : List BenchMessage) (fits : AreSplit (m ∷ later)) where
+        one-whole : (o : Option Open) → outcomeOf n o (frameBytes f) (f .len) ≡ whole m → under id (own source pgn fs) ≡ splitAll id later → messagesFrom source pgn n o (f ∷ fs) ≡ gives (m ∷ later)
         unfolding thenOf before
         one-whole o e g = take-from n o e ∙ ap (before m) (back .shut (n + 1) later (fits .3) g)
 
-        one-more : (o : Option Open) (k : ℕ) → 1 ≤ k → 7 * k - 1 < length (m .payload) → outcomeOf n o (bytesOf f) (f .len) ≡ waits (openAt m k)
-            → under id (own source pgn fs) ≡ framesFrom id (m .sequence) (m .payload) k (countOf (length (m .payload)) - k) ++ splitAll id later → messagesFrom source pgn n o (f ∷ fs) ≡ gives (m ∷ later)
+        one-more : (o : Option Open) (k : ℕ) → 1 ≤ k → 7 * k - 1 < length (m .payload) → outcomeOf n o (frameBytes f) (f .len) ≡ waits (openAt m k)
+            → under id (own source pgn fs) ≡ splitFramesFrom id (m .sequence) (m .payload) k (countOf (length (m .payload)) - k) ++ splitAll id later → messagesFrom source pgn n o (f ∷ fs) ≡ gives (m ∷ later)
         unfolding thenOf
         one-more o k lo hi e g = take-from n o e ∙ back .going (n + 1) m k later fits lo hi g
 
@@ -193,44 +193,44 @@ module _ (id source pgn : ℕ) where
         first-back e =
             let p : List ℕ = m .payload in
             let c : ℕ = length (m .payload) / 7 in
-            let e′ : under id (own source pgn (f ∷ fs)) ≡ frameAt id (m .sequence) p 0 ∷ (framesFrom id (m .sequence) p 1 c ++ splitAll id later) = e ∙ ap (λ (j : ℕ). framesFrom id (m .sequence) p 0 j ++ splitAll id later) (add-one c) in
-            let x : outcomeOf n none (bytesOf f) (f .len) ≡ outcomeOf n none (bytesAt (m .sequence) p 0) 8 = its-outcome (m .sequence) p 0 (framesFrom id (m .sequence) p 1 c ++ splitAll id later) e′ n none in
-            let g : under id (own source pgn fs) ≡ framesFrom id (m .sequence) p 1 c ++ splitAll id later = after-it (m .sequence) p 0 (framesFrom id (m .sequence) p 1 c ++ splitAll id later) e′ in
+            let e′ : under id (own source pgn (f ∷ fs)) ≡ splitFrame id (m .sequence) p 0 ∷ (splitFramesFrom id (m .sequence) p 1 c ++ splitAll id later) = e ∙ ap (λ (j : ℕ). splitFramesFrom id (m .sequence) p 0 j ++ splitAll id later) (add-one c) in
+            let x : outcomeOf n none (frameBytes f) (f .len) ≡ outcomeOf n none (splitBytes (m .sequence) p 0) 8 = its-outcome (m .sequence) p 0 (splitFramesFrom id (m .sequence) p 1 c ++ splitAll id later) e′ n none in
+            let g : under id (own source pgn fs) ≡ splitFramesFrom id (m .sequence) p 1 c ++ splitAll id later = after-it (m .sequence) p 0 (splitFramesFrom id (m .sequence) p 1 c ++ splitAll id later) e′ in
             less? 6 (length (m .payload))
             (λ h.
             let z : length (m .payload) / 7 ≡ countOf (length (m .payload)) - 1 = omega arith in
-            one-more none 1 (omega arith) h (x ∙ first-waits n m (fits .0) (fits .1) (fits .2) h) (g ∙ ap (λ (j : ℕ). framesFrom id (m .sequence) p 1 j ++ splitAll id later) z))
+            one-more none 1 (omega arith) h (x ∙ first-waits n m (fits .0) (fits .1) (fits .2) h) (g ∙ ap (λ (j : ℕ). splitFramesFrom id (m .sequence) p 1 j ++ splitAll id later) z))
             (λ h.
             let z : length (m .payload) / 7 ≡ 0 = omega arith in
-            one-whole none (x ∙ first-whole n m (fits .0) (fits .1) (fits .2) h) (g ∙ ap (λ (j : ℕ). framesFrom id (m .sequence) p 1 j ++ splitAll id later) z))
+            one-whole none (x ∙ first-whole n m (fits .0) (fits .1) (fits .2) h) (g ∙ ap (λ (j : ℕ). splitFramesFrom id (m .sequence) p 1 j ++ splitAll id later) z))
 
-        later-back : (k : ℕ) → 1 ≤ k → 7 * k - 1 < length (m .payload) → under id (own source pgn (f ∷ fs)) ≡ framesFrom id (m .sequence) (m .payload) k (countOf (length (m .payload)) - k) ++ splitAll id later
+        later-back : (k : ℕ) → 1 ≤ k → 7 * k - 1 < length (m .payload) → under id (own source pgn (f ∷ fs)) ≡ splitFramesFrom id (m .sequence) (m .payload) k (countOf (length (m .payload)) - k) ++ splitAll id later
             → messagesFrom source pgn n (some (openAt m k)) (f ∷ fs) ≡ gives (m ∷ later)
         later-back k lo hi e =
             let p : List ℕ = m .payload in
             let c : ℕ = countOf (length (m .payload)) - (k + 1) in
             let s : countOf (length (m .payload)) - k ≡ suc (countOf (length (m .payload)) - (k + 1)) = omega arith in
-            let e′ : under id (own source pgn (f ∷ fs)) ≡ frameAt id (m .sequence) p k ∷ (framesFrom id (m .sequence) p (suc k) c ++ splitAll id later) = e ∙ ap (λ (j : ℕ). framesFrom id (m .sequence) p k j ++ splitAll id later) s in
-            let x : outcomeOf n (some (openAt m k)) (bytesOf f) (f .len) ≡ outcomeOf n (some (openAt m k)) (bytesAt (m .sequence) p k) 8 = its-outcome (m .sequence) p k (framesFrom id (m .sequence) p (suc k) c ++ splitAll id later) e′ n (some (openAt m k)) in
-            let g : under id (own source pgn fs) ≡ framesFrom id (m .sequence) p (suc k) c ++ splitAll id later = after-it (m .sequence) p k (framesFrom id (m .sequence) p (suc k) c ++ splitAll id later) e′ in
+            let e′ : under id (own source pgn (f ∷ fs)) ≡ splitFrame id (m .sequence) p k ∷ (splitFramesFrom id (m .sequence) p (suc k) c ++ splitAll id later) = e ∙ ap (λ (j : ℕ). splitFramesFrom id (m .sequence) p k j ++ splitAll id later) s in
+            let x : outcomeOf n (some (openAt m k)) (frameBytes f) (f .len) ≡ outcomeOf n (some (openAt m k)) (splitBytes (m .sequence) p k) 8 = its-outcome (m .sequence) p k (splitFramesFrom id (m .sequence) p (suc k) c ++ splitAll id later) e′ n (some (openAt m k)) in
+            let g : under id (own source pgn fs) ≡ splitFramesFrom id (m .sequence) p (suc k) c ++ splitAll id later = after-it (m .sequence) p k (splitFramesFrom id (m .sequence) p (suc k) c ++ splitAll id later) e′ in
             less? (7 * (k + 1) - 1) (length (m .payload))
-            (λ h. one-more (some (openAt m k)) (k + 1) (omega arith) h (x ∙ later-waits n m (fits .0) (fits .1) (fits .2) k lo hi h) (g ∙ ap (λ (j : ℕ). framesFrom id (m .sequence) p j c ++ splitAll id later) (sym (add-one k))))
+            (λ h. one-more (some (openAt m k)) (k + 1) (omega arith) h (x ∙ later-waits n m (fits .0) (fits .1) (fits .2) k lo hi h) (g ∙ ap (λ (j : ℕ). splitFramesFrom id (m .sequence) p j c ++ splitAll id later) (sym (add-one k))))
             (λ h.
             let z : countOf (length (m .payload)) - (k + 1) ≡ 0 = omega arith in
-            one-whole (some (openAt m k)) (x ∙ later-whole n m (fits .0) (fits .1) (fits .2) k lo hi h) (g ∙ ap (λ (j : ℕ). framesFrom id (m .sequence) p (suc k) j ++ splitAll id later) z))
+            one-whole (some (openAt m k)) (x ∙ later-whole n m (fits .0) (fits .1) (fits .2) k lo hi h) (g ∙ ap (λ (j : ℕ). splitFramesFrom id (m .sequence) p (suc k) j ++ splitAll id later) z))
 
-  none-left : (q : ℕ) (p : List ℕ) (k c : ℕ) (l : List Frame) → k < c → [] ≡ framesFrom id q p k (c - k) ++ l → ⊥
+  none-left : (q : ℕ) (p : List ℕ) (k c : ℕ) (l : List Frame) → k < c → [] ≡ splitFramesFrom id q p k (c - k) ++ l → ⊥
   none-left q p k c l h e =
       let s : c - k ≡ suc (c - (k + 1)) = omega arith in
-      let z : 0 ≡ suc (length (framesFrom id q p (suc k) (c - (k + 1)) ++ l)) = ap length (e ∙ ap (λ (j : ℕ). framesFrom id q p k j ++ l) s) in
+      let z : 0 ≡ suc (length (splitFramesFrom id q p (suc k) (c - (k + 1)) ++ l)) = ap length (e ∙ ap (λ (j : ℕ). splitFramesFrom id q p k j ++ l) s) in
       omega arith
 
-  end-shut : (n : ℕ) (ms : List Message) → [] ≡ splitAll id ms → messagesFrom source pgn n none [] ≡ gives ms
+  end-shut : (n : ℕ) (ms : List BenchMessage) → [] ≡ splitAll id ms → messagesFrom source pgn n none [] ≡ gives ms
   unfolding messagesFrom endOf splitAll
   end-shut n [] e = refl
-  end-shut n (m ∷ ms) e = let z : countOf (length (m .payload)) - 0 ≡ countOf (length (m .payload)) = omega arith in absurd (none-left (m .sequence) (m .payload) 0 (countOf (length (m .payload))) (splitAll id ms) (omega arith) (e ∙ ap (λ (j : ℕ). framesFrom id (m .sequence) (m .payload) 0 j ++ splitAll id ms) (sym z)))
+  end-shut n (m ∷ ms) e = let z : countOf (length (m .payload)) - 0 ≡ countOf (length (m .payload)) = omega arith in absurd (none-left (m .sequence) (m .payload) 0 (countOf (length (m .payload))) (splitAll id ms) (omega arith) (e ∙ ap (λ (j : ℕ). splitFramesFrom id (m .sequence) (m .payload) 0 j ++ splitAll id ms) (sym z)))
 
-  row-shut : (f : Frame) (fs : List Frame) → Returns fs → isOther source pgn (f .id) ≡ false → (n : ℕ) (ms : List Message) → AreSplit ms → under id (own source pgn (f ∷ fs)) ≡ splitAll id ms → messagesFrom source pgn n none (f ∷ fs) ≡ gives ms
+  row-shut : (f : Frame) (fs : List Frame) → Returns fs → isOther source pgn (f .id) ≡ false → (n : ℕ) (ms : List BenchMessage) → AreSplit ms → under id (own source pgn (f ∷ fs)) ≡ splitAll id ms → messagesFrom source pgn n none (f ∷ fs) ≡ gives ms
   unfolding splitAll
   row-shut f fs back h n [] fits e = let z : suc (length (under id (own source pgn fs))) ≡ 0 = ap length (sym (owned id source pgn f fs h) ∙ e) in absurd (omega arith)
   row-shut f fs back h n (m ∷ ms) fits e = first-back f fs h back n m ms fits e
@@ -252,32 +252,32 @@ module _ (id source pgn : ℕ) where
         (λ h. later-back f fs h (returns fs) n m later fits k lo hi e);
   }
 
-pub returned : (fs : List Frame) (source pgn : ℕ) (ms : List Message) → AreSplit ms → (id : ℕ) → under id (own source pgn fs) ≡ splitAll id ms → messagesOf fs source pgn ≡ gives ms
+pub returned : (fs : List Frame) (source pgn : ℕ) (ms : List BenchMessage) → AreSplit ms → (id : ℕ) → under id (own source pgn fs) ≡ splitAll id ms → messagesOf fs source pgn ≡ gives ms
 returned fs source pgn ms fits id e = returns id source pgn fs .shut 0 ms fits e
 
 -- ---- the splitter's frames of one payload, as they are
 -- a frame is its own source's and PGN's
-mine : (id : ℕ) → isOther (sourceOf id) (pgnOf id) id ≡ false
+mine : (id : ℕ) → isOther (benchSource id) (benchPgn id) id ≡ false
 unfolding isOther
-mine id = sym (when-eq _ _ {a = id % 256} refl (when-eq _ _ {a = pgnOf id} refl refl))
+mine id = sym (when-eq _ _ {a = id % 256} refl (when-eq _ _ {a = benchPgn id} refl refl))
 
-frames-under : (id q : ℕ) (p : List ℕ) (n k : ℕ) → under id (own (sourceOf id) (pgnOf id) (framesFrom id q p k n)) ≡ framesFrom id q p k n
-unfolding under own frameAt
+frames-under : (id q : ℕ) (p : List ℕ) (n k : ℕ) → under id (own (benchSource id) (benchPgn id) (splitFramesFrom id q p k n)) ≡ splitFramesFrom id q p k n
+unfolding under own splitFrame
 frames-under id q p zero k = refl
 frames-under id q p (suc n) k =
-    owned id (sourceOf id) (pgnOf id) (frameAt id q p k) (framesFrom id q p (suc k) n) (mine id)
-    ∙ ap (λ (bs : List ℕ). record { id = id; «data» = bs; len = 8 } ∷ under id (own (sourceOf id) (pgnOf id) (framesFrom id q p (suc k) n))) (eight-same (bytesAt q p k) (bytes-eight q p k))
-    ∙ ap (λ (l : List Frame). frameAt id q p k ∷ l) (frames-under id q p n (suc k))
+    owned id (benchSource id) (benchPgn id) (splitFrame id q p k) (splitFramesFrom id q p (suc k) n) (mine id)
+    ∙ ap (λ (bs : List ℕ). record { id = id; «data» = bs; len = 8 } ∷ under id (own (benchSource id) (benchPgn id) (splitFramesFrom id q p (suc k) n))) (eight-same (splitBytes q p k) (bytes-eight q p k))
+    ∙ ap (λ (l : List Frame). splitFrame id q p k ∷ l) (frames-under id q p n (suc k))
 
 module _ (id sequence : ℕ) (p : List ℕ) (sq : sequence ≤ 7) (some-bytes : 1 ≤ length p) (most : length p ≤ 223) where
-  abbrev pub sent : Message
+  abbrev pub sent : BenchMessage
   sent = record { sequence = sequence; payload = p }
 
-  pub read-back : messagesOf (framesOf id sequence p) (sourceOf id) (pgnOf id) ≡ gives (sent ∷ [])
+  pub read-back : messagesOf (splitFrames id sequence p) (benchSource id) (benchPgn id) ≡ gives (sent ∷ [])
   unfolding splitAll
-  read-back = returned (framesOf id sequence p) (sourceOf id) (pgnOf id) (sent ∷ []) (sq, some-bytes, most, tt) id (frames-under id sequence p (countOf (length p)) 0 ∙ sym (append-nil (framesOf id sequence p)))
+  read-back = returned (splitFrames id sequence p) (benchSource id) (benchPgn id) (sent ∷ []) (sq, some-bytes, most, tt) id (frames-under id sequence p (countOf (length p)) 0 ∙ sym (append-nil (splitFrames id sequence p)))
 
-  pub delivered : (list arena : List ℕ) → 3 ≤ length list → length p ≤ length arena → deliveredTo list arena (framesOf id sequence p) (sourceOf id) (pgnOf id) ≡ gives (sent ∷ [])
+  pub delivered : (list arena : List ℕ) → 3 ≤ length list → length p ≤ length arena → deliveredTo list arena (splitFrames id sequence p) (benchSource id) (benchPgn id) ≡ gives (sent ∷ [])
   unfolding deliveredTo roomFor payloadsOf
   delivered list arena h k =
       ap (roomFor (length list) (length arena)) read-back

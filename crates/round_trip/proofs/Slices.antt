@@ -13,10 +13,10 @@ use Rattle.base.specs.Answer.{gives}
 use Rattle.base.specs.Lists.{fill}
 use Rattle.base.proofs.Cases.{pick-all}
 use Rattle.base.proofs.Fills.{length-fill}
-use Rattle.splitter.specs.Frames.{eight, bytesOf, countIn}
-use Rattle.splitter.specs.Bytes.{bytesAt, frameAt, countOf}
-use Rattle.splitter.specs.Split.{framesFrom, framesOf, idsOf, bytesAll, lensOf, idsWith, bytesWith, lensWith}
-use Rattle.splitter.specs.declared.bench_frames.Frame.{Frame}
+use Rattle.splitter.specs.Frames.{eight, frameBytes, countIn}
+use Rattle.splitter.specs.Bytes.{splitBytes, splitFrame, countOf}
+use Rattle.splitter.specs.Split.{splitFramesFrom, splitFrames, idsOf, bytesAll, lensOf, idsWith, bytesWith, lensWith}
+use Rattle.splitter.specs.declared.Frame.{Frame}
 use Rattle.splitter.proofs.FrameLaws.{eight-same, eight-long}
 use Rattle.splitter.proofs.SplitLaws.{length-frames}
 use Rattle.oracle.specs.Rows.{frameIn, framesIn, rowIn}
@@ -69,8 +69,8 @@ bytes-long : (fs : List Frame) → length (bytesAll fs) ≡ 8 * length fs
 unfolding bytesAll
 bytes-long [] = refl
 bytes-long (f ∷ fs) =
-    let e : length (bytesOf f ++ bytesAll fs) ≡ length (bytesOf f) + length (bytesAll fs) = length-append (bytesOf f) (bytesAll fs) in
-    let l : length (bytesOf f) ≡ 8 = eight-long (f .«data») in
+    let e : length (frameBytes f ++ bytesAll fs) ≡ length (frameBytes f) + length (bytesAll fs) = length-append (frameBytes f) (bytesAll fs) in
+    let l : length (frameBytes f) ≡ 8 = eight-long (f .«data») in
     let h : length (bytesAll fs) ≡ 8 * length fs = bytes-long fs in
     omega arith
 
@@ -101,21 +101,21 @@ module _ (fs : List Frame) (es : Eights fs) (ids bytes lens : List ℕ) (room : 
       ∙ rw (ids-laid, bytes-laid, lens-laid) (starts fs es (drop (length (idsOf fs)) ids) (drop (length (bytesAll fs)) bytes) (drop (length (lensOf fs)) lens))
 
 -- ---- the splitter's frames have eight bytes each
-bytes-eight : (sequence : ℕ) (payload : List ℕ) (index : ℕ) → length (bytesAt sequence payload index) ≡ 8
-unfolding bytesAt
+bytes-eight : (sequence : ℕ) (payload : List ℕ) (index : ℕ) → length (splitBytes sequence payload index) ≡ 8
+unfolding splitBytes
 bytes-eight sequence payload index = ap suc (pick-all (λ (l : List ℕ). length l ≡ 7) _ (ap suc (length-fill 6 payload)) (length-fill 7 _))
 
-frames-eight : (id sequence : ℕ) (payload : List ℕ) (index n : ℕ) → Eights (framesFrom id sequence payload index n)
-unfolding frameAt
+frames-eight : (id sequence : ℕ) (payload : List ℕ) (index n : ℕ) → Eights (splitFramesFrom id sequence payload index n)
+unfolding splitFrame
 frames-eight id sequence payload index zero = tt
 frames-eight id sequence payload index (suc n) = (bytes-eight sequence payload index, frames-eight id sequence payload (suc index) n)
 
 -- what `fast_packet_rows` leaves where it gives the frames, read as a row
 module _ (id sequence : ℕ) (payload ids bytes lens : List ℕ) (room : countOf (length payload) ≤ countIn (length ids) (length bytes) (length lens)) where
-  pub laid-out : take (countOf (length payload)) (rowIn (idsWith (gives (framesOf id sequence payload)) ids) (bytesWith (gives (framesOf id sequence payload)) bytes) (lensWith (gives (framesOf id sequence payload)) lens)) ≡ framesOf id sequence payload
+  pub laid-out : take (countOf (length payload)) (rowIn (idsWith (gives (splitFrames id sequence payload)) ids) (bytesWith (gives (splitFrames id sequence payload)) bytes) (lensWith (gives (splitFrames id sequence payload)) lens)) ≡ splitFrames id sequence payload
   unfolding idsWith bytesWith lensWith
   laid-out =
-      let fs : List Frame = framesOf id sequence payload in
+      let fs : List Frame = splitFrames id sequence payload in
       let n : length fs ≡ countOf (length payload) = length-frames id sequence payload (countOf (length payload)) 0 in
       ap (λ (k : ℕ). take k (rowIn (sets ids 0 (idsOf fs)) (sets bytes 0 (bytesAll fs)) (sets lens 0 (lensOf fs)))) (sym n)
       ∙ rows-start fs (frames-eight id sequence payload 0 (countOf (length payload))) ids bytes lens (omega (arith, n))

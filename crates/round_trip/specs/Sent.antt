@@ -3,11 +3,11 @@ use Prim.Native.Nat.{ℕ, _<_, _≤_}
 use mathlib.Core.List.{List, [], _∷_, _++_}
 use lib.ListN.{length, getD}
 use Rattle.base.specs.Pick.{pick}
-use Rattle.splitter.specs.Frames.{bytesOf}
+use Rattle.splitter.specs.Frames.{frameBytes}
 use Rattle.oracle.specs.Ids.{isOther}
-use Rattle.oracle.specs.Strict.{Message}
-use Rattle.splitter.specs.Split.{framesOf}
-use Rattle.splitter.specs.declared.bench_frames.Frame.{Frame}
+use Rattle.oracle.specs.Strict.{BenchMessage}
+use Rattle.splitter.specs.Split.{splitFrames}
+use Rattle.splitter.specs.declared.Frame.{Frame}
 
 -- the frames of a row that strict reassembly does not skip, in order
 unfoldable pub own : ℕ → ℕ → List Frame → List Frame
@@ -17,12 +17,12 @@ own source pgn (f ∷ fs) = pick (isOther source pgn (f .id)) (own source pgn fs
 -- the same bytes and lengths under one identifier
 unfoldable pub under : ℕ → List Frame → List Frame
 under id [] = []
-under id (f ∷ fs) = record { id = id; «data» = bytesOf f; len = f .len } ∷ under id fs
+under id (f ∷ fs) = record { id = id; «data» = frameBytes f; len = f .len } ∷ under id fs
 
 -- the splitter's frames of some messages, one message after the other
-unfoldable pub splitAll : ℕ → List Message → List Frame
+unfoldable pub splitAll : ℕ → List BenchMessage → List Frame
 splitAll id [] = []
-splitAll id (m ∷ ms) = framesOf id (m .sequence) (m .payload) ++ splitAll id ms
+splitAll id (m ∷ ms) = splitFrames id (m .sequence) (m .payload) ++ splitAll id ms
 
 -- each byte of a row is one
 abbrev pub AreBytes : List Frame → Type 0
@@ -30,6 +30,6 @@ AreBytes [] = Unit {0}
 AreBytes (f ∷ fs) = ((i : ℕ) → getD (f .«data») i 0 < 256) × AreBytes fs
 
 -- messages that the splitter takes
-abbrev pub AreSplit : List Message → Type 0
+abbrev pub AreSplit : List BenchMessage → Type 0
 AreSplit [] = Unit {0}
 AreSplit (m ∷ ms) = (m .sequence ≤ 7) × (1 ≤ length (m .payload)) × (length (m .payload) ≤ 223) × AreSplit ms

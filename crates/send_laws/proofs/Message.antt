@@ -15,11 +15,11 @@ use Rattle.base.proofs.Cases.{less?}
 use Rattle.can_id.specs.Build.{buildOf}
 use Rattle.can_id.specs.declared.Destination.{Destination}
 use Rattle.fast_packet.specs.FastPacket.{maxPayload, listedIn}
-use Rattle.builder.specs.Builder.{fastOf, madeOf, idBuilder}
+use Rattle.builder.specs.Builder.{fastOf, newBuilder, idBuilder}
 use Rattle.builder.specs.Laid.{headerOf}
 use Rattle.builder.specs.Next.{Step, frameOf, nextOf, sentStep, endStep, framedStep, rawStep}
 use Rattle.builder.specs.Frames.{started, nextTurn}
-use Rattle.send_laws.specs.Message.{iteratorOf, after, answerAt, framesOf, sentBefore, bytesAt, fastAnswer, rawAnswer, messageAnswer}
+use Rattle.send_laws.specs.Message.{iteratorOf, placeAfter, answerAt, frameTotal, sentBefore, messageBytes, fastAnswer, rawAnswer, messageAnswer}
 use Rattle.builder.specs.declared.FastPacketBuilder.{FastPacketBuilder}
 use Rattle.builder.specs.declared.FrameIterator.{FrameIterator}
 
@@ -32,10 +32,10 @@ new-raw-short pgn pgns n e = by (listedIn pgn pgns) e
     by false h = ltb-false 8 n h
 
 -- ---- the number of frames, by the bytes sent
-left : (k n : ℕ) → 1 ≤ n → k < framesOf n → 7 * k - 1 < n
+left : (k n : ℕ) → 1 ≤ n → k < frameTotal n → 7 * k - 1 < n
 left k n some h = omega arith
 
-all-sent : (k n : ℕ) → framesOf n ≤ k → sentBefore k n ≡ n
+all-sent : (k n : ℕ) → frameTotal n ≤ k → sentBefore k n ≡ n
 all-sent k n h = omega arith
 
 under : (k n : ℕ) → k ≤ n → min k n ≡ k
@@ -61,7 +61,7 @@ module _ (b : FastPacketBuilder) (id : ℕ) (p : List ℕ) (g : buildOf (idBuild
   -- ---- a fast message
   module _ (f : b .fast ≡ true) where
     frame-at : (k : ℕ) → 7 * k - 1 < length p
-        → nextOf b k (sentBefore k (length p)) p ≡ sentStep (frameOf id (bytesAt (b .«sequence_id») k p) 8) (k + 1) (sentBefore (k + 1) (length p))
+        → nextOf b k (sentBefore k (length p)) p ≡ sentStep (frameOf id (messageBytes (b .«sequence_id») k p) 8) (k + 1) (sentBefore (k + 1) (length p))
     unfolding framedStep pick
     frame-at zero h =
         let e : min (7 * 0 - 1) (length p) ≡ 0 = omega arith in
@@ -74,20 +74,20 @@ module _ (b : FastPacketBuilder) (id : ℕ) (p : List ℕ) (g : buildOf (idBuild
         rw e (ready (suc k) s h ∙ simp (le-ltb maxPayload (length p) few, f, ne-eqb s 0 (λ z. omega arith), i, t))
 
     -- by the number of frames
-    frame-of : (k : ℕ) → k < framesOf (length p) → nextOf b k (sentBefore k (length p)) p ≡ fastAnswer id (b .«sequence_id») p k
+    frame-of : (k : ℕ) → k < frameTotal (length p) → nextOf b k (sentBefore k (length p)) p ≡ fastAnswer id (b .«sequence_id») p k
     unfolding fastAnswer pick
-    frame-of k h = simp (lt-ltb k (framesOf (length p)) h) (frame-at k (left k (length p) some h))
+    frame-of k h = simp (lt-ltb k (frameTotal (length p)) h) (frame-at k (left k (length p) some h))
 
-    end-of : (k : ℕ) → framesOf (length p) ≤ k → nextOf b (framesOf (length p)) (sentBefore k (length p)) p ≡ fastAnswer id (b .«sequence_id») p k
+    end-of : (k : ℕ) → frameTotal (length p) ≤ k → nextOf b (frameTotal (length p)) (sentBefore k (length p)) p ≡ fastAnswer id (b .«sequence_id») p k
     unfolding fastAnswer pick
-    end-of k h = rw (all-sent k (length p) h, le-ltb k (framesOf (length p)) h) (over (framesOf (length p)))
+    end-of k h = rw (all-sent k (length p) h, le-ltb k (frameTotal (length p)) h) (over (frameTotal (length p)))
 
     -- where the iterator stands after k questions
     turn : (k : ℕ)
-        → iteratorOf (nextTurn (at b (min k (framesOf (length p))) (sentBefore k (length p))) p)
-        ≡ at b (min (suc k) (framesOf (length p))) (sentBefore (suc k) (length p))
+        → iteratorOf (nextTurn (at b (min k (frameTotal (length p))) (sentBefore k (length p))) p)
+        ≡ at b (min (suc k) (frameTotal (length p))) (sentBefore (suc k) (length p))
     turn k =
-        let n : ℕ = framesOf (length p) in
+        let n : ℕ = frameTotal (length p) in
         less? k n
         (λ h.
         rw (under k n (omega arith), under (suc k) n h, ← add-one k)
@@ -96,10 +96,10 @@ module _ (b : FastPacketBuilder) (id : ℕ) (p : List ℕ) (g : buildOf (idBuild
         rw (capped k n h, capped (suc k) n (omega arith), all-sent k (length p) h, all-sent (suc k) (length p) (omega arith))
         (ap (λ (t : Step). at b (t .index) (t .bytes)) (over n)))
 
-    pub fast-after : (k : ℕ) → after k (started b) p ≡ at b (min k (framesOf (length p))) (sentBefore k (length p))
-    unfolding after
+    pub fast-after : (k : ℕ) → placeAfter k (started b) p ≡ at b (min k (frameTotal (length p))) (sentBefore k (length p))
+    unfolding placeAfter
     fast-after zero =
-        let e : min 0 (framesOf (length p)) ≡ 0 = omega arith in
+        let e : min 0 (frameTotal (length p)) ≡ 0 = omega arith in
         let l : min (7 * 0 - 1) (length p) ≡ 0 = omega arith in
         rw (e, l)
     fast-after (suc k) = ap (λ (it : FrameIterator). iteratorOf (nextTurn it p)) (fast-after k) ∙ turn k
@@ -107,9 +107,9 @@ module _ (b : FastPacketBuilder) (id : ℕ) (p : List ℕ) (g : buildOf (idBuild
     pub fast-message : (k : ℕ) → answerAt b p k ≡ fastAnswer id (b .«sequence_id») p k
     fast-message k =
         ap (λ (it : FrameIterator). nextTurn it p .answer) (fast-after k)
-        ∙ less? k (framesOf (length p))
-        (λ h. rw (under k (framesOf (length p)) (omega arith)) (frame-of k h))
-        (λ h. rw (capped k (framesOf (length p)) h) (end-of k h))
+        ∙ less? k (frameTotal (length p))
+        (λ h. rw (under k (frameTotal (length p)) (omega arith)) (frame-of k h))
+        (λ h. rw (capped k (frameTotal (length p)) h) (end-of k h))
 
   -- ---- a raw one
   module _ (f : b .fast ≡ false) (short : length p ≤ 8) where
@@ -117,15 +117,15 @@ module _ (b : FastPacketBuilder) (id : ℕ) (p : List ℕ) (g : buildOf (idBuild
     unfolding framedStep pick
     raw-first = ready 0 0 some ∙ simp (le-ltb maxPayload (length p) few, f, le-ltb 8 (length p) short)
 
-    pub raw-after : (k : ℕ) → after (suc k) (started b) p ≡ at b 0 (length p)
-    unfolding after
+    pub raw-after : (k : ℕ) → placeAfter (suc k) (started b) p ≡ at b 0 (length p)
+    unfolding placeAfter
     raw-after zero = ap (λ (t : Step). at b (t .index) (t .bytes)) raw-first
     raw-after (suc k) =
         ap (λ (it : FrameIterator). iteratorOf (nextTurn it p)) (raw-after k)
         ∙ ap (λ (t : Step). at b (t .index) (t .bytes)) (over 0)
 
     pub raw-message : (k : ℕ) → answerAt b p k ≡ rawAnswer id p k
-    unfolding rawAnswer after
+    unfolding rawAnswer placeAfter
     raw-message zero = raw-first
     raw-message (suc k) = ap (λ (it : FrameIterator). nextTurn it p .answer) (raw-after k) ∙ over 0
 
@@ -147,7 +147,7 @@ module _ (b : FastPacketBuilder) (id : ℕ) (p : List ℕ) (g : buildOf (idBuild
 -- ---- so of every new builder
 module _ (pgn source : ℕ) (to : Destination) (p pgns : List ℕ) (held : ℕ) where
   abbrev new : FastPacketBuilder
-  new = madeOf pgn source to p pgns held .builder
+  new = newBuilder pgn source to p pgns held .builder
 
   pub new-message : (id : ℕ) → buildOf (idBuilder new) ≡ gives id → 1 ≤ length p → length p ≤ maxPayload → (k : ℕ) → answerAt new p k ≡ messageAnswer id new p k
   new-message id g some few = message new id p g some few (new-raw-short pgn pgns (length p))

@@ -16,33 +16,33 @@ abbrev pub iteratorOf : Turn → FrameIterator
 iteratorOf t = record { builder = t .builder; «frame_index» = t .answer .index; «bytes_sent» = t .answer .bytes }
 
 -- the iterator after k questions
-unfoldable pub after : ℕ → FrameIterator → List ℕ → FrameIterator
-after zero it p = it
-after (suc k) it p = iteratorOf (nextTurn (after k it p) p)
+unfoldable pub placeAfter : ℕ → FrameIterator → List ℕ → FrameIterator
+placeAfter zero it p = it
+placeAfter (suc k) it p = iteratorOf (nextTurn (placeAfter k it p) p)
 
 -- the answer to question k, counted from 0, of a builder's message
 abbrev pub answerAt : FastPacketBuilder → List ℕ → ℕ → Step
-answerAt b p k = nextTurn (after k (started b) p) p .answer
+answerAt b p k = nextTurn (placeAfter k (started b) p) p .answer
 
 -- ---- the frames of a fast message of n bytes
 -- 1 + (n - 6) / 7, rounded up: one, and one more for every seven bytes after the first six
-abbrev pub framesOf : ℕ → ℕ
-framesOf n = 1 + (n - 6 + 6) / 7
+abbrev pub frameTotal : ℕ → ℕ
+frameTotal n = 1 + (n - 6 + 6) / 7
 
 -- before frame k six bytes of the first and seven of each other have gone, and never more than there are
 abbrev pub sentBefore : ℕ → ℕ → ℕ
 sentBefore k n = min (7 * k - 1) n
 
-abbrev pub bytesAt : ℕ → ℕ → List ℕ → List ℕ
-bytesAt sequence zero p = headerOf sequence 0 ∷ length p ∷ fill 6 p
-bytesAt sequence (suc k) p = headerOf sequence (suc k) ∷ fill 7 (drop (7 * suc k - 1) p)
+abbrev pub messageBytes : ℕ → ℕ → List ℕ → List ℕ
+messageBytes sequence zero p = headerOf sequence 0 ∷ length p ∷ fill 6 p
+messageBytes sequence (suc k) p = headerOf sequence (suc k) ∷ fill 7 (drop (7 * suc k - 1) p)
 
 -- ---- the answers: the frames one by one, and then End for good
 unfoldable pub fastAnswer : ℕ → ℕ → List ℕ → ℕ → Step
 fastAnswer id sequence p k =
-    pick (ltb k (framesOf (length p)))
-    (sentStep (frameOf id (bytesAt sequence k p) 8) (k + 1) (sentBefore (k + 1) (length p)))
-    (endStep (framesOf (length p)) (length p))
+    pick (ltb k (frameTotal (length p)))
+    (sentStep (frameOf id (messageBytes sequence k p) 8) (k + 1) (sentBefore (k + 1) (length p)))
+    (endStep (frameTotal (length p)) (length p))
 
 unfoldable pub rawAnswer : ℕ → List ℕ → ℕ → Step
 rawAnswer id p zero = rawStep id 0 p

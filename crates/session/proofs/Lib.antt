@@ -1,7 +1,5 @@
 pub mod PlanLaws
-pub mod PlanUnique
 pub mod SearchLaws
-pub mod SearchUnique
 pub mod Walks
 pub mod Seen
 pub mod Sound

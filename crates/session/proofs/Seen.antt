@@ -10,13 +10,13 @@ use native.Mathlib.Omega.{arith}
 use native.Mathlib.Nat.{zero-add, add-zero}
 use borrow.Author.Tests.{lt-ltb}
 use Rattle.base.specs.Pick.{pick}
-use Rattle.base.specs.Lists.{next, here, orElse, firstAt, any}
+use Rattle.base.specs.Lists.{nextPlace, here, orElse, firstAt, any}
 use Rattle.base.proofs.First.{first-passes}
 use Rattle.session.specs.declared.Head.{Head}
 use Rattle.session.specs.declared.Heard.{Heard}
 use Rattle.session.specs.Rules.{Rules, poolLimit}
 use Rattle.session.specs.Heads.{impossibleHead, hasKey, isFree, isFreeOfSource, hasLiveKey}
-use Rattle.session.specs.inner.Search.{blank, looked, seen, firstOf, withinLimit}
+use Rattle.session.specs.inner.Search.{nothingFound, looked, seen, firstOf, withinLimit}
 
 -- ---- a search's answer as the walk has it
 
@@ -70,7 +70,7 @@ ix i none = poolLimit
 ix i (some j) = i + j
 
 ix-here : (b : Bool) (i : ℕ) (o : Option ℕ) → pick b i (ix (i + 1) o) ≡ ix i (here b o)
-unfolding pick ix here next
+unfolding pick ix here nextPlace
 ix-here true i o = sym (add-zero i)
 ix-here false i none = refl
 ix-here false i (some j) = omega arith
@@ -82,27 +82,27 @@ ix-place (some j) = zero-add j
 
 module _ (R : Rules) (f : Heard) where
   pub seen-bad : (hs : List Head) (i : ℕ) → seen R f i hs .bad ≡ any (impossibleHead R) hs
-  unfolding seen blank looked any
+  unfolding seen nothingFound looked any
   seen-bad [] i = refl
   seen-bad (h ∷ hs) i = ap (_||_ (impossibleHead R h)) (seen-bad hs (i + 1))
 
   key-from : (hs : List Head) (i : ℕ) → seen R f i hs .key ≡ ix i (firstAt (hasKey R f) hs)
-  unfolding seen blank looked firstAt ix
+  unfolding seen nothingFound looked firstAt ix
   key-from [] i = refl
   key-from (h ∷ hs) i = ap (pick (hasKey R f h) i) (key-from hs (i + 1)) ∙ ix-here (hasKey R f h) i (firstAt (hasKey R f) hs)
 
   live-from : (hs : List Head) (i : ℕ) → seen R f i hs .live ≡ ix i (firstAt (hasLiveKey R f) hs)
-  unfolding seen blank looked firstAt ix
+  unfolding seen nothingFound looked firstAt ix
   live-from [] i = refl
   live-from (h ∷ hs) i = ap (pick (hasLiveKey R f h) i) (live-from hs (i + 1)) ∙ ix-here (hasLiveKey R f h) i (firstAt (hasLiveKey R f) hs)
 
   own-from : (hs : List Head) (i : ℕ) → seen R f i hs .own ≡ ix i (firstAt (isFreeOfSource R f) hs)
-  unfolding seen blank looked firstAt ix
+  unfolding seen nothingFound looked firstAt ix
   own-from [] i = refl
   own-from (h ∷ hs) i = ap (pick (isFreeOfSource R f h) i) (own-from hs (i + 1)) ∙ ix-here (isFreeOfSource R f h) i (firstAt (isFreeOfSource R f) hs)
 
   free-from : (hs : List Head) (i : ℕ) → seen R f i hs .free ≡ ix i (firstAt (isFree R f) hs)
-  unfolding seen blank looked firstAt ix
+  unfolding seen nothingFound looked firstAt ix
   free-from [] i = refl
   free-from (h ∷ hs) i = ap (pick (isFree R f h) i) (free-from hs (i + 1)) ∙ ix-here (isFree R f h) i (firstAt (isFree R f) hs)
 

@@ -1,14 +1,21 @@
--- Each promise of `session` determines its answer: two that satisfy it are equal. Assumes nothing.
-use Prim.Native.Nat.{ℕ}
+-- Two outcomes that satisfy a call's contract are equal. Assumes nothing.
+use Prim.Native.Nat.{ℕ, _<_}
 use mathlib.Core.Bool.{Bool}
 use mathlib.Core.Path.{_≡_}
 use Rattle.base.proofs.Cases.{determined}
 use Rattle.session.specs.declared.Head.{Head}
 use Rattle.session.specs.declared.Counters.{Counters}
 use Rattle.session.specs.declared.Mark.{Mark}
-use Rattle.session.specs.Rules.{silence}
+use Rattle.session.specs.Rules.{silence, base, poolLimit}
 use Rattle.session.specs.Heads.{freshHead}
 use Rattle.session.specs.Counting.{raised}
+use Rattle.session.specs.declared.Heard.{Heard}
+use Rattle.session.specs.declared.Found.{Found}
+use Rattle.session.specs.inner.Search.{nothingFound, looked, placeOf, withinLimit}
+use Rattle.session.specs.declared.Plan.{Plan}
+use Rattle.session.specs.inner.Plan.{planOf}
+
+-- ---- silence, fresh heads, counters
 
 pub count-unique : (counters : Counters) (mark : Mark) (r s : Counters) → r ≡ raised mark counters → s ≡ raised mark counters → r ≡ s
 count-unique counters mark r s = determined
@@ -18,3 +25,22 @@ fresh-head-unique r s = determined
 
 pub is-silent-unique : (time last : ℕ) (r s : Bool) → r ≡ silence time last → s ≡ silence time last → r ≡ s
 is-silent-unique time last r s = determined
+
+-- ---- what a frame finds
+
+pub nothing-found-unique : (bad : Bool) (r s : Found) → r ≡ nothingFound bad → s ≡ nothingFound bad → r ≡ s
+nothing-found-unique bad r s = determined
+
+pub look-unique : (h : Head) (t : Found) (i : ℕ) (heard : Heard) (r s : Found) → r ≡ looked base heard i h t → s ≡ looked base heard i h t → r ≡ s
+look-unique h t i heard r s = determined
+
+pub place-for-unique : (t : Found) (heard : Heard) (r s : ℕ) → r ≡ placeOf heard t → s ≡ placeOf heard t → r ≡ s
+place-for-unique t heard r s = determined
+
+pub within-limit-unique : (i r s : ℕ) → (r ≡ withinLimit i) × (r < poolLimit) → (s ≡ withinLimit i) × (s < poolLimit) → r ≡ s
+within-limit-unique i r s p q = determined (p .0) (q .0)
+
+-- ---- what it makes of it
+
+pub decide-unique : (bad listed found : Bool) (h : Head) (heard : Heard) (r s : Plan) → r ≡ planOf bad listed found base heard h → s ≡ planOf bad listed found base heard h → r ≡ s
+decide-unique bad listed found h heard r s = determined

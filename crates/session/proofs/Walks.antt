@@ -14,15 +14,15 @@ use Rattle.session.specs.declared.Head.{Head}
 use Rattle.session.specs.declared.Heard.{Heard}
 use Rattle.session.specs.declared.Found.{Found}
 use Rattle.session.specs.Rules.{Rules, poolLimit}
-use Rattle.session.specs.inner.Search.{blank, looked, seen, seenIf, seenIn}
+use Rattle.session.specs.inner.Search.{nothingFound, looked, seen, seenIf, foundIn}
 
 -- of a pool that is too large nothing is looked at; else s is what is seen from place i on
 pub data Walk (R : Rules) (f : Heard) (n : ℕ) (hs : List Head) : Found → ℕ → Type 0 where
-  crowded : {s : Found} {i : ℕ} → poolLimit < n → s ≡ blank true → i ≡ 0 → Walk R f n hs s i
+  crowded : {s : Found} {i : ℕ} → poolLimit < n → s ≡ nothingFound true → i ≡ 0 → Walk R f n hs s i
   among : {s : Found} {i : ℕ} → n ≤ poolLimit → i ≤ n → s ≡ seen R f i (drop i (take n hs)) → Walk R f n hs s i
 
 module _ (R : Rules) (f : Heard) (n : ℕ) (hs : List Head) (long : n ≤ length hs) where
-  seen-none : blank false ≡ seen R f n (drop n (take n hs))
+  seen-none : nothingFound false ≡ seen R f n (drop n (take n hs))
   unfolding seen
   seen-none =
       let e : length (take n hs) ≤ n = omega (arith, length-take-le n hs long) in
@@ -35,11 +35,11 @@ module _ (R : Rules) (f : Heard) (n : ℕ) (hs : List Head) (long : n ≤ length
       er ∙ rw (es, drop-cons (take n hs) i d inside, getD-take n hs i d h, add-one i)
 
 module _ (R : Rules) (f : Heard) (n : ℕ) (hs : List Head) where
-  pub walk-start : length hs ≡ poolLimit → (s : Found) (i : ℕ) → s ≡ blank (ltb poolLimit n) → i ≡ pick (ltb poolLimit n) 0 n → Walk R f n hs s i
+  pub walk-start : length hs ≡ poolLimit → (s : Found) (i : ℕ) → s ≡ nothingFound (ltb poolLimit n) → i ≡ pick (ltb poolLimit n) 0 n → Walk R f n hs s i
   unfolding pick
   walk-start w s i es ei = go (ltb poolLimit n) refl es ei
     where
-      go : (b : Bool) → ltb poolLimit n ≡ b → s ≡ blank b → i ≡ pick b 0 n → Walk R f n hs s i
+      go : (b : Bool) → ltb poolLimit n ≡ b → s ≡ nothingFound b → i ≡ pick b 0 n → Walk R f n hs s i
       go true e es ei = crowded (ltb-true poolLimit n e) es ei
       go false e es ei =
           let small : n ≤ poolLimit = ltb-false poolLimit n e in
@@ -56,8 +56,8 @@ module _ (R : Rules) (f : Heard) (n : ℕ) (hs : List Head) where
       among {s = r} {i = i - 1} h (omega arith)
       (seen-turn R f n hs (omega (arith, w)) (i - 1) d s r (omega arith) (subst (λ (k : ℕ). s ≡ seen R f k (drop k (take n hs))) e es) er)
 
-  pub walk-done : (s : Found) (i : ℕ) → Walk R f n hs s i → i ≤ 0 → s ≡ seenIn R f n hs
-  unfolding seenIn seenIf
+  pub walk-done : (s : Found) (i : ℕ) → Walk R f n hs s i → i ≤ 0 → s ≡ foundIn R f n hs
+  unfolding foundIn seenIf
   walk-done s i (crowded h es z) l = es ∙ rw (lt-ltb poolLimit n h)
   walk-done s i (among h g es) l =
       let z : i ≡ 0 = omega arith in

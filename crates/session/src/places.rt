@@ -2,14 +2,14 @@
 ghost use mathlib.Core.Path.{_≡_};
 ghost use Prim.Native.Nat.{_<_};
 ghost use Rattle.session.specs.Rules.{poolLimit};
-ghost use Rattle.session.specs.inner.Search.{blank, firstOf, placeOf, withinLimit};
+ghost use Rattle.session.specs.inner.Search.{nothingFound, firstOf, placeOf, withinLimit};
 use crate::Found;
 use crate::Heard;
 use crate::POOL_LIMIT;
 
 // Where the walk begins: `bad` says that the pool itself is too large.
 pub fn nothing_found(bad: bool) -> Found
-    ensures { λ r. ⌜ r ≡ blank bad ⌝ }
+    ensures { λ r. ⌜ r ≡ nothingFound bad ⌝ }
 {
     Found {
         bad: bad,

@@ -9,8 +9,8 @@ use lib.Seq.{getD-take, getD-drop}
 use Rattle.base.specs.Lists.{fill}
 use Rattle.base.proofs.Fills.{getD-in, pasted, fill-turn, fill-done}
 use Rattle.base.proofs.Cases.{when-eq, when-ne}
-use Rattle.splitter.specs.Bytes.{bytesAt, frameAt}
-use Rattle.splitter.specs.inner.OneFrame.{frameOf}
+use Rattle.splitter.specs.Bytes.{splitBytes, splitFrame}
+use Rattle.splitter.specs.inner.OneFrame.{jobFrame}
 use Rattle.splitter.specs.declared.split_frame.Job.{Job}
 
 -- ---- a byte of the payload, or the filling
@@ -45,16 +45,16 @@ module _ (j : Job) where
   header = j .sequence % 8 * 32 + j .index % 32
 
   pub frame-first : {l : List ℕ} → length (j .payload) ≡ 256 → j .size < 256 → j .index ≡ 0 → l ≡ header ∷ j .size ∷ fill 6 payload
-      → record { id = j .id; «data» = l; len = 8 } ≡ frameOf j
-  unfolding frameOf frameAt bytesAt
+      → record { id = j .id; «data» = l; len = 8 } ≡ jobFrame j
+  unfolding jobFrame splitFrame splitBytes
   frame-first n k i e =
       let s : j .size ≡ length payload = rw length-take (omega arith) in
       ap (λ (x : List ℕ). record { id = j .id; «data» = x; len = 8 }) e
       ∙ ap (λ (x : List ℕ). record { id = j .id; «data» = header ∷ x; len = 8 }) (when-eq _ _ i (ap (λ (x : ℕ). x ∷ fill 6 payload) s))
 
   pub frame-later : {l : List ℕ} → 0 < j .index → l ≡ header ∷ fill 7 (drop (7 * j .index - 1) payload)
-      → record { id = j .id; «data» = l; len = 8 } ≡ frameOf j
-  unfolding frameOf frameAt bytesAt
+      → record { id = j .id; «data» = l; len = 8 } ≡ jobFrame j
+  unfolding jobFrame splitFrame splitBytes
   frame-later i e =
       let later : j .index ≡ 0 → ⊥ = λ y. omega arith in
       ap (λ (x : List ℕ). record { id = j .id; «data» = x; len = 8 }) e

@@ -6,8 +6,8 @@ use native.Mathlib.Omega.{arith}
 use lib.ListN.{length, getD, drop, set, drop-of-length-le}
 use lib.Seq.{drop-cons, sets}
 use Rattle.base.proofs.Laying.{laid, lay-none, lay-turn, lay-done}
-use Rattle.splitter.specs.Frames.{eight, bytesOf}
-use Rattle.splitter.specs.declared.bench_frames.Frame.{Frame}
+use Rattle.splitter.specs.Frames.{eight, frameBytes}
+use Rattle.splitter.specs.declared.Frame.{Frame}
 
 pub eight-same : (bs : List ℕ) → length bs ≡ 8 → eight bs ≡ bs
 unfolding eight
@@ -19,7 +19,7 @@ pub eight-long : (bs : List ℕ) → length (eight bs) ≡ 8
 unfolding eight
 eight-long bs = refl
 
-pub eight-more : (i : ℕ) (f : Frame) → 8 * (i + 1) ≡ 8 * i + length (bytesOf f)
+pub eight-more : (i : ℕ) (f : Frame) → 8 * (i + 1) ≡ 8 * i + length (frameBytes f)
 unfolding eight
 eight-more i f = omega arith
 

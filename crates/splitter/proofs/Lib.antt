@@ -1,6 +1,5 @@
 pub mod FrameLaws
 pub mod Types
-pub mod FrameUnique
 pub mod ByteLaws
 pub mod SplitTypes
 pub mod SplitLaws

@@ -13,19 +13,19 @@ use Rattle.base.proofs.Fills.{length-fill}
 use Rattle.base.proofs.Cases.{pick-all}
 use mathlib.Core.Bool.{Bool, true, false}
 use Rattle.base.specs.Answer.{Answer, gives, refuses}
-use Rattle.splitter.specs.Frames.{bytesOf, countIn}
-use Rattle.splitter.specs.Bytes.{bytesAt, frameAt, countOf}
-use Rattle.splitter.specs.inner.OneFrame.{toldOf, frameOf}
-use Rattle.splitter.specs.Split.{framesFrom, framesOf, splitOf, rowWith, idsOf, bytesAll, lensOf, idsWith, bytesWith, lensWith}
+use Rattle.splitter.specs.Frames.{frameBytes, countIn}
+use Rattle.splitter.specs.Bytes.{splitBytes, splitFrame, countOf}
+use Rattle.splitter.specs.inner.OneFrame.{toldOf, jobFrame}
+use Rattle.splitter.specs.Split.{splitFramesFrom, splitFrames, splitOf, rowWith, idsOf, bytesAll, lensOf, idsWith, bytesWith, lensWith}
 use Rattle.splitter.specs.Split.{ofSplit}
 use Rattle.base.specs.Answer.{counted}
-use Rattle.splitter.specs.declared.split_frame.Split.the-variants.{Frames, BadSplit, Short}
+use Rattle.splitter.specs.declared.Split.the-variants.{Frames, BadSplit, Short}
 use Rattle.base.proofs.Laying.{sets-append}
 use Rattle.splitter.proofs.FrameLaws.{eight-same, eight-more}
-use Rattle.splitter.specs.inner.Job.{isUnsplit, afterOne, jobFrames, Made}
+use Rattle.splitter.specs.inner.Job.{isUnsplit, afterOne, jobFrames, IsJobOf}
 use Rattle.splitter.specs.declared.split_frame.Job.{Job}
-use Rattle.splitter.specs.declared.bench_frames.Frame.{Frame}
-use Rattle.splitter.specs.declared.split_frame.Split.{Split}
+use Rattle.splitter.specs.declared.Frame.{Frame}
+use Rattle.splitter.specs.declared.Split.{Split}
 
 -- ---- the payload is copied
 module _ (out p : List ℕ) (i : ℕ) (e : take i out ≡ take i p) where
@@ -36,14 +36,14 @@ module _ (out p : List ℕ) (i : ℕ) (e : take i out ≡ take i p) where
   copy-done h = e ∙ take-all i p h
 
 -- ---- the frames of a job are those of its payload
-pub frames-same : (n : ℕ) (j : Job) → j .index + n ≤ 255 → jobFrames n j ≡ framesFrom (j .id) (j .sequence) (take (j .size) (j .payload)) (j .index) n
-unfolding frameOf
+pub frames-same : (n : ℕ) (j : Job) → j .index + n ≤ 255 → jobFrames n j ≡ splitFramesFrom (j .id) (j .sequence) (take (j .size) (j .payload)) (j .index) n
+unfolding jobFrame
 frames-same zero j h = refl
 frames-same (suc n) j h =
     let m : (j .index + 1) % 256 ≡ suc (j .index) = omega arith in
-    ap (λ (l : List Frame). frameOf j ∷ l)
+    ap (λ (l : List Frame). jobFrame j ∷ l)
     (frames-same n (afterOne j) (omega arith)
-    ∙ ap (λ (k : ℕ). framesFrom (j .id) (j .sequence) (take (j .size) (j .payload)) k n) m)
+    ∙ ap (λ (k : ℕ). splitFramesFrom (j .id) (j .sequence) (take (j .size) (j .payload)) k n) m)
 
 -- ---- the answer, by its four tests
 module _ (a b c d : Bool) (n : ℕ) where
@@ -78,7 +78,7 @@ tests-give false false true d n fs e = let z : _≡_ {A = ℕ} 0 1 = cc in absur
 tests-give false false false true n fs e = let z : _≡_ {A = ℕ} 0 1 = cc in absurd (omega arith)
 tests-give false false false false n fs e = (refl, refl, refl)
 
-pub length-frames : (id sequence : ℕ) (p : List ℕ) (n k : ℕ) → length (framesFrom id sequence p k n) ≡ n
+pub length-frames : (id sequence : ℕ) (p : List ℕ) (n k : ℕ) → length (splitFramesFrom id sequence p k n) ≡ n
 length-frames id sequence p zero k = refl
 length-frames id sequence p (suc n) k = ap suc (length-frames id sequence p n (suc k))
 
@@ -92,15 +92,15 @@ module _ (id sequence : ℕ) (p : List ℕ) (space : ℕ) {s : Split} {b : Bool}
 
   pub split-told : ofSplit s ≡ counted (splitOf id sequence p space)
   unfolding toldOf splitOf
-  split-told = ap ofSplit es ∙ tests-told (eqb size 0) (ltb 223 size) (ltb 7 sequence) (ltb space (countOf size)) (countOf size) (framesOf id sequence p) (length-frames id sequence p (countOf size) 0)
+  split-told = ap ofSplit es ∙ tests-told (eqb size 0) (ltb 223 size) (ltb 7 sequence) (ltb space (countOf size)) (countOf size) (splitFrames id sequence p) (length-frames id sequence p (countOf size) 0)
 
   split-keeps : {A : Type 0} (W : Answer (List Frame) → List A → List A) (l : List A) → ((k : ℕ) (vs : List ℕ) → l ≡ W (refuses k vs) l) → b ≡ true → l ≡ W (splitOf id sequence p space) l
   unfolding toldOf splitOf
-  split-keeps W l still e = tests-refuse W l still (eqb size 0) (ltb 223 size) (ltb 7 sequence) (ltb space (countOf size)) (countOf size) (framesOf id sequence p) (told-flag ∙ e)
+  split-keeps W l still e = tests-refuse W l still (eqb size 0) (ltb 223 size) (ltb 7 sequence) (ltb space (countOf size)) (countOf size) (splitFrames id sequence p) (told-flag ∙ e)
 
-  gave : b ≡ false → (splitOf id sequence p space ≡ gives (framesOf id sequence p)) × (ltb 223 size ≡ false) × (ltb space (countOf size) ≡ false)
+  gave : b ≡ false → (splitOf id sequence p space ≡ gives (splitFrames id sequence p)) × (ltb 223 size ≡ false) × (ltb space (countOf size) ≡ false)
   unfolding toldOf splitOf
-  gave e = tests-give (eqb size 0) (ltb 223 size) (ltb 7 sequence) (ltb space (countOf size)) (countOf size) (framesOf id sequence p) (told-flag ∙ e)
+  gave e = tests-give (eqb size 0) (ltb 223 size) (ltb 7 sequence) (ltb space (countOf size)) (countOf size) (splitFrames id sequence p) (told-flag ∙ e)
 
   pub split-small : b ≡ false → length p ≤ 223
   split-small e = ltb-false 223 size (gave e .1)
@@ -108,13 +108,13 @@ module _ (id sequence : ℕ) (p : List ℕ) (space : ℕ) {s : Split} {b : Bool}
   pub split-room : {n : ℕ} → b ≡ false → n ≡ countOf (length p) → n ≤ space
   split-room e en = let h : countOf size ≤ space = ltb-false space (countOf size) (gave e .2) in omega arith
 
-  job-frames : {j : Job} {n : ℕ} → b ≡ false → Made id sequence p j → n ≡ countOf (length p) → jobFrames n j ≡ framesOf id sequence p
+  job-frames : {j : Job} {n : ℕ} → b ≡ false → IsJobOf id sequence p j → n ≡ countOf (length p) → jobFrames n j ≡ splitFrames id sequence p
   job-frames {j} e made en =
       let m : ℕ = countOf (length p) in
       let i : j .index ≡ 0 = made .at-first in
       let h : length p ≤ 223 = split-small e in
-      let f : jobFrames m j ≡ framesFrom (j .id) (j .sequence) (take (j .size) (j .payload)) (j .index) m = frames-same m j (omega arith) in
-      let g : framesFrom (j .id) (j .sequence) (take (j .size) (j .payload)) (j .index) m ≡ framesFrom id sequence p 0 m = rw (made .same-id, made .same-sequence, made .same-bytes, made .at-first) in
+      let f : jobFrames m j ≡ splitFramesFrom (j .id) (j .sequence) (take (j .size) (j .payload)) (j .index) m = frames-same m j (omega arith) in
+      let g : splitFramesFrom (j .id) (j .sequence) (take (j .size) (j .payload)) (j .index) m ≡ splitFramesFrom id sequence p 0 m = rw (made .same-id, made .same-sequence, made .same-bytes, made .at-first) in
       ap (λ (k : ℕ). jobFrames k j) en ∙ f ∙ g
 
 -- into a row of frames
@@ -126,10 +126,10 @@ module _ (id sequence : ℕ) (p : List ℕ) (rows : List Frame) {s : Split} {b :
   unfolding rowWith
   unsplit-stops e = (split-told id sequence p (length rows) es eb, split-keeps id sequence p (length rows) es eb rowWith rows (λ k vs. refl) e)
 
-  pub split-goes-on : {j : Job} {n : ℕ} {rows′ : List Frame} → b ≡ false → Made id sequence p j → n ≡ countOf (length p) → rows′ ≡ sets rows 0 (jobFrames n j) → (ofSplit s ≡ counted told) × (rows′ ≡ rowWith told rows)
+  pub split-goes-on : {j : Job} {n : ℕ} {rows′ : List Frame} → b ≡ false → IsJobOf id sequence p j → n ≡ countOf (length p) → rows′ ≡ sets rows 0 (jobFrames n j) → (ofSplit s ≡ counted told) × (rows′ ≡ rowWith told rows)
   unfolding rowWith
   split-goes-on e made en er =
-      let g : told ≡ gives (framesOf id sequence p) = gave id sequence p (length rows) es eb e .0 in
+      let g : told ≡ gives (splitFrames id sequence p) = gave id sequence p (length rows) es eb e .0 in
       (split-told id sequence p (length rows) es eb, er ∙ ap (sets rows 0) (job-frames id sequence p (length rows) es eb e made en) ∙ sym (ap (λ (x : Answer (List Frame)). rowWith x rows) g))
 
 -- into separate slices
@@ -158,25 +158,25 @@ module _ (id sequence : ℕ) (p ids bytes lens : List ℕ) {m : ℕ} (em : m ≡
   pub rows-room : {n : ℕ} → b ≡ false → n ≡ countOf (length p) → n ≤ space
   rows-room = split-room id sequence p space es′ eb
 
-  pub rows-go-on : {j : Job} {n : ℕ} {ids′ bytes′ lens′ : List ℕ} → b ≡ false → Made id sequence p j → n ≡ countOf (length p)
+  pub rows-go-on : {j : Job} {n : ℕ} {ids′ bytes′ lens′ : List ℕ} → b ≡ false → IsJobOf id sequence p j → n ≡ countOf (length p)
       → ids′ ≡ sets ids 0 (idsOf (jobFrames n j)) → bytes′ ≡ sets bytes 0 (bytesAll (jobFrames n j)) → lens′ ≡ sets lens 0 (lensOf (jobFrames n j))
       → (ofSplit s ≡ counted told′) × (ids′ ≡ idsWith told′ ids) × (bytes′ ≡ bytesWith told′ bytes) × (lens′ ≡ lensWith told′ lens)
   unfolding idsWith bytesWith lensWith
   rows-go-on {j} {n} e made en ei eb′ el =
-      let g : told′ ≡ gives (framesOf id sequence p) = gave id sequence p space es′ eb e .0 in
-      let f : jobFrames n j ≡ framesOf id sequence p = job-frames id sequence p space es′ eb e made en in (
+      let g : told′ ≡ gives (splitFrames id sequence p) = gave id sequence p space es′ eb e .0 in
+      let f : jobFrames n j ≡ splitFrames id sequence p = job-frames id sequence p space es′ eb e made en in (
         split-told id sequence p space es′ eb,
         ei ∙ ap (λ (l : List Frame). sets ids 0 (idsOf l)) f ∙ sym (ap (λ (x : Answer (List Frame)). idsWith x ids) g),
         eb′ ∙ ap (λ (l : List Frame). sets bytes 0 (bytesAll l)) f ∙ sym (ap (λ (x : Answer (List Frame)). bytesWith x bytes) g),
         el ∙ ap (λ (l : List Frame). sets lens 0 (lensOf l)) f ∙ sym (ap (λ (x : Answer (List Frame)). lensWith x lens) g),
       )
 
-pub bytes-eight : (sequence : ℕ) (p : List ℕ) (index : ℕ) → length (bytesAt sequence p index) ≡ 8
-unfolding bytesAt
+pub bytes-eight : (sequence : ℕ) (p : List ℕ) (index : ℕ) → length (splitBytes sequence p index) ≡ 8
+unfolding splitBytes
 bytes-eight sequence p index = ap suc (pick-all (λ (l : List ℕ). length l ≡ 7) (eqb index 0) (ap suc (length-fill 6 p)) (length-fill 7 (drop (7 * index - 1) p)))
 
-job-eight : (j : Job) → length (frameOf j .«data») ≡ 8
-unfolding frameOf frameAt
+job-eight : (j : Job) → length (jobFrame j .«data») ≡ 8
+unfolding jobFrame splitFrame
 job-eight j = bytes-eight (j .sequence) (take (j .size) (j .payload)) (j .index)
 
 -- ---- a loop that lays a job's frames into separate slices: what is laid from i on
@@ -190,29 +190,29 @@ module _ (n : ℕ) where
   abbrev pub lensLeft : Job → List ℕ → ℕ → List ℕ
   lensLeft j l i = sets l i (lensOf (jobFrames (n - i) j))
 
-  one-more : (i : ℕ) (j : Job) → i < n → jobFrames (n - i) j ≡ frameOf j ∷ jobFrames (n - (i + 1)) (afterOne j)
+  one-more : (i : ℕ) (j : Job) → i < n → jobFrames (n - i) j ≡ jobFrame j ∷ jobFrames (n - (i + 1)) (afterOne j)
   one-more i j h = let e : n - i ≡ suc (n - (i + 1)) = omega arith in ap (λ (k : ℕ). jobFrames k j) e
 
   no-more : (i : ℕ) (j : Job) → n ≤ i → jobFrames (n - i) j ≡ []
   no-more i j h = let e : n - i ≡ 0 = omega arith in ap (λ (k : ℕ). jobFrames k j) e
 
-  module _ (j : Job) {k : Job} {f : Frame} (l : List ℕ) (i : ℕ) {x : List ℕ} (h : i < n) (ef : f ≡ frameOf j) (ek : k ≡ afterOne j) where
+  module _ (j : Job) {k : Job} {f : Frame} (l : List ℕ) (i : ℕ) {x : List ℕ} (h : i < n) (ef : f ≡ jobFrame j) (ek : k ≡ afterOne j) where
     pub ids-turn : idsLeft j l i ≡ x → idsLeft k (set l i (f .id)) (i + 1) ≡ x
     unfolding idsOf
-    ids-turn e = rw (ek, ef, add-one i) (sym (ap (λ (fs : List Frame). sets l i (idsOf fs)) (one-more i j h ∙ ap (λ (m : ℕ). frameOf j ∷ jobFrames (n - m) (afterOne j)) (add-one i))) ∙ e)
+    ids-turn e = rw (ek, ef, add-one i) (sym (ap (λ (fs : List Frame). sets l i (idsOf fs)) (one-more i j h ∙ ap (λ (m : ℕ). jobFrame j ∷ jobFrames (n - m) (afterOne j)) (add-one i))) ∙ e)
 
     pub lens-turn : lensLeft j l i ≡ x → lensLeft k (set l i (f .len)) (i + 1) ≡ x
     unfolding lensOf
-    lens-turn e = rw (ek, ef, add-one i) (sym (ap (λ (fs : List Frame). sets l i (lensOf fs)) (one-more i j h ∙ ap (λ (m : ℕ). frameOf j ∷ jobFrames (n - m) (afterOne j)) (add-one i))) ∙ e)
+    lens-turn e = rw (ek, ef, add-one i) (sym (ap (λ (fs : List Frame). sets l i (lensOf fs)) (one-more i j h ∙ ap (λ (m : ℕ). jobFrame j ∷ jobFrames (n - m) (afterOne j)) (add-one i))) ∙ e)
 
     pub bytes-turn : {l′ : List ℕ} → l′ ≡ sets l (8 * i) (f .«data») → bytesLeft j l i ≡ x → bytesLeft k l′ (i + 1) ≡ x
     unfolding bytesAll
     bytes-turn {l′} el e =
         let m : length (f .«data») ≡ 8 = ap (λ (g : Frame). length (g .«data»)) ef ∙ job-eight j in
-        let t : f .«data» ≡ bytesOf (frameOf j) = sym (eight-same (f .«data») m) ∙ ap bytesOf ef in
-        let z : 8 * (i + 1) ≡ 8 * i + length (bytesOf (frameOf j)) = eight-more i (frameOf j) in
+        let t : f .«data» ≡ frameBytes (jobFrame j) = sym (eight-same (f .«data») m) ∙ ap frameBytes ef in
+        let z : 8 * (i + 1) ≡ 8 * i + length (frameBytes (jobFrame j)) = eight-more i (jobFrame j) in
         rw (ek, z, el, t)
-        (sym (sets-append (bytesOf (frameOf j)) (bytesAll (jobFrames (n - (i + 1)) (afterOne j))) l (8 * i))
+        (sym (sets-append (frameBytes (jobFrame j)) (bytesAll (jobFrames (n - (i + 1)) (afterOne j))) l (8 * i))
         ∙ sym (ap (λ (fs : List Frame). sets l (8 * i) (bytesAll fs)) (one-more i j h))
         ∙ e)
 

@@ -2,8 +2,8 @@
 use Rattle.walk.proofs.Walk.{Plain, struct, enum}
 use Rattle.splitter.proofs.split_frame.Job as Job
 use Rattle.splitter.proofs.split_frame.Job.Laws as Job′
-use Rattle.splitter.proofs.split_frame.Split as Split
-use Rattle.splitter.proofs.split_frame.Split.Laws as Split′
+use Rattle.splitter.proofs.Split as Split
+use Rattle.splitter.proofs.Split.Laws as Split′
 
 abbrev pub job : Plain
 job = struct Job.the-type Job′.the-laws Job′.the-copy Job′.the-plain

@@ -1,15 +1,22 @@
--- Two outcomes that meet a public call's promise are equal: its answer and all that is lent to it. Assumes nothing.
+-- Two outcomes that satisfy a call's contract are equal. Assumes nothing.
 use Prim.Native.Nat.{ℕ, _-_}
-use mathlib.Core.List.{List, [], _∷_}
 use mathlib.Core.Path.{_≡_, refl}
-use lib.ListN.{length, getD}
-use Rattle.base.specs.Answer.{Answer, gives, refuses, counted}
 use Rattle.base.proofs.Cases.{determined, determined-by}
 use Rattle.splitter.specs.Frames.{countIn}
+use mathlib.Core.List.{List, [], _∷_}
+use lib.ListN.{length, getD}
+use Rattle.base.specs.Answer.{Answer, gives, refuses, counted}
 use Rattle.splitter.specs.Split.{splitOf, ofSplit, rowWith, idsWith, bytesWith, lensWith}
-use Rattle.splitter.specs.declared.bench_frames.Frame.{Frame}
-use Rattle.splitter.specs.declared.split_frame.Split.{Split}
-use Rattle.splitter.specs.declared.split_frame.Split.the-variants.{Frames, BadSplit, Short}
+use Rattle.splitter.specs.declared.Frame.{Frame}
+use Rattle.splitter.specs.declared.Split.{Split}
+use Rattle.splitter.specs.declared.Split.the-variants.{Frames, BadSplit, Short}
+
+-- ---- how many frames separate slices have
+
+pub frame-count-unique : (ids bytes lens r s : ℕ) → r ≡ countIn ids bytes lens → s ≡ countIn ids bytes lens → r ≡ s
+frame-count-unique ids bytes lens r s = determined
+
+-- ---- the splitter
 
 -- the answer that has these numbers
 backSplit : Answer ℕ → Split

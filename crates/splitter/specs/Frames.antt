@@ -2,14 +2,14 @@
 use Prim.Native.Nat.{ℕ, _/_, min}
 use mathlib.Core.List.{List, [], _∷_}
 use lib.ListN.{getD}
-use Rattle.splitter.specs.declared.bench_frames.Frame.{Frame}
+use Rattle.splitter.specs.declared.Frame.{Frame}
 
 -- the eight bytes of a frame
 unfoldable pub eight : List ℕ → List ℕ
 eight bs = getD bs 0 0 ∷ getD bs 1 0 ∷ getD bs 2 0 ∷ getD bs 3 0 ∷ getD bs 4 0 ∷ getD bs 5 0 ∷ getD bs 6 0 ∷ getD bs 7 0 ∷ []
 
-abbrev pub bytesOf : Frame → List ℕ
-bytesOf f = eight (f .«data»)
+abbrev pub frameBytes : Frame → List ℕ
+frameBytes f = eight (f .«data»)
 
 -- ---- separate slices: identifiers, eight bytes a frame, lengths
 -- how many frames the slices have: the shortest decides

@@ -6,20 +6,20 @@ use lib.Seq.{sets}
 use lib.Dec.{eqb, ltb}
 use Rattle.base.specs.Answer.{Answer, gives, refuses}
 use Rattle.base.specs.Pick.{pick}
-use Rattle.splitter.specs.Frames.{bytesOf}
-use Rattle.splitter.specs.declared.bench_frames.Frame.{Frame}
-use Rattle.splitter.specs.Bytes.{frameAt, countOf}
-use Rattle.splitter.specs.declared.split_frame.Split.{Split}
-use Rattle.splitter.specs.declared.split_frame.Split.the-variants.{Frames, BadSplit, Short}
+use Rattle.splitter.specs.Frames.{frameBytes}
+use Rattle.splitter.specs.declared.Frame.{Frame}
+use Rattle.splitter.specs.Bytes.{splitFrame, countOf}
+use Rattle.splitter.specs.declared.Split.{Split}
+use Rattle.splitter.specs.declared.Split.the-variants.{Frames, BadSplit, Short}
 
 -- n frames from an index on
-abbrev pub framesFrom : ℕ → ℕ → List ℕ → ℕ → ℕ → List Frame
-framesFrom id sequence payload index zero = []
-framesFrom id sequence payload index (suc n) = frameAt id sequence payload index ∷ framesFrom id sequence payload (suc index) n
+abbrev pub splitFramesFrom : ℕ → ℕ → List ℕ → ℕ → ℕ → List Frame
+splitFramesFrom id sequence payload index zero = []
+splitFramesFrom id sequence payload index (suc n) = splitFrame id sequence payload index ∷ splitFramesFrom id sequence payload (suc index) n
 
 -- all frames of a payload
-abbrev pub framesOf : ℕ → ℕ → List ℕ → List Frame
-framesOf id sequence payload = framesFrom id sequence payload 0 (countOf (length payload))
+abbrev pub splitFrames : ℕ → ℕ → List ℕ → List Frame
+splitFrames id sequence payload = splitFramesFrom id sequence payload 0 (countOf (length payload))
 
 -- "refusal 28 if the payload is not 1..223 bytes or the sequence is over 7; 27 if the row is too short"; else the frames
 unfoldable pub splitOf : ℕ → ℕ → List ℕ → ℕ → Answer (List Frame)
@@ -28,7 +28,7 @@ splitOf id sequence payload room =
     (pick (ltb 223 (length payload)) (refuses 28 [])
     (pick (ltb 7 sequence) (refuses 28 [])
     (pick (ltb room (countOf (length payload))) (refuses 27 [])
-    (gives (framesOf id sequence payload)))))
+    (gives (splitFrames id sequence payload)))))
 
 -- this paper's number and values for each answer: "27, 28: no room; bad split: nothing"
 unfoldable pub ofSplit : Split → Answer ℕ
@@ -48,7 +48,7 @@ idsOf (f ∷ fs) = f .id ∷ idsOf fs
 
 unfoldable pub bytesAll : List Frame → List ℕ
 bytesAll [] = []
-bytesAll (f ∷ fs) = bytesOf f ++ bytesAll fs
+bytesAll (f ∷ fs) = frameBytes f ++ bytesAll fs
 
 unfoldable pub lensOf : List Frame → List ℕ
 lensOf [] = []

@@ -18,13 +18,6 @@ pub const INDICES: u8 = 32;
 // Sequences count modulo this.
 pub const SEQUENCES: u8 = 8;
 
-// A captured or injected frame: identifier, bytes and length.
-pub struct Frame {
-    pub id: u32,
-    pub data: [u8; 8],
-    pub len: usize,
-}
-
 // ---- in separate slices frame i has the identifier at i, the eight bytes from 8 * i on, and the length at i
 
 fn lesser(a: usize, b: usize) -> usize

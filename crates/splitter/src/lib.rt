@@ -7,7 +7,7 @@ ghost use Rattle.base.specs.Answer.{counted};
 ghost use Rattle.splitter.specs.Frames.{countIn};
 ghost use Rattle.splitter.specs.Bytes.{countOf};
 ghost use Rattle.splitter.specs.Split.{splitOf, ofSplit, rowWith, idsOf, bytesAll, lensOf, idsWith, bytesWith, lensWith};
-ghost use Rattle.splitter.specs.inner.Job.{isUnsplit, Made, afterOne, jobEnd, jobFrames};
+ghost use Rattle.splitter.specs.inner.Job.{isUnsplit, IsJobOf, afterOne, jobEnd, jobFrames};
 
 mod bench_frames;
 mod split_frame;
@@ -18,12 +18,24 @@ use crate::split_frame::frame_of;
 use crate::split_frame::split_of;
 pub use bench_frames::FILL;
 pub use bench_frames::FRAME_BYTES;
-pub use bench_frames::Frame;
 pub use bench_frames::INDICES;
 pub use bench_frames::MAX_FAST_PACKET_PAYLOAD;
 pub use bench_frames::SEQUENCES;
 pub use bench_frames::frame_count;
-pub use split_frame::Split;
+
+// A captured or injected frame: identifier, bytes and length.
+pub struct Frame {
+    pub id: u32,
+    pub data: [u8; 8],
+    pub len: usize,
+}
+
+// What the splitter answers: the number of frames, or why there is none.
+pub enum Split {
+    Frames(usize),
+    BadSplit,
+    Short,
+}
 
 fn unsplit(s: Split) -> bool
     ensures { λ r. ⌜ r ≡ isUnsplit s ⌝ }
@@ -44,7 +56,7 @@ fn count_of(size: usize) -> usize
 
 fn new_job(id: u32, sequence: u8, payload: &[u8]) -> Job
     requires { ⌜ length (now payload) ≤ 223 ⌝ }
-    ensures { λ r. ⌜ Made id sequence (now (payload .entry)) r ⌝ }
+    ensures { λ r. ⌜ IsJobOf id sequence (now (payload .entry)) r ⌝ }
 {
     let mut out = [0; 256];
     let mut i = 0;
@@ -99,7 +111,7 @@ pub fn fast_packet_frames(id: u32, sequence: u8, payload: &[u8], row: &mut [Fram
     s
 }
 
-// ---- the same in separate slices (`frame_count` of crate `bench_frames`)
+// ---- the same in separate slices
 
 fn put_frame(bytes: &mut [u8], at: usize, frame: [u8; 8])
     requires { ⌜ at + 8 ≤ length (now bytes) ⌝ }

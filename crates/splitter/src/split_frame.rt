@@ -1,13 +1,14 @@
-// One frame of the bench's splitter, byte by byte, and whether a payload can be split at all. Rows of frames are crate `splitter`'s.
+// One frame of the bench's splitter, byte by byte, and whether a payload can be split at all. Rows of frames are in lib.rt.
 ghost use mathlib.Core.Path.{_≡_};
 ghost use Prim.Native.Nat.{_-_, _≤_};
 ghost use mathlib.Core.List.{_++_};
 ghost use lib.ListN.{take, drop, getD};
 ghost use Rattle.base.specs.Lists.{fill};
-ghost use Rattle.splitter.specs.inner.OneFrame.{toldOf, frameOf};
+ghost use Rattle.splitter.specs.inner.OneFrame.{toldOf, jobFrame};
+use crate::Frame;
+use crate::Split;
 use crate::bench_frames::FILL;
 use crate::bench_frames::FRAME_BYTES;
-use crate::bench_frames::Frame;
 use crate::bench_frames::INDICES;
 use crate::bench_frames::MAX_FAST_PACKET_PAYLOAD;
 use crate::bench_frames::SEQUENCES;
@@ -17,13 +18,6 @@ const LAST_SEQUENCE: u8 = 7;
 
 // A first frame has its length and six bytes; any other has up to this many.
 pub(crate) const LATER_BYTES: usize = 7;
-
-// What the splitter answers: the number of frames, or why there is none.
-pub enum Split {
-    Frames(usize),
-    BadSplit,
-    Short,
-}
 
 // A payload that is being laid out, with the index of its next frame.
 pub(crate) struct Job {
@@ -79,7 +73,7 @@ fn follow(start: [u8; 8], from: usize, bytes: [u8; 256], size: u8, at: usize) ->
 
 // The next frame of a job: a first frame has its message's length and six bytes, any other has seven.
 pub(crate) fn frame_of(j: Job) -> Frame
-    ensures { λ r. ⌜ r ≡ frameOf j ⌝ }
+    ensures { λ r. ⌜ r ≡ jobFrame j ⌝ }
 {
     let b = j.payload;
     let header = j.sequence % SEQUENCES * INDICES + j.index % INDICES;

@@ -1,7 +1,7 @@
 -- The cases marked P hold: each is computed from the definitions. Assumes nothing.
 use mathlib.Core.Path.{refl}
 use Rattle.base.specs.Pick.{pick}
-use Rattle.base.specs.Lists.{next, here, orElse, firstAt, any, fill}
+use Rattle.base.specs.Lists.{nextPlace, here, orElse, firstAt, any, fill}
 use Rattle.fast_packet.specs.FastPacket.{listedIn}
 use Rattle.can_id.specs.Build.{buildOf}
 use Rattle.builder.specs.Next.{nextOf, framedStep}
@@ -12,11 +12,11 @@ use Rattle.session.specs.Counting.{freshCounters, most, raise, raised, expiredM
 use Rattle.assembler.specs.Slots.{freshSlot, slotAt, impossible, chosen, live, openedSlot, resetSlot, copiedSlot}
 use Rattle.assembler.specs.Step.{opensAt, firstShort, firstSized, copyAt, turnAt, continuesAt, byIndex, byList, eventOf, slotsAfter, markOf, padded, message, saidOf, outcome, stepIf, step}
 use Rattle.assembler.specs.Making.{freshPool}
-use Rattle.assembler.specs.View.{slotsFrom, headOf, flat, slotsOf, poolOf, zeros, kindOf, payloadOf, lengthOf, shown, receiveOf}
+use Rattle.assembler.specs.View.{slotsFrom, headOf, flat, slotsOf, poolOf, zeros, replyKind, replyPayload, replyLength, shown, receiveOf}
 use Rattle.values.specs.Values.{Values}
 
 pub values : Values
-unfolding pick next here orElse firstAt any fill listedIn buildOf nextOf framedStep silence keysEqual base sequenceOf indexOf sizeOf firstBytes nextBytes badSize keyOf freshHead headKey impossibleHead hasKey isSilent isFree isFreeOfSource hasLiveKey isExpired inTurn openedHead resetHead wanted copiedHead allThere freshCounters most raise raised expiredMark freshSlot impossible chosen live openedSlot resetSlot copiedSlot opensAt firstShort firstSized copyAt turnAt continuesAt byIndex byList eventOf slotsAfter markOf padded message saidOf outcome stepIf step slotsFrom headOf flat slotsOf poolOf zeros kindOf payloadOf lengthOf shown receiveOf freshPool
+unfolding pick nextPlace here orElse firstAt any fill listedIn buildOf nextOf framedStep silence keysEqual base sequenceOf indexOf sizeOf firstBytes nextBytes badSize keyOf freshHead headKey impossibleHead hasKey isSilent isFree isFreeOfSource hasLiveKey isExpired inTurn openedHead resetHead wanted copiedHead allThere freshCounters most raise raised expiredMark freshSlot impossible chosen live openedSlot resetSlot copiedSlot opensAt firstShort firstSized copyAt turnAt continuesAt byIndex byList eventOf slotsAfter markOf padded message saidOf outcome stepIf step slotsFrom headOf flat slotsOf poolOf zeros replyKind replyPayload replyLength shown receiveOf freshPool
 values =
     record {
       p1 = refl;

@@ -4,9 +4,9 @@ use mathlib.Core.Bool.{true}
 use mathlib.Core.List.{List, [], _∷_}
 use mathlib.Core.Path.{_≡_}
 use Rattle.base.specs.Answer.{gives, refuses}
-use Rattle.can_id.specs.Build.{buildOf, fresh, withPriority, withDestination}
+use Rattle.can_id.specs.Build.{buildOf, newIdBuilder, idWithPriority, idWithDestination}
 use Rattle.can_id.specs.declared.Destination.the-variants.{Nobody}
-use Rattle.builder.specs.Builder.{madeOf}
+use Rattle.builder.specs.Builder.{newBuilder}
 use Rattle.builder.specs.Next.{nextOf, frameOf, sentStep}
 use Rattle.session.specs.declared.Heard.{Heard}
 use Rattle.session.specs.declared.Counters.{Counters}
@@ -24,12 +24,12 @@ abbrev pub then : Received → ℕ → List ℕ → Received
 then r time bytes = receiveOf base (127489 ∷ []) (record { «now_ms» = time; pgn = 127489; «source_address» = 35; «data» = bytes }) (r .pool) (r .counters)
 
 -- a fresh pool of the default size, with zero counters
-abbrev pub start : Received
-start = record { kind = Ignored; payload = []; length = 0; pool = freshPool 4; counters = freshCounters }
+abbrev pub beforeAny : Received
+beforeAny = record { kind = Ignored; payload = []; length = 0; pool = freshPool 4; counters = freshCounters }
 
 -- "00 07 then six bytes", at 1000
 abbrev pub first : Received
-first = then start 1000 (0 ∷ 7 ∷ 1 ∷ 2 ∷ 3 ∷ 4 ∷ 5 ∷ 6 ∷ [])
+first = then beforeAny 1000 (0 ∷ 7 ∷ 1 ∷ 2 ∷ 3 ∷ 4 ∷ 5 ∷ 6 ∷ [])
 
 -- "then 01 and one more"
 abbrev pub more : List ℕ
@@ -44,24 +44,24 @@ lostOnce = record { «expired_sessions» = 0; «pool_exhausted» = 0; «rejected
 
 pub record Values : Type 0 where
   -- "P1: priority 6, PGN 127489, source 35: 0x19F20123"
-  pub p1 : buildOf (fresh 127489 35) ≡ gives 0x19F2_0123
+  pub p1 : buildOf (newIdBuilder 127489 35) ≡ gives 0x19F2_0123
   -- "P2: priority 6, PGN 60928, destination 255, source 35: 0x18EEFF23"
-  pub p2 : buildOf (withDestination (fresh 60928 35) 255) ≡ gives 0x18EE_FF23
+  pub p2 : buildOf (idWithDestination (newIdBuilder 60928 35) 255) ≡ gives 0x18EE_FF23
   -- "P3: priority 3, PGN 126208, destination 16, source 35: 0x0DED1023"
-  pub p3 : buildOf (withDestination (withPriority (fresh 126208 35) 3) 16) ≡ gives 0x0DED_1023
+  pub p3 : buildOf (idWithDestination (idWithPriority (newIdBuilder 126208 35) 3) 16) ≡ gives 0x0DED_1023
   -- "P4: 127489 to 16: refusal 5, PF 242"
-  pub p4 : buildOf (withDestination (fresh 127489 35) 16) ≡ refuses 5 (242 ∷ [])
+  pub p4 : buildOf (idWithDestination (newIdBuilder 127489 35) 16) ≡ refuses 5 (242 ∷ [])
   -- "P5: 60928 to nobody: 4"
-  pub p5 : buildOf (fresh 60928 35) ≡ refuses 4 []
+  pub p5 : buildOf (newIdBuilder 60928 35) ≡ refuses 4 []
   -- "P6: 60929 to 255: 6"
-  pub p6 : buildOf (withDestination (fresh 60929 35) 255) ≡ refuses 6 []
+  pub p6 : buildOf (idWithDestination (newIdBuilder 60929 35) 255) ≡ refuses 6 []
   -- "P7: PGN 0x40000: 2"
-  pub p7 : buildOf (fresh 0x4_0000 35) ≡ refuses 2 []
+  pub p7 : buildOf (newIdBuilder 0x4_0000 35) ≡ refuses 2 []
   -- "P8: listed, sequence 2, payload 01 02 03: 40 03 01 02 03 FF FF FF"
-  pub p8 : nextOf (madeOf 127489 35 Nobody (1 ∷ 2 ∷ 3 ∷ []) (127489 ∷ []) 2 .builder) 0 0 (1 ∷ 2 ∷ 3 ∷ []) ≡ sentStep (frameOf 0x19F2_0123 (0x40 ∷ 3 ∷ 1 ∷ 2 ∷ 3 ∷ 0xFF ∷ 0xFF ∷ 0xFF ∷ []) 8) 1 3
+  pub p8 : nextOf (newBuilder 127489 35 Nobody (1 ∷ 2 ∷ 3 ∷ []) (127489 ∷ []) 2 .builder) 0 0 (1 ∷ 2 ∷ 3 ∷ []) ≡ sentStep (frameOf 0x19F2_0123 (0x40 ∷ 3 ∷ 1 ∷ 2 ∷ 3 ∷ 0xFF ∷ 0xFF ∷ 0xFF ∷ []) 8) 1 3
   -- "P9: announced 0 or 224, listed: Ignored, rejected_frames 1 each"
-  pub p9-nothing : then start 0 (0 ∷ 0 ∷ 1 ∷ 2 ∷ 3 ∷ 4 ∷ 5 ∷ 6 ∷ []) ≡ record { kind = Ignored; payload = padded []; length = 0; pool = freshPool 4; counters = rejectedOnce }
-  pub p9-too-much : then start 0 (0 ∷ 224 ∷ 1 ∷ 2 ∷ 3 ∷ 4 ∷ 5 ∷ 6 ∷ []) ≡ record { kind = Ignored; payload = padded []; length = 0; pool = freshPool 4; counters = rejectedOnce }
+  pub p9-nothing : then beforeAny 0 (0 ∷ 0 ∷ 1 ∷ 2 ∷ 3 ∷ 4 ∷ 5 ∷ 6 ∷ []) ≡ record { kind = Ignored; payload = padded []; length = 0; pool = freshPool 4; counters = rejectedOnce }
+  pub p9-too-much : then beforeAny 0 (0 ∷ 224 ∷ 1 ∷ 2 ∷ 3 ∷ 4 ∷ 5 ∷ 6 ∷ []) ≡ record { kind = Ignored; payload = padded []; length = 0; pool = freshPool 4; counters = rejectedOnce }
   -- "P10: listed, 00 07 then six bytes, then 01 and one more: FragmentConsumed, then length 7"
   pub p10-first : first .kind ≡ FragmentConsumed
   pub p10-then : then first 1000 more .kind ≡ MessageComplete

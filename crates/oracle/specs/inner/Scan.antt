@@ -5,24 +5,24 @@ use mathlib.Core.List.{List, [], _∷_, _++_}
 use lib.ListN.{length, getD, take, drop}
 use lib.Dec.{eqb, ltb}
 use Rattle.base.specs.Pick.{pick}
-use Rattle.splitter.specs.Frames.{bytesOf}
+use Rattle.splitter.specs.Frames.{frameBytes}
 use Rattle.oracle.specs.Ids.{isOther}
-use Rattle.oracle.specs.Frames.{indexOf, sequenceOf, faultAt}
+use Rattle.oracle.specs.Frames.{benchIndex, benchSequence, faultAt}
 use Rattle.oracle.specs.RowVerdict.{verdictAt}
-use Rattle.splitter.specs.declared.bench_frames.Frame.{Frame}
+use Rattle.splitter.specs.declared.Frame.{Frame}
 use Rattle.oracle.specs.declared.Scan.{Scan}
-use Rattle.oracle.specs.declared.verdicts.Reassembled.{Reassembled}
-use Rattle.oracle.specs.declared.verdicts.Reassembled.the-variants.{Messages, Refused, Incomplete, NoRoom}
+use Rattle.oracle.specs.declared.Reassembled.{Reassembled}
+use Rattle.oracle.specs.declared.Reassembled.the-variants.{Messages, Refused, Incomplete, NoRoom}
 use Rattle.oracle.specs.declared.faults.Standing.{Standing}
 use Rattle.oracle.specs.declared.faults.Standing.the-variants.{Clear, At}
 
 -- how many of its bytes stand before the message's
-unfoldable pub headOf : List ℕ → ℕ
-headOf bs = pick (eqb (indexOf bs) 0) 2 1
+unfoldable pub headerBytes : List ℕ → ℕ
+headerBytes bs = pick (eqb (benchIndex bs) 0) 2 1
 
 -- how many bytes the message lacks before this frame
 unfoldable pub missingOf : Scan → List ℕ → ℕ
-missingOf s bs = pick (eqb (indexOf bs) 0) (getD bs 1 0) (s .missing)
+missingOf s bs = pick (eqb (benchIndex bs) 0) (getD bs 1 0) (s .missing)
 
 -- why the frame is refused, if it is
 abbrev pub faultOf : Scan → List ℕ → ℕ → Standing
@@ -39,33 +39,33 @@ refusedAt s f = record { source = s .source; pgn = s .pgn; n = s .n; fault = f; 
 
 -- taken, with what is known of the message from it on
 abbrev pub leftWith : Scan → List ℕ → ℕ → ℕ → ℕ → ℕ → Scan
-leftWith s bs announced missing messages total = record { source = s .source; pgn = s .pgn; n = s .n + 1; fault = s .fault; sequence = sequenceOf bs; announced = announced; index = indexOf bs + 1; missing = missing; messages = messages; total = total }
+leftWith s bs announced missing messages total = record { source = s .source; pgn = s .pgn; n = s .n + 1; fault = s .fault; sequence = benchSequence bs; announced = announced; index = benchIndex bs + 1; missing = missing; messages = messages; total = total }
 
 -- the message is open while bytes are missing, and whole when none is
 unfoldable pub taken : Scan → List ℕ → Scan
 taken s bs =
     let m : ℕ = missingOf s bs in
-    let room : ℕ = 8 - headOf bs in
-    leftWith s bs (pick (eqb (indexOf bs) 0) (getD bs 1 0) (s .announced)) (m - room) (pick (ltb room m) (s .messages) (s .messages + 1)) (s .total + pick (ltb room m) room m)
+    let room : ℕ = 8 - headerBytes bs in
+    leftWith s bs (pick (eqb (benchIndex bs) 0) (getD bs 1 0) (s .announced)) (m - room) (pick (ltb room m) (s .messages) (s .messages + 1)) (s .total + pick (ltb room m) room m)
 
-abbrev pub isRefused : Standing → Bool
-isRefused Clear = false
-isRefused (At f) = true
+abbrev pub isFaulty : Standing → Bool
+isFaulty Clear = false
+isFaulty (At f) = true
 
 -- the first refusal stands
 unfoldable pub stepOn : Scan → ℕ → List ℕ → ℕ → Scan
 stepOn s id bs len =
-    pick (isRefused (s .fault)) s
+    pick (isFaulty (s .fault)) s
     (pick (isOther (s .source) (s .pgn) id) (skipped s)
-    (pick (isRefused (faultOf s bs len)) (refusedAt s (faultOf s bs len))
+    (pick (isFaulty (faultOf s bs len)) (refusedAt s (faultOf s bs len))
     (taken s bs)))
 
-abbrev pub stepOf : Scan → Frame → Scan
-stepOf s f = stepOn s (f .id) (bytesOf f) (f .len)
+abbrev pub scanFrame : Scan → Frame → Scan
+scanFrame s f = stepOn s (f .id) (frameBytes f) (f .len)
 
 abbrev pub scanOf : Scan → List Frame → Scan
 scanOf s [] = s
-scanOf s (f ∷ fs) = scanOf (stepOf s f) fs
+scanOf s (f ∷ fs) = scanOf (scanFrame s f) fs
 
 abbrev pub startOf : ℕ → ℕ → Scan
 startOf source pgn = record { source = source; pgn = pgn; n = 0; fault = Clear; sequence = 0; announced = 0; index = 0; missing = 0; messages = 0; total = 0 }
@@ -83,22 +83,22 @@ Small s = Counted 0x2000_0000_0000_0000 s
 -- ---- what is delivered
 -- the bytes of its message that a frame adds: as many of those it carries as the total grows by
 unfoldable pub addedOf : Scan → Frame → List ℕ
-addedOf s f = take (stepOf s f .total - s .total) (drop (headOf (bytesOf f)) (bytesOf f))
+addedOf s f = take (scanFrame s f .total - s .total) (drop (headerBytes (frameBytes f)) (frameBytes f))
 
 -- a message that a frame makes whole: sequence, start and length
 unfoldable pub rowOf : Scan → Frame → List ℕ
 rowOf s f =
-    let t : Scan = stepOf s f in
+    let t : Scan = scanFrame s f in
     pick (ltb (s .messages) (t .messages)) (t .sequence ∷ (t .total - t .announced) ∷ t .announced ∷ []) []
 
 -- what is laid along a row: the payloads end to end, and the messages' rows
 abbrev pub bytesLaid : Scan → List Frame → List ℕ
 bytesLaid s [] = []
-bytesLaid s (f ∷ fs) = addedOf s f ++ bytesLaid (stepOf s f) fs
+bytesLaid s (f ∷ fs) = addedOf s f ++ bytesLaid (scanFrame s f) fs
 
 abbrev pub rowsLaid : Scan → List Frame → List ℕ
 rowsLaid s [] = []
-rowsLaid s (f ∷ fs) = rowOf s f ++ rowsLaid (stepOf s f) fs
+rowsLaid s (f ∷ fs) = rowOf s f ++ rowsLaid (scanFrame s f) fs
 
 -- ---- the answer
 abbrev pub verdictOf : Scan → ℕ → ℕ → Reassembled

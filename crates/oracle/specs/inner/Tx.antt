@@ -10,12 +10,12 @@ use Rattle.oracle.specs.Claims.{claimAfter}
 use Rattle.oracle.specs.declared.bench_ids.Claim.{Claim}
 use Rattle.oracle.specs.declared.bench_ids.Claim.the-variants.{Awaited, Made, Missed}
 use Rattle.oracle.specs.Messages.{messageOf}
-use Rattle.oracle.specs.inner.Scan.{stepOf, addedOf, startOf, isRefused}
-use Rattle.splitter.specs.declared.bench_frames.Frame.{Frame}
+use Rattle.oracle.specs.inner.Scan.{scanFrame, addedOf, startOf, isFaulty}
+use Rattle.splitter.specs.declared.Frame.{Frame}
 use Rattle.oracle.specs.declared.Scan.{Scan}
 use Rattle.oracle.specs.declared.Tx.{Tx}
-use Rattle.oracle.specs.declared.verdicts.Checked.{Checked}
-use Rattle.oracle.specs.declared.verdicts.Checked.the-variants.{Good, NoCount, Over, NoClaim, Faulty, Open, Count, Size, Hours, Pattern, Sequence}
+use Rattle.oracle.specs.declared.Checked.{Checked}
+use Rattle.oracle.specs.declared.Checked.the-variants.{Good, NoCount, Over, NoClaim, Faulty, Open, Count, Size, Hours, Pattern, Sequence}
 use Rattle.oracle.specs.declared.faults.Standing.{Standing}
 use Rattle.oracle.specs.declared.faults.Standing.the-variants.{Clear, At}
 
@@ -42,7 +42,7 @@ isUnclaimed Missed = true
 unfoldable pub bufferOf : Tx → Frame → List ℕ
 bufferOf t f =
     let s : Scan = t .scan in
-    let a : Scan = stepOf s f in
+    let a : Scan = scanFrame s f in
     sets (t .buffer) (a .announced - a .missing - (a .total - s .total)) (addedOf s f)
 
 -- the first bad message stands; `a` is what strict reassembly knows after the frame, and `bs` what is collected
@@ -57,11 +57,11 @@ lastOf t a = pick (ltb (t .scan .messages) (a .messages)) (a .sequence) (t .last
 
 unfoldable pub txOf : Tx → Frame → Tx
 txOf t f = record {
-  scan = stepOf (t .scan) f;
+  scan = scanFrame (t .scan) f;
   claim = claimAfter (t .claim) (t .scan .source) (f .id) (f .len);
   base = t .base;
-  last = lastOf t (stepOf (t .scan) f);
-  bad = badOf t (stepOf (t .scan) f) (bufferOf t f);
+  last = lastOf t (scanFrame (t .scan) f);
+  bad = badOf t (scanFrame (t .scan) f) (bufferOf t f);
   buffer = bufferOf t f;
 }
 
@@ -83,7 +83,7 @@ faultyOf (At f) = Faulty f
 
 unfoldable pub ranOf : Tx → ℕ → Checked
 ranOf t expected =
-    pick (isRefused (t .scan .fault)) (faultyOf (t .scan .fault))
+    pick (isFaulty (t .scan .fault)) (faultyOf (t .scan .fault))
     (pick (ltb 0 (t .scan .missing)) (Open (t .scan .announced))
     (pick (eqb (t .scan .messages) expected) (t .bad)
     (Count (t .scan .messages))))

@@ -12,8 +12,8 @@ use Rattle.session.specs.Rules.{Rules, poolLimit}
 use Rattle.session.specs.Frames.{indexOf}
 use Rattle.session.specs.Heads.{impossibleHead, hasKey, isFree, isFreeOfSource, hasLiveKey}
 
-unfoldable pub blank : Bool → Found
-blank b = record { bad = b; key = poolLimit; live = poolLimit; own = poolLimit; free = poolLimit }
+unfoldable pub nothingFound : Bool → Found
+nothingFound b = record { bad = b; key = poolLimit; live = poolLimit; own = poolLimit; free = poolLimit }
 
 unfoldable pub looked : Rules → Heard → ℕ → Head → Found → Found
 looked R f i h s =
@@ -27,16 +27,16 @@ looked R f i h s =
 
 -- what is found in these heads, the first of them at place i
 unfoldable pub seen : Rules → Heard → ℕ → List Head → Found
-seen R f i [] = blank false
+seen R f i [] = nothingFound false
 seen R f i (h ∷ hs) = looked R f i h (seen R f (i + 1) hs)
 
 unfoldable pub seenIf : Bool → Rules → Heard → ℕ → List Head → Found
-seenIf true R f n hs = blank true
+seenIf true R f n hs = nothingFound true
 seenIf false R f n hs = seen R f 0 (take n hs)
 
 -- of a pool that is too large nothing is looked at
-unfoldable pub seenIn : Rules → Heard → ℕ → List Head → Found
-seenIn R f n hs = seenIf (ltb poolLimit n) R f n hs
+unfoldable pub foundIn : Rules → Heard → ℕ → List Head → Found
+foundIn R f n hs = seenIf (ltb poolLimit n) R f n hs
 
 unfoldable pub firstOf : ℕ → ℕ → ℕ
 firstOf a b = pick (ltb a poolLimit) a b

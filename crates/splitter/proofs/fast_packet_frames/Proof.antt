@@ -30,7 +30,7 @@ use Rattle.base.specs.Answer.{Answer}
 use Rattle.splitter.specs.Split.{splitOf, rowWith}
 use Rattle.splitter.specs.Split.{ofSplit}
 use Rattle.base.specs.Answer.{counted}
-use Rattle.splitter.specs.declared.bench_frames.Frame.{Frame}
+use Rattle.splitter.specs.declared.Frame.{Frame}
 use Rattle.splitter.proofs.SplitTypes.{job, split}
 use Rattle.splitter.proofs.Types.{frame}
 use Rattle.splitter.proofs.SplitLaws.{unsplit-stops, split-small, split-room, split-goes-on}

@@ -4,11 +4,11 @@ use mathlib.Core.Bool.{Bool, true, false}
 use mathlib.Core.List.{List, [], _∷_}
 use mathlib.Core.Path.{_≡_}
 use lib.ListN.{take}
-use Rattle.splitter.specs.inner.OneFrame.{frameOf}
-use Rattle.splitter.specs.declared.bench_frames.Frame.{Frame}
+use Rattle.splitter.specs.inner.OneFrame.{jobFrame}
+use Rattle.splitter.specs.declared.Frame.{Frame}
 use Rattle.splitter.specs.declared.split_frame.Job.{Job}
-use Rattle.splitter.specs.declared.split_frame.Split.{Split}
-use Rattle.splitter.specs.declared.split_frame.Split.the-variants.{Frames, BadSplit, Short}
+use Rattle.splitter.specs.declared.Split.{Split}
+use Rattle.splitter.specs.declared.Split.the-variants.{Frames, BadSplit, Short}
 
 abbrev pub isUnsplit : Split → Bool
 isUnsplit (Frames n) = false
@@ -20,14 +20,14 @@ afterOne j = record { id = j .id; sequence = j .sequence; index = (j .index + 1)
 
 abbrev pub jobFrames : ℕ → Job → List Frame
 jobFrames zero j = []
-jobFrames (suc n) j = frameOf j ∷ jobFrames n (afterOne j)
+jobFrames (suc n) j = jobFrame j ∷ jobFrames n (afterOne j)
 
 abbrev pub jobEnd : ℕ → Job → Job
 jobEnd zero j = j
 jobEnd (suc n) j = jobEnd n (afterOne j)
 
 -- what a new job has to be
-pub record Made (id sequence : ℕ) (payload : List ℕ) (j : Job) : Type 0 where
+pub record IsJobOf (id sequence : ℕ) (payload : List ℕ) (j : Job) : Type 0 where
   pub same-id : j .id ≡ id
   pub same-sequence : j .sequence ≡ sequence
   pub at-first : j .index ≡ 0

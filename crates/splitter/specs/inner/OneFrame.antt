@@ -3,11 +3,11 @@ use Prim.Native.Nat.{ℕ}
 use lib.ListN.{take}
 use lib.Dec.{eqb, ltb}
 use Rattle.base.specs.Pick.{pick}
-use Rattle.splitter.specs.declared.bench_frames.Frame.{Frame}
-use Rattle.splitter.specs.Bytes.{frameAt, countOf}
+use Rattle.splitter.specs.declared.Frame.{Frame}
+use Rattle.splitter.specs.Bytes.{splitFrame, countOf}
 use Rattle.splitter.specs.declared.split_frame.Job.{Job}
-use Rattle.splitter.specs.declared.split_frame.Split.{Split}
-use Rattle.splitter.specs.declared.split_frame.Split.the-variants.{Frames, BadSplit, Short}
+use Rattle.splitter.specs.declared.Split.{Split}
+use Rattle.splitter.specs.declared.Split.the-variants.{Frames, BadSplit, Short}
 
 -- the answer, from the sizes alone
 unfoldable pub toldOf : ℕ → ℕ → ℕ → Split
@@ -18,5 +18,5 @@ toldOf sequence size room =
     (pick (ltb room (countOf size)) Short
     (Frames (countOf size)))))
 
-unfoldable pub frameOf : Job → Frame
-frameOf j = frameAt (j .id) (j .sequence) (take (j .size) (j .payload)) (j .index)
+unfoldable pub jobFrame : Job → Frame
+jobFrame j = splitFrame (j .id) (j .sequence) (take (j .size) (j .payload)) (j .index)

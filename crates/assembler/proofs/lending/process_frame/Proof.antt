@@ -6,17 +6,17 @@ use borrow.Fn.World.{World}
 use Rattle.walk.proofs.Raises.{raises}
 use Rattle.session.specs.Rules.{base}
 use Rattle.assembler.specs.View.{receiveOf}
-use Rattle.assembler.specs.Forms.{answerOf}
-use Rattle.assembler.proofs.Types.{pool, counters, heard, received, answer}
+use Rattle.assembler.specs.Forms.{processedOf}
+use Rattle.assembler.proofs.Types.{pool, counters, heard, received, processed}
 use Rattle.assembler.proofs.receiving.receive.Reads as core-reads
 use Rattle.assembler.proofs.receiving.receive.Symbol as core-def
 use Rattle.assembler.proofs.receiving.receive.Met as core-thm
 use Rattle.assembler.proofs.lending.counters_of.Reads as kept-reads
 use Rattle.assembler.proofs.lending.counters_of.Symbol as kept-def
 use Rattle.assembler.proofs.lending.counters_of.Met as kept-thm
-use Rattle.assembler.proofs.lending.answer_of.Reads as told-reads
-use Rattle.assembler.proofs.lending.answer_of.Symbol as told-def
-use Rattle.assembler.proofs.lending.answer_of.Met as told-thm
+use Rattle.assembler.proofs.lending.processed_of.Reads as told-reads
+use Rattle.assembler.proofs.lending.processed_of.Symbol as told-def
+use Rattle.assembler.proofs.lending.processed_of.Met as told-thm
 use Rattle.assembler.proofs.lending.process_frame.Key as key
 use Rattle.assembler.proofs.lending.process_frame.Statement.{statement}
 use Rattle.assembler.proofs.lending.process_frame.Code as code
@@ -25,9 +25,9 @@ pub process-frame-spec : {M : Type 1} → statement M
 unfolding code.routine tablesOf
 process-frame-spec 𝓤 H 𝓜 𝓖 𝓡 =
     let w : World = record { M = _; 𝓤 = 𝓤; H = H; 𝓜 = 𝓜; 𝓖 = 𝓖; 𝓡 = 𝓡 } in
-    raises pool counters heard received answer (rtF (fInt w32)) core-def.name kept-def.name told-def.name core-reads.Asked core-reads.Learnt kept-reads.Asked kept-reads.Learnt told-reads.Asked told-reads.Learnt
-    (λ p k l f. receiveOf base l f p k) (λ o. o .counters) answerOf w code.env
+    raises pool counters heard received processed (rtF (fInt w32)) core-def.name kept-def.name told-def.name core-reads.Asked core-reads.Learnt kept-reads.Asked kept-reads.Learnt told-reads.Asked told-reads.Learnt
+    (λ p k l f. receiveOf base l f p k) (λ o. o .counters) processedOf w code.env
     (core-reads.known w code.env core-def.name core-def.routine code.calls-assembler·receiving·receive (core-thm.met 𝓤 H 𝓜 𝓖 𝓡))
     (kept-reads.known w code.env kept-def.name kept-def.routine code.calls-assembler·lending·counters-of (kept-thm.met 𝓤 H 𝓜 𝓖 𝓡))
-    (told-reads.known w code.env told-def.name told-def.routine code.calls-assembler·lending·answer-of (told-thm.met 𝓤 H 𝓜 𝓖 𝓡))
+    (told-reads.known w code.env told-def.name told-def.routine code.calls-assembler·lending·processed-of (told-thm.met 𝓤 H 𝓜 𝓖 𝓡))
     (λ κs a. tt) (λ κs a z e q. q) (λ a. tt) (λ a z e q. q) (λ a. tt) (λ a z e q. q) key.name (code.unfolded 𝓤 H 𝓜 𝓡)

@@ -7,7 +7,7 @@ use native.Mathlib.Omega.{arith}
 use borrow.Author.Tests.{le-ltb}
 use Rattle.base.specs.Pick.{pick}
 use Rattle.session.specs.Rules.{base, poolLimit}
-use Rattle.session.specs.inner.Search.{blank}
+use Rattle.session.specs.inner.Search.{nothingFound}
 use Rattle.assembler.proofs.Copies.{length-unmap}
 use Rattle.session.proofs.Walks.{Walk, crowded, walk-start, walk-turn, walk-done}
 use Rattle.batch.proofs.search.walk.Statement.{statement}
@@ -32,7 +32,7 @@ loop-holds c =
     let low : a .size ≤ poolLimit = c .before .if1 .left in
     let small = le-ltb poolLimit (a .size) low in
     let walk : Walk base (a .heard) (a .size) (a .t1) (c .nothing-found2 .result) (a .size) =
-    walk-start base (a .heard) (a .size) (a .t1) long _ _ (c .nothing-found2 .ensures ∙ ap blank (sym small)) (rw small) in
+    walk-start base (a .heard) (a .size) (a .t1) long _ _ (c .nothing-found2 .ensures ∙ ap nothingFound (sym small)) (rw small) in
     (low, long, walk)
 
 loop-again : tie.Need-loop-again Inv-loop μ-loop

@@ -1,0 +1,15 @@
+-- `hf_check_tx` meets its contract: it passes on what its calls say. Assumes nothing.
+use borrow.Author.Needs.{needs}
+use mathlib.Core.Path.{ap, _∙_}
+use Rattle.numbers.specs.Numbers.{codeOf}
+use Rattle.numbers.specs.Fives.{fiveOf}
+use Rattle.ffi.proofs.bench_entries.hf_check_tx.Statement.{statement}
+use Rattle.ffi.proofs.bench_entries.hf_check_tx.Tie as tie
+
+pub hf-check-tx-spec : {M : Type 1} → statement M
+hf-check-tx-spec =
+    tie.close
+    (tie.spec
+    (λ c κs. search needs)
+    (λ c κs. search needs)
+    (λ c. (c .told-checked .ensures .0 ∙ ap codeOf (c .before .before .check-tx-rows .ensures), c .told-checked .ensures .1 ∙ ap fiveOf (c .before .before .check-tx-rows .ensures))))

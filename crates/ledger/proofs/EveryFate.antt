@@ -1,0 +1,103 @@
+-- Nothing is vacuous: one run of the public call in which every fate and every other event occurs, told by its ledger, by computation.
+-- Assumes nothing.
+use mathlib.Core.List.{List, [], _∷_}
+use mathlib.Core.Path.{_≡_, refl}
+use Prim.Native.Nat.{ℕ}
+use Rattle.base.specs.Lists.{nextPlace, here, orElse, firstAt, any, total}
+use Rattle.fast_packet.specs.FastPacket.{listedIn}
+use Rattle.session.specs.Rules.{base, silence, keysEqual}
+use Rattle.session.specs.Frames.{sequenceOf, indexOf, sizeOf, firstBytes, nextBytes, badSize, keyOf}
+use Rattle.session.specs.Heads.{freshHead, headKey, impossibleHead, hasKey, isSilent, isFree, isFreeOfSource, hasLiveKey, isExpired, inTurn, openedHead, resetHead, wanted, copiedHead, allThere}
+use Rattle.session.specs.Counting.{freshCounters, most, raise, raised, expiredMark}
+use Rattle.assembler.specs.Call.{Call}
+use Rattle.assembler.specs.Slots.{freshSlot, freshSlots, impossible, chosen, live, openedSlot, resetSlot, copiedSlot}
+use Rattle.assembler.specs.Step.{opensAt, firstShort, firstSized, copyAt, turnAt, continuesAt, byIndex, byList, eventOf, slotsAfter, markOf, padded, message, saidOf, outcome, stepIf, step}
+use Rattle.assembler.specs.Runs.{freshWorld, afterOutcome, callOne, callAll}
+use Rattle.assembler.specs.Making.{freshPool, madeIf, newPool}
+use Rattle.assembler.specs.View.{slotsFrom, slotsOf, headOf, flat, poolOf, zeros, replyKind, replyPayload, replyLength, shown, receiveOf}
+use Rattle.ledger.specs.Ledger.{Ledger, ledgerOf, sayingDue, tells, tell, written, numbered, blank, tellOne, tellListed, tellIndex, tellSized, tellShort, tellOpen, tellContinue, tellHeld, tellTurn, tellFull, nothingMoved, openingAt, endLate, newMessage, left, full, itsTurn, grown, takenBy, keyHeld, late, free, sourceAt, freeOfSource, liveHeld, latest, latestOf, ownBytes, framesBytes, announced, briefly, wholly, delivery, sayingFor}
+use Rattle.ledger.specs.Ledger.{tally, entryWeight, posted, posts, post, weighs, onlyIf, columnNumber, one, is, asNumber, held, heldAt, Opened, Delivered, Broken, Restarted, Reclaimed, NoSlot, Stray, BadSize, Unlisted, AtOnce}
+use Rattle.ledger.specs.Demand3.{Seen, inProgress}
+use Rattle.ledger.specs.Runs.{newState, sayingOf, receives, seenIn, received, replySays, seenOf, stepped}
+use Rattle.ledger.specs.Runs as run
+
+-- to unfold `ran` is to unfold all that its line names
+unfoldable pub ran : ℕ → List Call → Seen
+unfolding base silence keysEqual listedIn sequenceOf indexOf sizeOf firstBytes nextBytes badSize keyOf nextPlace here orElse firstAt any total freshHead headKey impossibleHead hasKey isSilent isFree isFreeOfSource hasLiveKey isExpired inTurn openedHead resetHead wanted copiedHead allThere freshCounters most raise raised expiredMark freshSlot freshSlots impossible chosen live openedSlot resetSlot copiedSlot opensAt firstShort firstSized copyAt turnAt continuesAt byIndex byList eventOf slotsAfter markOf padded message saidOf outcome stepIf step freshWorld afterOutcome callOne callAll slotsFrom slotsOf headOf flat poolOf zeros replyKind replyPayload replyLength shown receiveOf freshPool madeIf newPool newState sayingOf run.afterCall receives seenIn received replySays seenOf stepped inProgress asNumber
+ran n cs = received (receiveOf base) n cs
+
+-- to unfold `told` is to unfold all that tells a ledger
+unfoldable pub told : ℕ → List Call → Ledger
+unfolding ran ledgerOf tells tell written numbered blank tellOne tellListed tellIndex tellSized tellShort tellOpen tellContinue tellHeld tellTurn tellFull nothingMoved openingAt endLate newMessage left full itsTurn grown takenBy keyHeld late free sourceAt freeOfSource liveHeld latest latestOf ownBytes framesBytes announced briefly wholly delivery sayingFor sayingDue tally entryWeight posted posts post weighs onlyIf columnNumber one is held heldAt
+told n cs = ledgerOf base n cs
+
+-- ---- frames of PGN 127489, sequence 0
+
+unfoldable pub frame : ℕ → ℕ → List ℕ → Call
+frame at from bytes = record { pgns = 7 ∷ 127489 ∷ []; heard = record { «now_ms» = at; pgn = 127489; «source_address» = from; «data» = bytes } }
+
+-- the first frame of a message that announces so many bytes
+unfoldable pub announces : ℕ → ℕ → ℕ → Call
+announces n now from = frame now from (0 ∷ n ∷ 1 ∷ 2 ∷ 3 ∷ 4 ∷ 5 ∷ 6 ∷ [])
+
+-- its continuation of index k
+unfoldable pub goes-on : ℕ → ℕ → ℕ → Call
+goes-on k now from = frame now from (k ∷ 7 ∷ 8 ∷ 9 ∷ 10 ∷ 11 ∷ 12 ∷ 13 ∷ [])
+
+-- ---- one slot, eleven calls, and all that can happen
+
+unfoldable pub every : List Call
+every =
+    -- delivered
+    announces 7 0 35 ∷ goes-on 1 1 35
+    -- broken by a frame out of turn
+    ∷ announces 7 2 35 ∷ goes-on 2 3 35
+    -- restarted in time
+    ∷ announces 7 4 35 ∷ announces 7 5 35
+    -- source 36 is refused after 500 ms, and reclaims the slot late after 501; its message is held to the end
+    ∷ announces 7 505 36 ∷ announces 7 506 36
+    -- a stray, a message delivered at once, a bad size, and a PGN that is not listed
+    ∷ goes-on 1 507 35 ∷ announces 6 508 36 ∷ announces 224 509 36
+    ∷ record { pgns = []; heard = announces 7 510 36 .heard } ∷ []
+
+pub record Every : Type 0 where
+  pub opened : tally Opened one (told 1 every) ≡ 5
+  pub delivered : tally Delivered one (told 1 every) ≡ 1
+  pub broken : tally Broken one (told 1 every) ≡ 1
+  pub restarted : tally Restarted one (told 1 every) ≡ 1
+  pub reclaimed : tally Reclaimed one (told 1 every) ≡ 1
+  pub still-held : held one (told 1 every) ≡ 1
+  pub strays : tally Stray one (told 1 every) ≡ 1
+  pub refused : tally NoSlot one (told 1 every) ≡ 1
+  pub bad : tally BadSize one (told 1 every) ≡ 1
+  pub unlisted : tally Unlisted one (told 1 every) ≡ 1
+  pub at-once : tally AtOnce one (told 1 every) ≡ 1
+  pub in-progress : inProgress (ran 1 every .heads) ≡ 1
+  pub lost : ran 1 every .counters .«lost_fragments» ≡ 2
+  pub expired : ran 1 every .counters .«expired_sessions» ≡ 1
+  pub exhausted : ran 1 every .counters .«pool_exhausted» ≡ 1
+  pub rejected : ran 1 every .counters .«rejected_frames» ≡ 1
+  pub unknown : ran 1 every .counters .«unknown_pgn» ≡ 1
+
+pub every-fate : Every
+unfolding told every announces goes-on frame
+every-fate =
+    record {
+      opened = refl;
+      delivered = refl;
+      broken = refl;
+      restarted = refl;
+      reclaimed = refl;
+      still-held = refl;
+      strays = refl;
+      refused = refl;
+      bad = refl;
+      unlisted = refl;
+      at-once = refl;
+      in-progress = refl;
+      lost = refl;
+      expired = refl;
+      exhausted = refl;
+      rejected = refl;
+      unknown = refl;
+    }
