@@ -1,9 +1,7 @@
 // The answers of the bench as numbers: what is returned, and five numbers lent out.
 ghost use mathlib.Core.Path.{_≡_};
 ghost use mathlib.Core.List.{[], _∷_};
-ghost use Rattle.oracle.specs.Numbers.{ofReassembled};
-ghost use Rattle.oracle.specs.FaultNumbers.{faultNumber, faultValues};
-ghost use Rattle.oracle.specs.Numbers.{ofChecked};
+ghost use Rattle.oracle.specs.Numbers.{ofReassembled, faultNumber, faultValues, ofChecked};
 ghost use Rattle.splitter.specs.Split.{ofSplit};
 ghost use Rattle.numbers.specs.Numbers.{codeOf, valueOf};
 ghost use Rattle.numbers.specs.Fives.{five, fiveOf};

@@ -2,7 +2,7 @@
 --     starts      slices that begin with the numbers of some frames have those frames first
 --     laid-out    the slices that `fast_packet_rows` leaves have the payload's frames first
 -- Assumes nothing.
-use Prim.Native.Nat.{ℕ, zero, suc, _+_, _*_, _/_, _≤_, min}
+use Prim.Native.Nat.{ℕ, zero, suc, _+_, _*_, _≤_}
 use mathlib.Core.List.{List, [], _∷_, _++_}
 use mathlib.Core.Path.{_≡_, refl, sym, ap, _∙_}
 use native.Mathlib.Nat.{zero-add}
@@ -10,7 +10,6 @@ use native.Mathlib.Omega.{arith}
 use lib.ListN.{length, getD, take, drop, length-append}
 use lib.Seq.{sets, sets-eq, length-sets, getD-drop, drop-drop}
 use Rattle.base.specs.Answer.{gives}
-use Rattle.base.specs.Lists.{fill}
 use Rattle.base.proofs.Cases.{pick-all}
 use Rattle.base.proofs.Fills.{length-fill}
 use Rattle.splitter.specs.Frames.{eight, frameBytes, countIn}
