@@ -14,14 +14,15 @@ use Rattle.builder.specs.declared.MadeBuilder.{MadeBuilder as Begun}
 use Rattle.fast_packet.specs.FastPacket.{listedIn, filledFrom}
 use Rattle.assembler.specs.declared.MadePool.{MadePool}
 use Rattle.assembler.specs.declared.Received.{Received}
-use Rattle.base.specs.Answer.{Answer}
+use Rattle.base.specs.Answer.{Answer, counted}
 use Rattle.batch.specs.Rows.{BatchLeft as Rowed}
-use Rattle.oracle.specs.Strict.{BenchMessage}
+use Rattle.oracle.specs.Rows.{rowIn}
+use Rattle.oracle.specs.Strict.{deliveredTo}
+use Rattle.oracle.specs.Check.{checkTxOf}
 use Rattle.splitter.specs.Frames.{countIn}
-use Rattle.splitter.specs.declared.Frame.{Frame}
 use Rattle.ffi.specs.Batches.{LeftBy}
-use Rattle.numbers.specs.Fives.{fiveOf}
-use Rattle.ffi.specs.BenchEntries.{Reassembles, Splits}
+use Rattle.numbers.specs.Fives.{ToldInFive}
+use Rattle.ffi.specs.BenchEntries.{ReassemblesInNumbers, SplitsInNumbers, ChecksTxInNumbers}
 use Rattle.numbers.specs.Pool.{CallLeft, MadeAs}
 use Rattle.ffi.specs.Ids.{readParts}
 use Rattle.numbers.specs.Numbers.{addressOf, codeOf, valueOf}
@@ -101,21 +102,28 @@ hf-process-frames-unique l old a b h i j k c d m n o p q r s t x y =
     (determined (u .told) (v .told), determined (u .kept) (v .kept), determined (u .stored) (v .stored), determined (u .counted) (v .counted), determined (x .answered) (y .answered), determined (x .measured) (y .measured), determined (x .delivered) (y .delivered), determined (u .taken) (v .taken))
 
 -- ---- the bench
--- `w` is `reassembledIn` of the entry's rows: what is returned, the five numbers, the list and the arena
-pub hf-reassemble-unique : (w : Answer (List BenchMessage)) (list arena : List ℕ) (a b : ℕ) (v x l m n o : List ℕ)
-    → Reassembles w a v l list n arena → Reassembles w b x m list o arena → (a ≡ b) × (v ≡ x) × (l ≡ m) × (n ≡ o)
-hf-reassemble-unique w list arena a b v x l m n o p q =
-    (determined (p .told) (q .told), determined (p .carried) (q .carried), determined (p .listed) (q .listed), determined (p .laid) (q .laid))
+five-unique : (a : Answer ℕ) {r s : ℕ} {v w : List ℕ} → ToldInFive a r v → ToldInFive a s w → (r ≡ s) × (v ≡ w)
+five-unique a p q = (determined (p .told) (q .told), determined (p .carried) (q .carried))
 
--- `w` is `splitIn` of the entry's rows: what is returned, the number of frames and the three rows
-pub hf-fast-packet-frames-unique : (w : Answer (List Frame)) (ids bytes lens : List ℕ) (a b f g : ℕ) (i j k l m n : List ℕ)
-    → Splits w a f i ids k bytes m lens → Splits w b g j ids l bytes n lens → (a ≡ b) × (f ≡ g) × (i ≡ j) × (k ≡ l) × (m ≡ n)
-hf-fast-packet-frames-unique w ids bytes lens a b f g i j k l m n p q =
-    (determined (p .told) (q .told), determined (p .given) (q .given), determined (p .named) (q .named), determined (p .filled) (q .filled), determined (p .measured) (q .measured))
+-- what is returned, the list, the arena and the five numbers
+pub hf-reassemble-unique : (ids bytes lens : List ℕ) (source pgn : ℕ) (list arena : List ℕ) {a b : ℕ} {l m n o v x : List ℕ}
+    → ReassemblesInNumbers ids bytes lens source pgn list arena a l n v → ReassemblesInNumbers ids bytes lens source pgn list arena b m o x
+    → (a ≡ b) × (l ≡ m) × (n ≡ o) × (v ≡ x)
+hf-reassemble-unique ids bytes lens source pgn list arena p q =
+    let e = five-unique (counted (deliveredTo list arena (rowIn ids bytes lens) source pgn)) (p .answer) (q .answer) in
+    (e .0, determined (p .listed) (q .listed), determined (p .laid) (q .laid), e .1)
+
+-- what is returned, the three rows and the number of frames
+pub hf-fast-packet-frames-unique : (id sequence : ℕ) (payload ids bytes lens : List ℕ) {a b : ℕ} {i j k l m n : List ℕ} {f g : ℕ}
+    → SplitsInNumbers id sequence payload ids bytes lens a i k m f → SplitsInNumbers id sequence payload ids bytes lens b j l n g
+    → (a ≡ b) × (i ≡ j) × (k ≡ l) × (m ≡ n) × (f ≡ g)
+hf-fast-packet-frames-unique id sequence payload ids bytes lens p q =
+    (determined (p .told) (q .told), determined (p .named) (q .named), determined (p .filled) (q .filled), determined (p .measured) (q .measured), determined (p .given) (q .given))
 
 pub hf-frame-count-unique : (ids bytes lens r s : ℕ) → r ≡ countIn ids bytes lens → s ≡ countIn ids bytes lens → r ≡ s
 hf-frame-count-unique ids bytes lens r s = determined
 
--- `w` is `checkTxOf` of the entry's rows
-pub hf-check-tx-unique : (w : Answer ℕ) (a b : ℕ) (v x : List ℕ) → (a ≡ codeOf w) × (v ≡ fiveOf w) → (b ≡ codeOf w) × (x ≡ fiveOf w) → (a ≡ b) × (v ≡ x)
-hf-check-tx-unique w a b v x = both
+-- what is returned and the five numbers
+pub hf-check-tx-unique : (ids bytes lens : List ℕ) (source expected base : ℕ) {a b : ℕ} {v x : List ℕ}
+    → ChecksTxInNumbers ids bytes lens source expected base a v → ChecksTxInNumbers ids bytes lens source expected base b x → (a ≡ b) × (v ≡ x)
+hf-check-tx-unique ids bytes lens source expected base = five-unique (checkTxOf (rowIn ids bytes lens) source expected base)

@@ -15,7 +15,12 @@ use Rattle.builder.specs.declared.FastPacketBuilder.{FastPacketBuilder}
 use Rattle.builder.specs.declared.FrameIterator.{FrameIterator}
 use Rattle.builder.specs.declared.MadeBuilder.{MadeBuilder}
 use Rattle.numbers.specs.Frames.{builderFrom, builderNumbers, heldAfter, madeNumbers, iteratorFrom, placeNumbers, NextLeft, stepAfter, placeLaid}
-use Rattle.numbers.specs.Fives.{fiveOf}
+use Rattle.splitter.specs.Split.{ofSplit}
+use Rattle.splitter.specs.declared.Split.{Split}
+use Rattle.oracle.specs.Numbers.{ofReassembled, ofChecked}
+use Rattle.oracle.specs.declared.Reassembled.{Reassembled}
+use Rattle.oracle.specs.declared.Checked.{Checked}
+use Rattle.numbers.specs.Fives.{ToldInFive}
 use Rattle.session.specs.declared.Counters.{Counters}
 use Rattle.session.specs.declared.Head.{Head}
 use Rattle.assembler.specs.declared.MadePool.{MadePool}
@@ -83,16 +88,20 @@ go-on-unique place t r s = determined
 
 -- ---- the bench's answers
 
--- `a` is `ofReassembled` or `ofChecked` of the answer: what is returned and the five numbers
-pub told-answer-unique : (a : Answer ℕ) (r s : ℕ) (v w : List ℕ) → (r ≡ codeOf a) × (v ≡ fiveOf a) → (s ≡ codeOf a) × (w ≡ fiveOf a) → (r ≡ s) × (v ≡ w)
-told-answer-unique a r s v w p q = (determined (p .0) (q .0), determined (p .1) (q .1))
+five-unique : (a : Answer ℕ) {r s : ℕ} {v w : List ℕ} → ToldInFive a r v → ToldInFive a s w → (r ≡ s) × (v ≡ w)
+five-unique a p q = (determined (p .told) (q .told), determined (p .carried) (q .carried))
 
--- `a` is `ofSplit` of the answer
-pub split-number-unique : (a : Answer ℕ) (r s : ℕ) → r ≡ codeOf a → s ≡ codeOf a → r ≡ s
-split-number-unique a r s = determined
+pub told-reassembled-unique : (x : Reassembled) {r s : ℕ} {v w : List ℕ} → ToldInFive (ofReassembled x) r v → ToldInFive (ofReassembled x) s w → (r ≡ s) × (v ≡ w)
+told-reassembled-unique x = five-unique (ofReassembled x)
 
-pub split-count-unique : (a : Answer ℕ) (r s : ℕ) → r ≡ valueOf a → s ≡ valueOf a → r ≡ s
-split-count-unique a r s = determined
+pub told-checked-unique : (x : Checked) {r s : ℕ} {v w : List ℕ} → ToldInFive (ofChecked x) r v → ToldInFive (ofChecked x) s w → (r ≡ s) × (v ≡ w)
+told-checked-unique x = five-unique (ofChecked x)
+
+pub split-number-unique : (x : Split) (r s : ℕ) → r ≡ codeOf (ofSplit x) → s ≡ codeOf (ofSplit x) → r ≡ s
+split-number-unique x r s = determined
+
+pub split-count-unique : (x : Split) (r s : ℕ) → r ≡ valueOf (ofSplit x) → s ≡ valueOf (ofSplit x) → r ≡ s
+split-count-unique x r s = determined
 
 -- ---- pools and counters
 
