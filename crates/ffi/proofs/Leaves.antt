@@ -10,6 +10,7 @@ use native.Mathlib.Omega.{arith}
 use Rattle.base.specs.Answer.{gives}
 use Rattle.base.specs.Pick.{pick}
 use Rattle.base.proofs.Cases.{when-eq, when-ne, pick-all}
+use Rattle.session.specs.Kinds.{kindNumber}
 use Rattle.session.specs.Rules.{base}
 use Rattle.session.specs.declared.Head.{Head}
 use Rattle.session.specs.declared.Heard.{Heard}
@@ -26,7 +27,7 @@ use Rattle.assembler.specs.declared.Received.{Received}
 use Rattle.assembler.proofs.Views.{view-back}
 use Rattle.batch.specs.Rows.{Rows, Run, batchOf, leaves, refusedBy, BatchLeft as Rowed}
 use Rattle.numbers.specs.Numbers.{isSet, laidOn, flagOn, byteOn, wordOn}
-use Rattle.numbers.specs.Pool.{headAt, putFlag, putByte, putWord, keyLaid, sizesLaid, headLaid, headsFrom, laid, poolFrom, countersFrom, counterNumbers, kindCode, CallLeft, MadeAs}
+use Rattle.numbers.specs.Pool.{headAt, putFlag, putByte, putWord, keyLaid, sizesLaid, headLaid, headsFrom, laid, poolFrom, countersFrom, counterNumbers, CallLeft, MadeAs}
 use Rattle.ffi.specs.Calls.{calledWith, calledWithLength}
 use Rattle.ffi.specs.Batches.{LeftPool, LeftBy, batchWith}
 
@@ -71,18 +72,18 @@ counters-back (a ∷ b ∷ c ∷ []) h = absurd (omega arith)
 counters-back (a ∷ b ∷ c ∷ d ∷ []) h = absurd (omega arith)
 counters-back (a ∷ b ∷ c ∷ d ∷ e ∷ f ∷ l) h = absurd (omega arith)
 
--- ---- the receive calls: the number of a refusal is below 256, that of every other answer is not
+-- ---- the receive calls: the number of a refusal is below 100, that of every other answer is not
 
 refusal : Pool → Counters → Received
 refusal p k = record { kind = Refused 1; payload = zeros; length = 0; pool = p; counters = k }
 
-given : (s : Said) → kindCode (replyKind (gives s)) < 256 → ⊥
-unfolding replyKind
+given : (s : Said) → kindNumber (replyKind (gives s)) < 100 → ⊥
+unfolding replyKind kindNumber
 given ignored h = omega arith
 given consumed h = omega arith
 given (complete bytes n) h = omega arith
 
-refused-if : (b : Bool) (p : Pool) (k : Counters) (c : Call) → kindCode (shown (stepIf b base (slotsOf p) k c) .kind) < 256 → shown (stepIf b base (slotsOf p) k c) ≡ refusal (poolOf (slotsOf p)) k
+refused-if : (b : Bool) (p : Pool) (k : Counters) (c : Call) → kindNumber (shown (stepIf b base (slotsOf p) k c) .kind) < 100 → shown (stepIf b base (slotsOf p) k c) ≡ refusal (poolOf (slotsOf p)) k
 unfolding shown stepIf outcome refusal replyKind replyPayload replyLength
 refused-if true p k c h = refl
 refused-if false p k c h = absurd (given (saidOf (c .heard) (within (slotsOf p)) (eventOf base (within (slotsOf p)) c)) h)
@@ -112,17 +113,17 @@ module _ (size : ℕ) (heads bytes counters pgns : List ℕ) (long : length byte
       }
 
   -- `hf_process_frame` and `hf_receive`
-  pub refused-leaves : (heard : Heard) → CallLeft (calledWith size heads bytes counters pgns heard) heads was code heads′ bytes′ counters′ payload′ len → code < 256
+  pub refused-leaves : (heard : Heard) → CallLeft (calledWith size heads bytes counters pgns heard) heads was code heads′ bytes′ counters′ payload′ len → code < 100
       → Untouched heads′ heads bytes′ bytes counters′ counters payload′ was len
   unfolding calledWith receiveOf step
   refused-leaves heard l below =
       untouched
       (subst (λ (r : Received). CallLeft r heads was code heads′ bytes′ counters′ payload′ len)
-      (refused-if _ (poolFrom size heads bytes) (countersFrom counters) (record { pgns = pgns; heard = heard }) (subst (λ (n : ℕ). n < 256) (l .told) below) ∙ ap (λ (p : Pool). refusal p (countersFrom counters)) (pool-back size heads bytes long))
+      (refused-if _ (poolFrom size heads bytes) (countersFrom counters) (record { pgns = pgns; heard = heard }) (subst (λ (n : ℕ). n < 100) (l .told) below) ∙ ap (λ (p : Pool). refusal p (countersFrom counters)) (pool-back size heads bytes long))
       l)
 
   -- `hf_process_frame_with_length`
-  pub refused-with-length-leaves : (heard : Heard) (sent : ℕ) → CallLeft (calledWithLength size heads bytes counters pgns heard sent) heads was code heads′ bytes′ counters′ payload′ len → code < 256
+  pub refused-with-length-leaves : (heard : Heard) (sent : ℕ) → CallLeft (calledWithLength size heads bytes counters pgns heard sent) heads was code heads′ bytes′ counters′ payload′ len → code < 100
       → Untouched heads′ heads bytes′ bytes counters′ counters payload′ was len
   unfolding calledWithLength receiveWithLengthOf calledWith
   refused-with-length-leaves heard sent = refused-leaves (filledFrame (record { heard = heard; length = sent }))

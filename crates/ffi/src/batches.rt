@@ -30,7 +30,7 @@ fn leave_batch(
     r.refused as u32
 }
 
-// 0, 1 or 27. Of each frame taken, `kinds` has 0 Ignored, 1 FragmentConsumed or 2 MessageComplete, and `lengths` the message's; the messages stand end to
+// 0, 1 or 27. Of each frame taken, `kinds` has 101 Ignored, 102 FragmentConsumed or 103 MessageComplete, and `lengths` the message's; the messages stand end to
 // end from the arena's start. `counts` is how many frames were taken and how many bytes of the arena.
 #[no_mangle]
 pub extern "C" fn hf_process_frames(

@@ -64,7 +64,7 @@ pub extern "C" fn hf_builder_to_destination(builder: &mut [u64; 6], destination:
 
 // ---- the next frame, at any frame index and bytes sent
 
-// 0 for a frame, 256 for End, or a refusal's number.
+// 0 for a frame, 100 for End, or a refusal's number.
 #[no_mangle]
 pub extern "C" fn hf_next_frame(
     builder: &[u64; 6],

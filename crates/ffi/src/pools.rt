@@ -56,7 +56,7 @@ pub extern "C" fn hf_pool_default(
     leave_made(made, heads, bytes, size)
 }
 
-// A refusal's number, 256 Ignored, 257 FragmentConsumed or 258 MessageComplete.
+// A refusal's number, 101 Ignored, 102 FragmentConsumed or 103 MessageComplete.
 #[no_mangle]
 pub extern "C" fn hf_process_frame(
     size: usize,

@@ -4,6 +4,7 @@ use mathlib.Core.List.{List, [], _∷_}
 use mathlib.Core.Path.{_≡_}
 use lib.ListN.{getD}
 use Rattle.base.specs.Pick.{pick}
+use Rattle.session.specs.Kinds.{endNumber}
 use Rattle.builder.specs.Builder.{newBuilder}
 use Rattle.builder.specs.Next.{NextAnswer, Step, frame, end, refusal, nextOf}
 use Rattle.builder.specs.Frames.{Turn, nextTurn}
@@ -46,10 +47,10 @@ iteratorFrom n place = record { builder = builderFrom n; «frame_index» = getD 
 unfoldable pub placeNumbers : FrameIterator → List ℕ
 placeNumbers t = t .«frame_index» ∷ t .«bytes_sent» ∷ []
 
--- what asking for the next frame returns: 0 for a frame, 256 for End, a refusal's number
+-- what asking for the next frame returns: 0 for a frame, the list's number for End, a refusal's own
 abbrev pub nextCode : NextAnswer → ℕ
 nextCode frame = 0
-nextCode end = 256
+nextCode end = endNumber
 nextCode (refusal n l) = n
 
 abbrev pub kindCarries : NextAnswer → ℕ

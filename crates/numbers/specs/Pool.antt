@@ -7,6 +7,7 @@ use lib.Dec.{eqb}
 use lib.ListN.{getD, set, replicate}
 use Rattle.base.specs.Pick.{pick}
 use Rattle.session.specs.Heads.{freshHead}
+use Rattle.session.specs.Kinds.{kindNumber}
 use Rattle.session.specs.declared.Head.{Head}
 use Rattle.session.specs.declared.Heard.{Heard}
 use Rattle.session.specs.declared.Counters.{Counters}
@@ -86,13 +87,6 @@ counterNumbers c = c .«expired_sessions» ∷ c .«pool_exhausted» ∷ c .«re
 abbrev pub heardOf : ℕ → ℕ → ℕ → List ℕ → Heard
 heardOf time pgn source bytes = record { «now_ms» = time; pgn = pgn; «source_address» = source; «data» = bytes }
 
--- an answer's number: a refusal's own, 256 Ignored, 257 FragmentConsumed, 258 MessageComplete
-abbrev pub kindCode : Kind → ℕ
-kindCode (Refused n) = n
-kindCode Ignored = 256
-kindCode FragmentConsumed = 257
-kindCode MessageComplete = 258
-
 -- a message is written over the lent payload, and any other answer leaves it as it was
 abbrev pub deliveredOn : Kind → List ℕ → List ℕ → List ℕ
 deliveredOn (Refused n) message old = old
@@ -102,7 +96,7 @@ deliveredOn MessageComplete message old = message
 
 -- what an answer leaves: what is returned, and the lent heads, bytes, counters, payload and length; heads and payload were `old` and `was`
 pub record CallLeft (r : Received) (old was : List ℕ) (code : ℕ) (heads bytes counters payload : List ℕ) (len : ℕ) : Type 0 where
-  pub told : code ≡ kindCode (r .kind)
+  pub told : code ≡ kindNumber (r .kind)
   pub kept : heads ≡ laid 8 (r .pool .heads) old
   pub stored : bytes ≡ r .pool .bytes
   pub counted : counters ≡ counterNumbers (r .counters)

@@ -55,12 +55,15 @@ pub fn lay_made(made: MadeBuilder, builder: &mut [u64; 6]) -> u8
 
 // ---- an answer as numbers
 
+// The number of End, in the list of the kinds of answers.
+const END: u32 = 100;
+
 fn kind_number(kind: NextKind) -> u32
     ensures { λ r. ⌜ r ≡ nextCode (ofNextKind kind) ⌝ }
 {
     match kind {
         NextKind::Frame => 0,
-        NextKind::End => 256,
+        NextKind::End => END,
         NextKind::Refused(error) => refusal(error),
     }
 }

@@ -2,7 +2,8 @@
 ghost use mathlib.Core.Path.{_≡_};
 ghost use Prim.Native.Nat.{_<_, _%_};
 ghost use lib.ListN.{getD};
-ghost use Rattle.numbers.specs.Pool.{headAt, putFlag, putByte, putWord, keyLaid, sizesLaid, headLaid, headsFrom, laid, poolFrom, countersFrom, counterNumbers, kindCode, deliveredOn, CallLeft, blankHeads, MadeAs};
+ghost use Rattle.session.specs.Kinds.{kindNumber};
+ghost use Rattle.numbers.specs.Pool.{headAt, putFlag, putByte, putWord, keyLaid, sizesLaid, headLaid, headsFrom, laid, poolFrom, countersFrom, counterNumbers, deliveredOn, CallLeft, blankHeads, MadeAs};
 use crate::byte_on;
 use crate::flag_on;
 use crate::word_on;
@@ -12,8 +13,11 @@ use assembler::Pool;
 use assembler::Received;
 use fast_packet::MAX_FAST_PACKET_PAYLOAD;
 use session::Counters;
+use session::FRAGMENT_CONSUMED;
 use session::Head;
+use session::IGNORED;
 use session::Kind;
+use session::MESSAGE_COMPLETE;
 use session::POOL_LIMIT;
 
 // ---- heads as numbers
@@ -169,13 +173,13 @@ pub fn counter_numbers(c: Counters) -> [u32; 5]
 }
 
 fn kind_code(kind: Kind) -> u32
-    ensures { λ r. ⌜ r ≡ kindCode kind ⌝ }
+    ensures { λ r. ⌜ r ≡ kindNumber kind ⌝ }
 {
     match kind {
         Kind::Refused(number) => number as u32,
-        Kind::Ignored => 256,
-        Kind::FragmentConsumed => 257,
-        Kind::MessageComplete => 258,
+        Kind::Ignored => IGNORED as u32,
+        Kind::FragmentConsumed => FRAGMENT_CONSUMED as u32,
+        Kind::MessageComplete => MESSAGE_COMPLETE as u32,
     }
 }
 
