@@ -1,22 +1,25 @@
 -- A refusal changes no lent memory: the heads laid back over the numbers that they were read from leave every number as it was. Assumes nothing.
-use Prim.Native.Nat.{ℕ, zero, suc, _+_, _*_, _%_, _<_}
+use Prim.Native.Nat.{ℕ, zero, suc, _+_, _*_, _%_, _<_, _≤_}
 use mathlib.Core.Bool.{Bool, true, false}
 use mathlib.Core.List.{List, [], _∷_}
 use mathlib.Core.Path.{_≡_, refl, sym, ap, subst, _∙_}
 use lib.Dec.{eqb}
-use lib.ListN.{getD, set, length}
-use lib.Seq.{set-getD}
+use lib.ListN.{getD, length, length-append, List·getD-append}
+use lib.Seq.{sets, getD-at}
+use native.Mathlib.Nat.{add-zero}
 use native.Mathlib.Omega.{arith}
 use Rattle.base.specs.Answer.{gives}
 use Rattle.base.specs.Pick.{pick}
-use Rattle.base.proofs.Cases.{when-eq, when-ne, pick-all}
+use Rattle.base.proofs.Cases.{when-eq, when-ne, pick-all, same?}
 use Rattle.session.specs.Kinds.{kindNumber}
-use Rattle.session.specs.Rules.{base}
+use Rattle.session.specs.Rules.{base, poolLimit}
+use Rattle.session.specs.Heads.{freshHead}
 use Rattle.session.specs.declared.Head.{Head}
 use Rattle.session.specs.declared.Heard.{Heard}
 use Rattle.session.specs.declared.Kind.the-variants.{Refused}
 use Rattle.session.specs.declared.Counters.{Counters}
 use Rattle.assembler.specs.Call.{Call}
+use Rattle.assembler.specs.Making.{poolBytes}
 use Rattle.assembler.specs.Slots.{within}
 use Rattle.assembler.specs.Step.{Said, ignored, consumed, complete, saidOf, eventOf, step, stepIf, outcome}
 use Rattle.assembler.specs.View.{slotsOf, poolOf, zeros, replyKind, replyPayload, replyLength, shown, receiveOf}
@@ -26,8 +29,9 @@ use Rattle.assembler.specs.declared.MadePool.{MadePool}
 use Rattle.assembler.specs.declared.Received.{Received}
 use Rattle.assembler.proofs.Views.{view-back}
 use Rattle.batch.specs.Rows.{Rows, Run, batchOf, leaves, refusedBy, BatchLeft as Rowed}
-use Rattle.numbers.specs.Numbers.{isSet, laidOn, flagOn, byteOn, wordOn}
-use Rattle.numbers.specs.Pool.{headAt, putFlag, putByte, putWord, keyLaid, sizesLaid, headLaid, headsFrom, laid, poolFrom, countersFrom, counterNumbers, CallLeft, MadeAs}
+use Rattle.numbers.specs.Numbers.{isSet, laidOn}
+use Rattle.numbers.specs.Pool.{headAt, headOver, headsTo, headsFrom, laidTo, laidOver, poolFrom, countersFrom, counterNumbers, CallLeft, MadeAs}
+use Rattle.numbers.proofs.Sets.{sets-same}
 use Rattle.ffi.specs.Calls.{calledWith, calledWithLength}
 use Rattle.ffi.specs.Batches.{LeftPool, LeftBy, batchWith}
 
@@ -36,31 +40,56 @@ same : (old new : ℕ) → laidOn old new new ≡ old
 unfolding laidOn
 same old new = sym (when-eq old new {a = new} refl refl)
 
-head-same : (n : List ℕ) (at : ℕ) {m : List ℕ} → m ≡ n → headLaid m at (headAt n at) ≡ n
-unfolding headLaid keyLaid sizesLaid headAt putFlag putByte putWord flagOn byteOn wordOn
-head-same n at e =
+abbrev numbersAt : List ℕ → ℕ → List ℕ
+numbersAt n at = getD n at 0 ∷ getD n (at + 1) 0 ∷ getD n (at + 2) 0 ∷ getD n (at + 3) 0 ∷ getD n (at + 4) 0 ∷ getD n (at + 5) 0 ∷ getD n (at + 6) 0 ∷ getD n (at + 7) 0 ∷ []
+
+head-same : (n : List ℕ) (at : ℕ) → sets n at (headOver n at (headAt n at)) ≡ n
+unfolding headOver headAt
+head-same n at =
     rw (
-      e,
       same (getD n at 0) (pick (isSet (getD n at 0)) 1 0),
-      set-getD n at 0,
       same (getD n (at + 1) 0) (getD n (at + 1) 0 % 0x100),
-      set-getD n (at + 1) 0,
       same (getD n (at + 2) 0) (getD n (at + 2) 0 % 0x100),
-      set-getD n (at + 2) 0,
       same (getD n (at + 3) 0) (getD n (at + 3) 0 % 0x100),
-      set-getD n (at + 3) 0,
       same (getD n (at + 4) 0) (getD n (at + 4) 0 % 0x1_0000_0000),
-      set-getD n (at + 4) 0,
-      set-getD n (at + 5) 0,
-      set-getD n (at + 6) 0,
-      set-getD n (at + 7) 0,
-    ) refl
+    ) (sets-same (numbersAt n at) n at 0 each)
+  where
+    first : getD n at 0 ≡ getD n (at + 0) 0
+    first = ap (λ (i : ℕ). getD n i 0) (sym (add-zero at))
+
+    each : (k : ℕ) → k < 8 → getD (numbersAt n at) k 0 ≡ getD n (at + k) 0
+    each zero h = first
+    each (suc zero) h = refl
+    each (suc (suc zero)) h = refl
+    each (suc (suc (suc zero))) h = refl
+    each (suc (suc (suc (suc zero)))) h = refl
+    each (suc (suc (suc (suc (suc zero))))) h = refl
+    each (suc (suc (suc (suc (suc (suc zero)))))) h = refl
+    each (suc (suc (suc (suc (suc (suc (suc zero))))))) h = refl
+    each (suc (suc (suc (suc (suc (suc (suc (suc k)))))))) h = absurd (omega arith)
+
+heads-long : (k : ℕ) (n : List ℕ) → length (headsTo k n) ≡ k
+unfolding headsTo
+heads-long zero n = refl
+heads-long (suc k) n = length-append (headsTo k n) (headAt n (8 * k) ∷ []) ∙ omega (arith, heads-long k n)
+
+head-in : (k j : ℕ) (n : List ℕ) (d : Head) → j < k → getD (headsTo k n) j d ≡ headAt n (8 * j)
+unfolding headsTo
+head-in zero j n d h = absurd (omega arith)
+head-in (suc k) j n d h =
+    same? j k
+    (λ e. rw e (getD-at (headsTo k n) (headAt n (8 * k)) [] d k (heads-long k n)))
+    (λ e. List·getD-append (headsTo k n) (headAt n (8 * k) ∷ []) d j (omega (arith, heads-long k n)) ∙ head-in k j n d (omega arith))
+
+laid-some : (k : ℕ) (n : List ℕ) → k ≤ poolLimit → laidTo k n (headsFrom n) ≡ n
+unfolding laidTo headsFrom
+laid-some zero n h = refl
+laid-some (suc k) n h = rw (laid-some k n (omega arith), head-in poolLimit k n freshHead h) (head-same n (8 * k))
 
 -- the theorem: whatever numbers the heads were read from, laying them back leaves those numbers
-pub laid-back : (n : List ℕ) → laid 8 (headsFrom n) n ≡ n
-unfolding laid headsFrom
-laid-back n =
-    head-same n 56 (head-same n 48 (head-same n 40 (head-same n 32 (head-same n 24 (head-same n 16 (head-same n 8 (head-same n 0 refl)))))))
+pub laid-back : (n : List ℕ) → laidOver n (headsFrom n) ≡ n
+unfolding laidOver
+laid-back n = laid-some poolLimit n (omega arith)
 
 counters-back : (n : List ℕ) → length n ≡ 5 → counterNumbers (countersFrom n) ≡ n
 unfolding counterNumbers countersFrom
@@ -96,11 +125,11 @@ pub record Untouched (heads heads₀ bytes bytes₀ counters counters₀ payload
   pub payload-kept : payload ≡ payload₀
   pub no-message : len ≡ 0
 
-pool-back : (size : ℕ) (heads bytes : List ℕ) → length bytes ≡ 1784 → poolOf (slotsOf (poolFrom size heads bytes)) ≡ poolFrom size heads bytes
+pool-back : (size : ℕ) (heads bytes : List ℕ) → length bytes ≡ poolBytes → poolOf (slotsOf (poolFrom size heads bytes)) ≡ poolFrom size heads bytes
 unfolding poolFrom headsFrom
-pool-back size heads bytes long = view-back (poolFrom size heads bytes) (record { heads = refl; bytes = long })
+pool-back size heads bytes long = view-back (poolFrom size heads bytes) (record { heads = heads-long poolLimit heads; bytes = long })
 
-module _ (size : ℕ) (heads bytes counters pgns : List ℕ) (long : length bytes ≡ 1784) (five : length counters ≡ 5) {was heads′ bytes′ counters′ payload′ : List ℕ} {code len : ℕ} where
+module _ (size : ℕ) (heads bytes counters pgns : List ℕ) (long : length bytes ≡ poolBytes) (five : length counters ≡ 5) {was heads′ bytes′ counters′ payload′ : List ℕ} {code len : ℕ} where
   untouched : CallLeft (refusal (poolFrom size heads bytes) (countersFrom counters)) heads was code heads′ bytes′ counters′ payload′ len → Untouched heads′ heads bytes′ bytes counters′ counters payload′ was len
   unfolding refusal poolFrom
   untouched l =

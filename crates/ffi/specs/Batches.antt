@@ -5,12 +5,12 @@ use mathlib.Core.Path.{_≡_}
 use Rattle.session.specs.Rules.{base}
 use Rattle.batch.specs.Rows.{Rows, BatchLeft, batchOf}
 use Rattle.batch.specs.declared.Batch.{Batch}
-use Rattle.numbers.specs.Pool.{laid, poolFrom, countersFrom, counterNumbers}
+use Rattle.numbers.specs.Pool.{laidOver, poolFrom, countersFrom, counterNumbers}
 
 -- what the answer leaves: what is returned, the lent heads (which were `old`), bytes and counters, and how many frames and arena bytes were taken
 pub record LeftPool (r : Batch) (old : List ℕ) (code : ℕ) (heads bytes counters counts : List ℕ) : Type 0 where
   pub told : code ≡ r .refused
-  pub kept : heads ≡ laid 8 (r .pool .heads) old
+  pub kept : heads ≡ laidOver old (r .pool .heads)
   pub stored : bytes ≡ r .pool .bytes
   pub counted : counters ≡ counterNumbers (r .counters)
   pub taken : counts ≡ r .taken ∷ r .used ∷ []

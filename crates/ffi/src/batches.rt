@@ -5,6 +5,7 @@ ghost use Rattle.ffi.specs.Batches.{LeftPool, LeftBy, batchWith};
 use assembler::POOL_BYTES;
 use batch::Batch;
 use batch::process_frames;
+use numbers::HEAD_NUMBERS;
 use numbers::counter_numbers;
 use numbers::counters_from;
 use numbers::pool_from;
@@ -12,7 +13,7 @@ use numbers::put_heads;
 
 fn leave_batch(
     r: Batch,
-    heads: &mut [u64; 64],
+    heads: &mut [u64; HEAD_NUMBERS],
     bytes: &mut [u8; POOL_BYTES],
     counters: &mut [u32; 5],
     counts: &mut [u64; 2],
@@ -35,7 +36,7 @@ fn leave_batch(
 #[no_mangle]
 pub extern "C" fn hf_process_frames(
     size: usize,
-    heads: &mut [u64; 64],
+    heads: &mut [u64; HEAD_NUMBERS],
     bytes: &mut [u8; POOL_BYTES],
     counters: &mut [u32; 5],
     pgns: &[u32],

@@ -1,4 +1,4 @@
-// The receive call: a pool as its size, 64 numbers for the heads of its slots and their bytes, the counters as five numbers.
+// The receive call: a pool as its size, eight numbers for each head of its slots and their bytes, the counters as five numbers.
 ghost use mathlib.Core.Path.{_≡_};
 ghost use Rattle.assembler.specs.Making.{freshPool, newPool};
 ghost use Rattle.fast_packet.specs.FastPacket.{listedIn};
@@ -13,6 +13,7 @@ use assembler::process_frame_through;
 use assembler::process_frame_with_length_through;
 use assembler::receive;
 use fast_packet::MAX_FAST_PACKET_PAYLOAD;
+use numbers::HEAD_NUMBERS;
 use numbers::counters_from;
 use numbers::leave;
 use numbers::leave_made;
@@ -30,7 +31,7 @@ pub extern "C" fn hf_handles(pgns: &[u32], pgn: u32) -> bool
 #[no_mangle]
 pub extern "C" fn hf_pool_new(
     wanted: usize,
-    heads: &mut [u64; 64],
+    heads: &mut [u64; HEAD_NUMBERS],
     bytes: &mut [u8; POOL_BYTES],
     size: &mut usize,
 ) -> u32
@@ -42,7 +43,7 @@ pub extern "C" fn hf_pool_new(
 // The pool of the default size; returns 0.
 #[no_mangle]
 pub extern "C" fn hf_pool_default(
-    heads: &mut [u64; 64],
+    heads: &mut [u64; HEAD_NUMBERS],
     bytes: &mut [u8; POOL_BYTES],
     size: &mut usize,
 ) -> u32
@@ -60,7 +61,7 @@ pub extern "C" fn hf_pool_default(
 #[no_mangle]
 pub extern "C" fn hf_process_frame(
     size: usize,
-    heads: &mut [u64; 64],
+    heads: &mut [u64; HEAD_NUMBERS],
     bytes: &mut [u8; POOL_BYTES],
     counters: &mut [u32; 5],
     pgns: &[u32],
@@ -92,7 +93,7 @@ pub extern "C" fn hf_process_frame(
 #[no_mangle]
 pub extern "C" fn hf_receive(
     size: usize,
-    heads: &mut [u64; 64],
+    heads: &mut [u64; HEAD_NUMBERS],
     bytes: &mut [u8; POOL_BYTES],
     counters: &mut [u32; 5],
     pgns: &[u32],
@@ -124,7 +125,7 @@ pub extern "C" fn hf_receive(
 #[no_mangle]
 pub extern "C" fn hf_process_frame_with_length(
     size: usize,
-    heads: &mut [u64; 64],
+    heads: &mut [u64; HEAD_NUMBERS],
     bytes: &mut [u8; POOL_BYTES],
     counters: &mut [u32; 5],
     pgns: &[u32],

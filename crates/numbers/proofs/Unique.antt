@@ -1,14 +1,10 @@
 -- Two outcomes that satisfy a function's contract are equal. Assumes nothing.
 use Prim.Native.Nat.{ℕ}
-use mathlib.Core.Bool.{Bool}
 use mathlib.Core.Path.{_≡_}
 use Rattle.base.specs.Answer.{Answer}
-use Rattle.base.specs.Pick.{pick}
 use Rattle.base.proofs.Cases.{determined}
-use Rattle.can_id.specs.Build.{errorNumber, errorCarries}
-use Rattle.can_id.specs.declared.CanIdBuildError.{CanIdBuildError}
 use Rattle.can_id.specs.declared.Destination.{Destination}
-use Rattle.numbers.specs.Numbers.{flagOn, byteOn, wordOn, toAddress, addressOf, codeOf, valueOf, carriesOf}
+use Rattle.numbers.specs.Numbers.{toAddress, addressOf, codeOf, valueOf}
 use mathlib.Core.List.{List}
 use Rattle.builder.specs.Next.{Step}
 use Rattle.builder.specs.declared.FastPacketBuilder.{FastPacketBuilder}
@@ -21,31 +17,13 @@ use Rattle.session.specs.declared.Head.{Head}
 use Rattle.assembler.specs.declared.MadePool.{MadePool}
 use Rattle.assembler.specs.declared.Pool.{Pool}
 use Rattle.assembler.specs.declared.Received.{Received}
-use Rattle.numbers.specs.Pool.{laid, poolFrom, countersFrom, counterNumbers, CallLeft, MadeAs}
+use Rattle.numbers.specs.Pool.{laidOver, poolFrom, countersFrom, counterNumbers, CallLeft, MadeAs}
 
 -- ---- numbers
 
 module _ (r s : ℕ) where
-  pub flag-unique : (x : Bool) → r ≡ pick x 1 0 → s ≡ pick x 1 0 → r ≡ s
-  flag-unique x = determined
-
-  pub flag-on-unique : (old : ℕ) (x : Bool) → r ≡ flagOn old x → s ≡ flagOn old x → r ≡ s
-  flag-on-unique old x = determined
-
-  pub byte-on-unique : (number x : ℕ) → r ≡ byteOn number x → s ≡ byteOn number x → r ≡ s
-  byte-on-unique number x = determined
-
-  pub word-on-unique : (old x : ℕ) → r ≡ wordOn old x → s ≡ wordOn old x → r ≡ s
-  word-on-unique old x = determined
-
   pub number-of-unique : (d : Destination) → r ≡ addressOf d → s ≡ addressOf d → r ≡ s
   number-of-unique d = determined
-
-  pub refusal-unique : (e : CanIdBuildError) → r ≡ errorNumber e → s ≡ errorNumber e → r ≡ s
-  refusal-unique e = determined
-
-  pub carried-unique : (e : CanIdBuildError) → r ≡ carriesOf (errorCarries e) → s ≡ carriesOf (errorCarries e) → r ≡ s
-  carried-unique e = determined
 
 pub destination-from-unique : (n : ℕ) (r s : Destination) → r ≡ toAddress n → s ≡ toAddress n → r ≡ s
 destination-from-unique n r s = determined
@@ -105,7 +83,7 @@ counters-from-unique n r s = determined
 pub counter-numbers-unique : (c : Counters) (r s : List ℕ) → r ≡ counterNumbers c → s ≡ counterNumbers c → r ≡ s
 counter-numbers-unique c r s = determined
 
-pub put-heads-unique : (heads : List Head) (old r s : List ℕ) → r ≡ laid 8 heads old → s ≡ laid 8 heads old → r ≡ s
+pub put-heads-unique : (heads : List Head) (old r s : List ℕ) → r ≡ laidOver old heads → s ≡ laidOver old heads → r ≡ s
 put-heads-unique heads old r s = determined
 
 -- what is returned, the heads, the bytes, the counters, the payload and the length

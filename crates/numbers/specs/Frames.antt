@@ -11,7 +11,7 @@ use Rattle.builder.specs.Frames.{Turn, nextTurn}
 use Rattle.builder.specs.declared.FastPacketBuilder.{FastPacketBuilder}
 use Rattle.builder.specs.declared.MadeBuilder.{MadeBuilder}
 use Rattle.builder.specs.declared.FrameIterator.{FrameIterator}
-use Rattle.numbers.specs.Numbers.{isSet, byteOn, toAddress, addressOf, carriesOf}
+use Rattle.numbers.specs.Numbers.{isSet, laidOn, toAddress, addressOf, carriesOf}
 
 -- a builder is six numbers: PGN, source, destination, priority, sequence, and whether it is fast; each is read in the width of its field
 unfoldable pub builderFrom : List ℕ → FastPacketBuilder
@@ -81,7 +81,7 @@ stepAfter s = s .index ∷ s .bytes ∷ []
 
 -- and over a place, by the rule of `laidOn`
 unfoldable pub placeLaid : List ℕ → Step → List ℕ
-placeLaid place s = byteOn (getD place 0 0) (s .index) ∷ s .bytes ∷ []
+placeLaid place s = laidOn (getD place 0 0) (getD place 0 0 % 0x100) (s .index) ∷ s .bytes ∷ []
 
 -- of a turn of the iterator, whose builder stays as it is
 unfoldable pub turnStep : Turn → Step

@@ -1,5 +1,5 @@
 -- The numbers that stand for what C does not have.
-use Prim.Native.Nat.{ℕ, _%_}
+use Prim.Native.Nat.{ℕ}
 use mathlib.Core.List.{List, [], _∷_}
 use mathlib.Core.Bool.{Bool, not}
 use lib.Dec.{ltb, eqb}
@@ -15,16 +15,6 @@ isSet n = not (eqb n 0)
 -- A number is written only where the field that is read from it has changed: over `old`, from which `read` was read.
 unfoldable pub laidOn : ℕ → ℕ → ℕ → ℕ
 laidOn old read new = pick (eqb read new) old new
-
--- a flag, a byte and a 32-bit word over a number
-unfoldable pub flagOn : ℕ → Bool → ℕ
-flagOn old x = laidOn old (pick (isSet old) 1 0) (pick x 1 0)
-
-unfoldable pub byteOn : ℕ → ℕ → ℕ
-byteOn old x = laidOn old (old % 0x100) x
-
-unfoldable pub wordOn : ℕ → ℕ → ℕ
-wordOn old x = laidOn old (old % 0x1_0000_0000) x
 
 -- a destination is an address below 256, and from 256 on there is none
 unfoldable pub toAddress : ℕ → Destination
