@@ -1,9 +1,7 @@
 // The receive call: a pool as its size, eight numbers for each head of its slots and their bytes, the counters as five numbers.
 ghost use mathlib.Core.Path.{_≡_};
-ghost use Rattle.assembler.specs.Making.{freshPool, newPool};
 ghost use Rattle.fast_packet.specs.FastPacket.{listedIn};
-ghost use Rattle.numbers.specs.Pool.{heardOf, CallLeft, MadeAs, plainly};
-ghost use Rattle.ffi.specs.Calls.{calledWith, calledWithLength};
+ghost use Rattle.ffi.specs.Calls.{NewPoolLeft, DefaultPoolLeft, FrameLeft, FrameWithLengthLeft};
 use assembler::HeardWithLength;
 use assembler::MadePool;
 use assembler::POOL_BYTES;
@@ -35,7 +33,8 @@ pub extern "C" fn hf_pool_new(
     bytes: &mut [u8; POOL_BYTES],
     size: &mut usize,
 ) -> u32
-    ensures { λ code. ⌜ MadeAs (newPool wanted) (now (heads .entry)) (now (bytes .entry)) code (now (heads .exit)) (now (bytes .exit)) (now (size .exit)) ⌝ }
+    ensures { λ code. ⌜ NewPoolLeft wanted (record { heads = now (heads .entry); bytes = now (bytes .entry); size = now (size .entry) })
+        code (record { heads = now (heads .exit); bytes = now (bytes .exit); size = now (size .exit) }) ⌝ }
 {
     leave_made(Pool::new(wanted), heads, bytes, size)
 }
@@ -47,7 +46,8 @@ pub extern "C" fn hf_pool_default(
     bytes: &mut [u8; POOL_BYTES],
     size: &mut usize,
 ) -> u32
-    ensures { λ code. ⌜ MadeAs (plainly (freshPool 4)) (now (heads .entry)) (now (bytes .entry)) code (now (heads .exit)) (now (bytes .exit)) (now (size .exit)) ⌝ }
+    ensures { λ code. ⌜ DefaultPoolLeft (record { heads = now (heads .entry); bytes = now (bytes .entry); size = now (size .entry) })
+        code (record { heads = now (heads .exit); bytes = now (bytes .exit); size = now (size .exit) }) ⌝ }
 {
     let pool = Pool::default();
     let made = MadePool {
@@ -72,9 +72,9 @@ pub extern "C" fn hf_process_frame(
     payload: &mut [u8; MAX_FAST_PACKET_PAYLOAD],
     length: &mut usize,
 ) -> u32
-    ensures { λ code. ⌜ CallLeft
-        (calledWith size (now (heads .entry)) (now (bytes .entry)) (now (counters .entry)) (now (pgns .entry)) (heardOf «now_ms» pgn «source_address» (now («data» .entry))))
-        (now (heads .entry)) (now (payload .entry)) code (now (heads .exit)) (now (bytes .exit)) (now (counters .exit)) (now (payload .exit)) (now (length .exit)) ⌝ }
+    ensures { λ code. ⌜ FrameLeft size (now (pgns .entry)) (record { «now_ms» = «now_ms»; pgn = pgn; «source_address» = «source_address»; «data» = now («data» .entry) })
+        (record { heads = now (heads .entry); bytes = now (bytes .entry); counters = now (counters .entry); payload = now (payload .entry); length = now (length .entry) })
+        code (record { heads = now (heads .exit); bytes = now (bytes .exit); counters = now (counters .exit); payload = now (payload .exit); length = now (length .exit) }) ⌝ }
 {
     let p = pool_from(size, heads, bytes);
     let c = counters_from(counters);
@@ -104,9 +104,9 @@ pub extern "C" fn hf_receive(
     payload: &mut [u8; MAX_FAST_PACKET_PAYLOAD],
     length: &mut usize,
 ) -> u32
-    ensures { λ code. ⌜ CallLeft
-        (calledWith size (now (heads .entry)) (now (bytes .entry)) (now (counters .entry)) (now (pgns .entry)) (heardOf «now_ms» pgn «source_address» (now («data» .entry))))
-        (now (heads .entry)) (now (payload .entry)) code (now (heads .exit)) (now (bytes .exit)) (now (counters .exit)) (now (payload .exit)) (now (length .exit)) ⌝ }
+    ensures { λ code. ⌜ FrameLeft size (now (pgns .entry)) (record { «now_ms» = «now_ms»; pgn = pgn; «source_address» = «source_address»; «data» = now («data» .entry) })
+        (record { heads = now (heads .entry); bytes = now (bytes .entry); counters = now (counters .entry); payload = now (payload .entry); length = now (length .entry) })
+        code (record { heads = now (heads .exit); bytes = now (bytes .exit); counters = now (counters .exit); payload = now (payload .exit); length = now (length .exit) }) ⌝ }
 {
     let p = pool_from(size, heads, bytes);
     let c = counters_from(counters);
@@ -137,9 +137,9 @@ pub extern "C" fn hf_process_frame_with_length(
     payload: &mut [u8; MAX_FAST_PACKET_PAYLOAD],
     length: &mut usize,
 ) -> u32
-    ensures { λ code. ⌜ CallLeft
-        (calledWithLength size (now (heads .entry)) (now (bytes .entry)) (now (counters .entry)) (now (pgns .entry)) (heardOf «now_ms» pgn «source_address» (now («data» .entry))) «frame_length»)
-        (now (heads .entry)) (now (payload .entry)) code (now (heads .exit)) (now (bytes .exit)) (now (counters .exit)) (now (payload .exit)) (now (length .exit)) ⌝ }
+    ensures { λ code. ⌜ FrameWithLengthLeft size (now (pgns .entry)) (record { heard = record { «now_ms» = «now_ms»; pgn = pgn; «source_address» = «source_address»; «data» = now («data» .entry) }; length = «frame_length» })
+        (record { heads = now (heads .entry); bytes = now (bytes .entry); counters = now (counters .entry); payload = now (payload .entry); length = now (length .entry) })
+        code (record { heads = now (heads .exit); bytes = now (bytes .exit); counters = now (counters .exit); payload = now (payload .exit); length = now (length .exit) }) ⌝ }
 {
     let p = pool_from(size, heads, bytes);
     let c = counters_from(counters);

@@ -2,9 +2,12 @@
 use Prim.Native.Nat.{ℕ}
 use mathlib.Core.List.{List, [], _∷_}
 use mathlib.Core.Bool.{Bool, not}
+use mathlib.Core.Path.{_≡_}
 use lib.Dec.{ltb, eqb}
 use Rattle.base.specs.Answer.{Answer, gives, refuses}
 use Rattle.base.specs.Pick.{pick}
+use Rattle.can_id.specs.Build.{ofBuilt}
+use Rattle.can_id.specs.declared.Built.{Built}
 use Rattle.can_id.specs.declared.Destination.{Destination}
 use Rattle.can_id.specs.declared.Destination.the-variants.{Nobody, To}
 
@@ -38,3 +41,12 @@ carriesOf (x ∷ l) = x
 abbrev pub valueOf : Answer ℕ → ℕ
 valueOf (gives x) = x
 valueOf (refuses n l) = carriesOf l
+
+-- what such a call leaves: the number returned, and the number lent out
+pub record Answered (a : Answer ℕ) (code value : ℕ) : Type 0 where
+  pub told : code ≡ codeOf a
+  pub given : value ≡ valueOf a
+
+-- of what building an identifier gave
+abbrev pub BuiltLeft : Built → ℕ → ℕ → Type 0
+BuiltLeft b code value = Answered (ofBuilt b) code value

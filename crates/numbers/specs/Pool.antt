@@ -10,7 +10,6 @@ use Rattle.session.specs.Rules.{poolLimit}
 use Rattle.session.specs.Heads.{freshHead}
 use Rattle.session.specs.Kinds.{kindNumber}
 use Rattle.session.specs.declared.Head.{Head}
-use Rattle.session.specs.declared.Heard.{Heard}
 use Rattle.session.specs.declared.Counters.{Counters}
 use Rattle.session.specs.declared.Kind.{Kind}
 use Rattle.session.specs.declared.Kind.the-variants.{Refused, Ignored, FragmentConsumed, MessageComplete}
@@ -81,36 +80,43 @@ countersFrom n =
 unfoldable pub counterNumbers : Counters → List ℕ
 counterNumbers c = c .«expired_sessions» ∷ c .«pool_exhausted» ∷ c .«rejected_frames» ∷ c .«lost_fragments» ∷ c .«unknown_pgn» ∷ []
 
-abbrev pub heardOf : ℕ → ℕ → ℕ → List ℕ → Heard
-heardOf time pgn source bytes = record { «now_ms» = time; pgn = pgn; «source_address» = source; «data» = bytes }
-
 -- a message is written over the lent payload, and any other answer leaves it as it was
-abbrev pub deliveredOn : Kind → List ℕ → List ℕ → List ℕ
-deliveredOn (Refused n) message old = old
-deliveredOn Ignored message old = old
-deliveredOn FragmentConsumed message old = old
-deliveredOn MessageComplete message old = message
+abbrev pub deliveredOn : List ℕ → Kind → List ℕ → List ℕ
+deliveredOn old (Refused n) message = old
+deliveredOn old Ignored message = old
+deliveredOn old FragmentConsumed message = old
+deliveredOn old MessageComplete message = message
 
--- what an answer leaves: what is returned, and the lent heads, bytes, counters, payload and length; heads and payload were `old` and `was`
-pub record CallLeft (r : Received) (old was : List ℕ) (code : ℕ) (heads bytes counters payload : List ℕ) (len : ℕ) : Type 0 where
+-- the memory that a caller lends to a receive call
+pub record CallMemory : Type 0 where
+  pub heads : List ℕ
+  pub bytes : List ℕ
+  pub counters : List ℕ
+  pub payload : List ℕ
+  pub length : ℕ
+
+-- what an answer leaves: what is returned, and that memory, from what it was before
+pub record CallLeft (r : Received) (before : CallMemory) (code : ℕ) (after : CallMemory) : Type 0 where
   pub told : code ≡ kindNumber (r .kind)
-  pub kept : heads ≡ laidOver old (r .pool .heads)
-  pub stored : bytes ≡ r .pool .bytes
-  pub counted : counters ≡ counterNumbers (r .counters)
-  pub delivered : payload ≡ deliveredOn (r .kind) (r .payload) was
-  pub measured : len ≡ r .length
+  pub kept : after .heads ≡ laidOver (before .heads) (r .pool .heads)
+  pub stored : after .bytes ≡ r .pool .bytes
+  pub counted : after .counters ≡ counterNumbers (r .counters)
+  pub delivered : after .payload ≡ deliveredOn (before .payload) (r .kind) (r .payload)
+  pub measured : after .length ≡ r .length
+
+-- the memory that a caller lends for a pool to be made in
+pub record PoolMemory : Type 0 where
+  pub heads : List ℕ
+  pub bytes : List ℕ
+  pub size : ℕ
 
 -- a fresh pool is laid on zeros
 unfoldable pub blankHeads : List ℕ
 blankHeads = replicate (8 * poolLimit) 0
 
--- what making a pool leaves: without a refusal its heads and bytes, and with one what was there
-pub record MadeAs (m : MadePool) (old was : List ℕ) (code : ℕ) (heads bytes : List ℕ) (size : ℕ) : Type 0 where
+-- what making a pool leaves: without a refusal its heads and bytes, and with one what was there; and its size
+pub record PoolLeft (m : MadePool) (before : PoolMemory) (code : ℕ) (after : PoolMemory) : Type 0 where
   pub told : code ≡ m .refused
-  pub kept : heads ≡ pick (eqb (m .refused) 0) (laidOver blankHeads (m .pool .heads)) old
-  pub stored : bytes ≡ pick (eqb (m .refused) 0) (m .pool .bytes) was
-  pub sized : size ≡ m .pool .size
-
--- a pool made without a refusal
-abbrev pub plainly : Pool → MadePool
-plainly p = record { refused = 0; pool = p }
+  pub kept : after .heads ≡ pick (eqb (m .refused) 0) (laidOver blankHeads (m .pool .heads)) (before .heads)
+  pub stored : after .bytes ≡ pick (eqb (m .refused) 0) (m .pool .bytes) (before .bytes)
+  pub sized : after .size ≡ m .pool .size

@@ -2,8 +2,8 @@
 ghost use mathlib.Core.Path.{_≡_};
 ghost use Prim.Native.Nat.{_%_};
 ghost use Rattle.base.specs.Pick.{pick};
-ghost use Rattle.can_id.specs.Build.{ofBuilt, errorNumber, errorCarries};
-ghost use Rattle.numbers.specs.Numbers.{isSet, laidOn, toAddress, addressOf, codeOf, valueOf, carriesOf};
+ghost use Rattle.can_id.specs.Build.{errorNumber, errorCarries};
+ghost use Rattle.numbers.specs.Numbers.{isSet, laidOn, toAddress, addressOf, carriesOf, BuiltLeft};
 use can_id::Built;
 use can_id::CanIdBuildError;
 use can_id::Destination;
@@ -95,7 +95,7 @@ pub(crate) fn carried(error: CanIdBuildError) -> u32
 
 // The refusal's number or 0; in `value` the identifier, or what the refusal carries.
 pub fn answered(built: Built, value: &mut u32) -> u32
-    ensures { λ r. ⌜ (r ≡ codeOf (ofBuilt built)) × (now (value .exit) ≡ valueOf (ofBuilt built)) ⌝ }
+    ensures { λ r. ⌜ BuiltLeft built r (now (value .exit)) ⌝ }
 {
     match built {
         Built::Id(id) => {

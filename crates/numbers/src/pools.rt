@@ -5,7 +5,7 @@ ghost use lib.ListN.{getD};
 ghost use lib.Seq.{sets};
 ghost use Rattle.session.specs.Rules.{poolLimit};
 ghost use Rattle.session.specs.Kinds.{kindNumber};
-ghost use Rattle.numbers.specs.Pool.{headAt, headOver, headsFrom, laidOver, poolFrom, countersFrom, counterNumbers, deliveredOn, CallLeft, blankHeads, MadeAs};
+ghost use Rattle.numbers.specs.Pool.{headAt, headOver, headsFrom, laidOver, poolFrom, countersFrom, counterNumbers, deliveredOn, CallLeft, blankHeads, PoolLeft};
 use crate::numbers::byte_on;
 use crate::numbers::flag_on;
 use crate::numbers::word_on;
@@ -172,7 +172,7 @@ fn deliver(
     message: [u8; MAX_FAST_PACKET_PAYLOAD],
     payload: &mut [u8; MAX_FAST_PACKET_PAYLOAD],
 )
-    ensures { λ _. ⌜ now (payload .exit) ≡ deliveredOn kind message (now (payload .entry)) ⌝ }
+    ensures { λ _. ⌜ now (payload .exit) ≡ deliveredOn (now (payload .entry)) kind message ⌝ }
 {
     match kind {
         Kind::MessageComplete => {
@@ -193,7 +193,9 @@ pub fn leave(
     payload: &mut [u8; MAX_FAST_PACKET_PAYLOAD],
     length: &mut usize,
 ) -> u32
-    ensures { λ code. ⌜ CallLeft r (now (heads .entry)) (now (payload .entry)) code (now (heads .exit)) (now (bytes .exit)) (now (counters .exit)) (now (payload .exit)) (now (length .exit)) ⌝ }
+    ensures { λ code. ⌜ CallLeft r
+        (record { heads = now (heads .entry); bytes = now (bytes .entry); counters = now (counters .entry); payload = now (payload .entry); length = now (length .entry) })
+        code (record { heads = now (heads .exit); bytes = now (bytes .exit); counters = now (counters .exit); payload = now (payload .exit); length = now (length .exit) }) ⌝ }
 {
     let pool = r.pool;
     let h = pool.heads;
@@ -224,7 +226,8 @@ pub fn leave_made(
     bytes: &mut [u8; POOL_BYTES],
     size: &mut usize,
 ) -> u32
-    ensures { λ code. ⌜ MadeAs made (now (heads .entry)) (now (bytes .entry)) code (now (heads .exit)) (now (bytes .exit)) (now (size .exit)) ⌝ }
+    ensures { λ code. ⌜ PoolLeft made (record { heads = now (heads .entry); bytes = now (bytes .entry); size = now (size .entry) })
+        code (record { heads = now (heads .exit); bytes = now (bytes .exit); size = now (size .exit) }) ⌝ }
 {
     let pool = made.pool;
     *size = pool.size;
