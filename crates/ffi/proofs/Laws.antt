@@ -12,23 +12,26 @@ use Rattle.builder.specs.Frames.{Turn, started, nextTurn}
 use Rattle.builder.specs.declared.MadeBuilder.{MadeBuilder}
 use Rattle.builder.specs.declared.FrameIterator.{FrameIterator}
 use Rattle.builder.specs.declared.FastPacketBuilder.{FastPacketBuilder}
-use Rattle.session.specs.Rules.{base}
 use Rattle.session.specs.declared.Heard.{Heard}
 use Rattle.session.specs.declared.Counters.{Counters}
 use Rattle.assembler.specs.View.{receiveOf}
-use Rattle.assembler.specs.Forms.{receiveWithLengthOf}
-use Rattle.assembler.specs.declared.HeardWithLength.{HeardWithLength}
+use Rattle.assembler.specs.declared.Arrival.{Arrival}
+use Rattle.assembler.specs.declared.ArrivalWithLength.{ArrivalWithLength}
+use Rattle.assembler.specs.Arrivals.{heardOf, heardWithLength}
+use Rattle.assembler.specs.Promises.{rulesOf, ReceivesHeard, Receives, ReceivesWithLength}
+use Rattle.assembler.proofs.Promised.{received-by as equation}
 use Rattle.assembler.specs.declared.Received.{Received}
 use Rattle.assembler.specs.declared.MadePool.{MadePool}
 use Rattle.assembler.specs.declared.Pool.{Pool}
-use Rattle.batch.specs.Rows.{Rows, batchOf, BatchLeft}
+use Rattle.batch.specs.Rows.{Rows, batchOf, BatchLeft, Batches}
+use Rattle.batch.proofs.Promised.{batched-by}
 use Rattle.batch.specs.declared.Batch.{Batch}
 use Rattle.numbers.specs.Numbers.{toAddress, Answered}
 use Rattle.numbers.specs.Frames.{builderFrom, builderNumbers, BuilderLeft, iteratorFrom, placeNumbers, StepLeft, stepAfter, placeLaid}
 use Rattle.numbers.specs.Pool.{poolFrom, countersFrom, CallMemory, CallLeft, PoolMemory, PoolLeft}
 use Rattle.ffi.specs.Ids.{builderOfParts, setPriority, setDestination, setOf, bothOf}
 use Rattle.ffi.specs.Frames.{newBuilderTo, NewBuilderLeft, sequenceSet, prioritySet, destinationSet, nextWith, NextFrameLeft, startedPlace, turnWith, TurnLeft}
-use Rattle.ffi.specs.Calls.{receivedIn, receivedWithLengthIn}
+use Rattle.ffi.specs.Calls.{poolIn, receivedIn, receivedWithLengthIn}
 use Rattle.ffi.specs.Batches.{BatchMemory, BatchMemoryLeft, batchIn, FramesLeft}
 use Rattle.ffi.specs.inner.Batches.{PoolAfter}
 
@@ -111,35 +114,38 @@ default-by e = ap (λ (p : Pool). record { refused = 0; pool = p }) e
 
 -- ---- the receive call on a pool and counters from numbers
 module _ (size : ℕ) (pgns : List ℕ) (before : CallMemory) {p : Pool} {k : Counters} {r : Received} (e : p ≡ poolFrom size (before .heads) (before .bytes)) (f : k ≡ countersFrom (before .counters)) where
-  pub received-by : (heard : Heard) → r ≡ receiveOf base pgns heard p k → r ≡ receivedIn size pgns heard before
-  unfolding receivedIn
-  received-by heard h =
-      h ∙ ap (λ (x : Pool). receiveOf base pgns heard x k) e
-      ∙ ap (λ (x : Counters). receiveOf base pgns heard (poolFrom size (before .heads) (before .bytes)) x) f
+  heard-by : (f : Heard) → ReceivesHeard pgns f p k r → r ≡ receiveOf (rulesOf (poolIn size before)) pgns f (poolIn size before) (countersFrom (before .counters))
+  unfolding poolIn
+  heard-by h q =
+      equation pgns h p k q
+      ∙ ap (λ (x : Pool). receiveOf (rulesOf x) pgns h x k) e
+      ∙ ap (λ (x : Counters). receiveOf (rulesOf (poolFrom size (before .heads) (before .bytes))) pgns h (poolFrom size (before .heads) (before .bytes)) x) f
 
-  pub received-with-length-by : (heard : HeardWithLength) → r ≡ receiveWithLengthOf base pgns heard p k → r ≡ receivedWithLengthIn size pgns heard before
+  pub received-by : (a : Arrival) → Receives pgns a p k r → r ≡ receivedIn size pgns a before
+  unfolding receivedIn
+  received-by a q = heard-by (heardOf a) q
+
+  pub received-with-length-by : (x : ArrivalWithLength) → ReceivesWithLength pgns x p k r → r ≡ receivedWithLengthIn size pgns x before
   unfolding receivedWithLengthIn
-  received-with-length-by heard h =
-      h ∙ ap (λ (x : Pool). receiveWithLengthOf base pgns heard x k) e
-      ∙ ap (λ (x : Counters). receiveWithLengthOf base pgns heard (poolFrom size (before .heads) (before .bytes)) x) f
+  received-with-length-by x q = heard-by (heardWithLength x) q
 
 -- ---- a batch on a pool and counters from numbers, and what it leaves
 module _ (size : ℕ) (pgns : List ℕ) (rows : Rows) (before : BatchMemory) {p : Pool} {k : Counters} (e : p ≡ poolFrom size (before .heads) (before .bytes)) (f : k ≡ countersFrom (before .counters)) where
-  batch-same : batchOf base pgns rows p k (before .kinds) (before .lengths) (before .arena) ≡ batchIn size pgns rows before
+  batch-same : batchOf (rulesOf p) pgns rows p k (before .kinds) (before .lengths) (before .arena) ≡ batchIn size pgns rows before
   unfolding batchIn
   batch-same =
-      ap (λ (x : Pool). batchOf base pgns rows x k (before .kinds) (before .lengths) (before .arena)) e
-      ∙ ap (λ (x : Counters). batchOf base pgns rows (poolFrom size (before .heads) (before .bytes)) x (before .kinds) (before .lengths) (before .arena)) f
+      ap (λ (x : Pool). batchOf (rulesOf x) pgns rows x k (before .kinds) (before .lengths) (before .arena)) e
+      ∙ ap (λ (x : Counters). batchOf (rulesOf (poolFrom size (before .heads) (before .bytes))) pgns rows (poolFrom size (before .heads) (before .bytes)) x (before .kinds) (before .lengths) (before .arena)) f
 
   pub batch-left : {r : Batch} {heads bytes counters kinds lengths arena counts : List ℕ} {code : ℕ}
-      → record { answer = r; kinds = kinds; lengths = lengths; arena = arena } ≡ batchOf base pgns rows p k (before .kinds) (before .lengths) (before .arena)
+      → Batches pgns (rows .times) (rows .pgns) (rows .sources) (rows .bytes) p k (before .kinds) (before .lengths) (before .arena) r kinds lengths arena
       → PoolAfter r (before .heads) code heads bytes counters counts
       → FramesLeft size pgns rows before code (record { heads = heads; bytes = bytes; counters = counters; kinds = kinds; lengths = lengths; arena = arena; counts = counts })
   batch-left {heads = heads} {bytes} {counters} {kinds} {lengths} {arena} {counts} {code} g h =
       subst
       (λ (l : BatchLeft).
       BatchMemoryLeft l before code (record { heads = heads; bytes = bytes; counters = counters; kinds = kinds; lengths = lengths; arena = arena; counts = counts }))
-      (g ∙ batch-same)
+      (batched-by g ∙ batch-same)
       (record {
         told = h .told;
         kept = h .kept;

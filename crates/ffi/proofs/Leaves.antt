@@ -12,7 +12,7 @@ use Rattle.base.specs.Answer.{gives}
 use Rattle.base.specs.Pick.{pick}
 use Rattle.base.proofs.Cases.{when-eq, when-ne, pick-all, same?}
 use Rattle.session.specs.Kinds.{kindNumber}
-use Rattle.session.specs.Rules.{base, poolLimit}
+use Rattle.session.specs.Rules.{Rules, poolLimit}
 use Rattle.session.specs.Heads.{freshHead}
 use Rattle.session.specs.declared.Head.{Head}
 use Rattle.session.specs.declared.Heard.{Heard}
@@ -23,16 +23,18 @@ use Rattle.assembler.specs.Making.{poolBytes, newPool}
 use Rattle.assembler.specs.Slots.{within}
 use Rattle.assembler.specs.Step.{Said, ignored, consumed, complete, saidOf, eventOf, step, stepIf, outcome}
 use Rattle.assembler.specs.View.{slotsOf, poolOf, zeros, replyKind, replyPayload, replyLength, shown, receiveOf}
-use Rattle.assembler.specs.Forms.{receiveWithLengthOf, filledFrame}
 use Rattle.assembler.specs.declared.Pool.{Pool}
-use Rattle.assembler.specs.declared.HeardWithLength.{HeardWithLength}
+use Rattle.assembler.specs.declared.Arrival.{Arrival}
+use Rattle.assembler.specs.declared.ArrivalWithLength.{ArrivalWithLength}
+use Rattle.assembler.specs.Arrivals.{heardOf, heardWithLength}
+use Rattle.assembler.specs.Promises.{rulesOf}
 use Rattle.assembler.specs.declared.Received.{Received}
 use Rattle.assembler.proofs.Views.{view-back}
 use Rattle.batch.specs.Rows.{Rows, Run, batchOf, leaves, refusedBy, BatchLeft}
 use Rattle.numbers.specs.Numbers.{isSet, laidOn}
 use Rattle.numbers.specs.Pool.{headAt, headOver, headsTo, headsFrom, laidTo, laidOver, poolFrom, countersFrom, counterNumbers, CallMemory, CallLeft, PoolMemory}
 use Rattle.numbers.proofs.Sets.{sets-same}
-use Rattle.ffi.specs.Calls.{NewPoolLeft, receivedIn, receivedWithLengthIn, FrameLeft, FrameWithLengthLeft}
+use Rattle.ffi.specs.Calls.{NewPoolLeft, poolIn, receivedIn, receivedWithLengthIn, FrameLeft, FrameWithLengthLeft}
 use Rattle.ffi.specs.Batches.{BatchMemory, BatchMemoryLeft, batchIn, FramesLeft}
 
 -- ---- what was read from a number leaves it
@@ -112,10 +114,10 @@ given ignored h = omega arith
 given consumed h = omega arith
 given (complete bytes n) h = omega arith
 
-refused-if : (b : Bool) (p : Pool) (k : Counters) (c : Call) → kindNumber (shown (stepIf b base (slotsOf p) k c) .kind) < 100 → shown (stepIf b base (slotsOf p) k c) ≡ refusal (poolOf (slotsOf p)) k
+refused-if : (R : Rules) (b : Bool) (p : Pool) (k : Counters) (c : Call) → kindNumber (shown (stepIf b R (slotsOf p) k c) .kind) < 100 → shown (stepIf b R (slotsOf p) k c) ≡ refusal (poolOf (slotsOf p)) k
 unfolding shown stepIf outcome refusal replyKind replyPayload replyLength
-refused-if true p k c h = refl
-refused-if false p k c h = absurd (given (saidOf (c .heard) (within (slotsOf p)) (eventOf base (within (slotsOf p)) c)) h)
+refused-if R true p k c h = refl
+refused-if R false p k c h = absurd (given (saidOf (c .heard) (within (slotsOf p)) (eventOf R (within (slotsOf p)) c)) h)
 
 -- what a refused call leaves: every number and byte that was lent, but for the length of no message
 pub record Untouched (before after : CallMemory) : Type 0 where
@@ -147,24 +149,24 @@ module _ (size : ℕ) (pgns : List ℕ) (before : CallMemory) (long : length (be
         no-message = l .measured;
       }
 
-  by-call : (heard : Heard) {code : ℕ} {after : CallMemory} → CallLeft (receiveOf base pgns heard pool counts) before code after → code < 100 → Untouched before after
+  by-call : (heard : Heard) {code : ℕ} {after : CallMemory} → CallLeft (receiveOf (rulesOf pool) pgns heard pool counts) before code after → code < 100 → Untouched before after
   unfolding receiveOf step
   by-call heard {code} {after} l below =
       untouched
       (subst (λ (r : Received). CallLeft r before code after)
-      (refused-if _ pool counts (record { pgns = pgns; heard = heard }) (subst (λ (n : ℕ). n < 100) (l .told) below)
+      (refused-if (rulesOf pool) _ pool counts (record { pgns = pgns; heard = heard }) (subst (λ (n : ℕ). n < 100) (l .told) below)
       ∙ ap (λ (p : Pool). refusal p counts) (pool-back size (before .heads) (before .bytes) long))
       l)
 
   -- `hf_process_frame` and `hf_receive`
-  pub refused-leaves : (heard : Heard) {code : ℕ} {after : CallMemory} → FrameLeft size pgns heard before code after → code < 100 → Untouched before after
-  unfolding receivedIn
-  refused-leaves heard = by-call heard
+  pub refused-leaves : (a : Arrival) {code : ℕ} {after : CallMemory} → FrameLeft size pgns a before code after → code < 100 → Untouched before after
+  unfolding receivedIn poolIn
+  refused-leaves a = by-call (heardOf a)
 
   -- `hf_process_frame_with_length`
-  pub refused-with-length-leaves : (heard : HeardWithLength) {code : ℕ} {after : CallMemory} → FrameWithLengthLeft size pgns heard before code after → code < 100 → Untouched before after
-  unfolding receivedWithLengthIn receiveWithLengthOf
-  refused-with-length-leaves heard = by-call (filledFrame heard)
+  pub refused-with-length-leaves : (x : ArrivalWithLength) {code : ℕ} {after : CallMemory} → FrameWithLengthLeft size pgns x before code after → code < 100 → Untouched before after
+  unfolding receivedWithLengthIn poolIn
+  refused-with-length-leaves x = by-call (heardWithLength x)
 
 -- ---- the batch: 0 is no refusal
 
