@@ -11,3 +11,4 @@ pub mod EveryFate
 pub mod Trials
 pub mod Parts
 pub mod Wrong
+pub mod TooLittle

@@ -18,9 +18,9 @@ use Rattle.session.specs.Heads.{openedHead}
 use Rattle.session.specs.Counting.{freshCounters}
 use Rattle.assembler.specs.declared.Pool.{Pool}
 use Rattle.assembler.specs.declared.Received.{Received}
-use Rattle.assembler.specs.Slots.{Slot, openedSlot, resetSlot}
+use Rattle.assembler.specs.Slots.{Slot, openedSlot, resetSlot, copiedSlot}
 use Rattle.assembler.specs.View.{zeros, receiveOf}
-use Rattle.ledger.specs.Ledger.{sayingDue, ledgerOf, tally, held, one, Reclaimed, BadSize}
+use Rattle.ledger.specs.Ledger.{sayingDue, ledgerOf, tally, held, one, Broken, Reclaimed}
 use Rattle.ledger.specs.Demand3.{Demand3, inProgress}
 use Rattle.ledger.specs.Runs.{Receive, received}
 use Rattle.ledger.proofs.EveryFate.{ran, told, frame, announces, goes-on}
@@ -81,23 +81,24 @@ rejects-lazy d =
 unfoldable pub madeUp : Receive
 madeUp pgns f p k = let a = receiveOf base pgns f p k in record { kind = a .kind; payload = a .payload; length = a .length; pool = a .pool; counters = freshCounters }
 
-madeUp-counts : received madeUp 4 (firsts 224) .counters .«rejected_frames» ≡ 0
-unfolding ran firsts announces frame madeUp
+-- a continuation out of turn
+madeUp-counts : received madeUp 4 (pair 2 1) .counters .«lost_fragments» ≡ 0
+unfolding ran pair announces goes-on frame madeUp
 madeUp-counts = refl
 
-bad-counts : tally BadSize one (ledgerOf base 4 (firsts 224)) ≡ 1
-unfolding told firsts announces frame
-bad-counts = refl
+one-broken : tally Broken one (ledgerOf base 4 (pair 2 1)) ≡ 1
+unfolding told pair announces goes-on frame
+one-broken = refl
 
 pub rejects-made-up : Demand3 base 4 (received madeUp 4) → ⊥
 unfolding Demand3
 rejects-made-up d =
-    omega (arith, d (firsts 224) (firsts-ok 224) (unfold firsts in lit≤ tt) .0 .rejected, madeUp-counts, bad-counts)
+    omega (arith, d (pair 2 1) (pair-ok 2 1 (lit< tt)) (unfold pair in lit≤ tt) .0 .lost, madeUp-counts, one-broken)
 
 -- ---- a message with two fates: delivered, and its slot still in progress
 
 unfoldable pub twoFates : Parts
-twoFates = record { opening = openedSlot; atOnce = untouched; breaking = resetSlot; ending = λ (s : Slot). s; straying = Lost; delivering = wholeOf }
+twoFates = record { opening = openedSlot; copying = copiedSlot; atOnce = untouched; breaking = resetSlot; ending = λ (s : Slot). s; straying = Lost; delivering = wholeOf }
 
 twoFates-holds : inProgress (received (by twoFates) 1 (pair 1 1) .heads) ≡ 1
 unfolding ran pair announces goes-on frame by stepBy outcomeBy slotsBy markBy saidBy wholeOf twoFates
@@ -114,7 +115,7 @@ rejects-two-fates d = omega (arith, d (pair 1 1) (pair-ok 1 1 (lit< tt)) (unfold
 -- ---- a message with none: a short first frame with its key closes its session, and nothing says so
 
 unfoldable pub noFate : Parts
-noFate = record { opening = openedSlot; atOnce = map resetSlot; breaking = resetSlot; ending = resetSlot; straying = Lost; delivering = wholeOf }
+noFate = record { opening = openedSlot; copying = copiedSlot; atOnce = map resetSlot; breaking = resetSlot; ending = resetSlot; straying = Lost; delivering = wholeOf }
 
 noFate-holds : inProgress (received (by noFate) 1 (firsts 6) .heads) ≡ 0
 unfolding ran firsts announces frame by stepBy outcomeBy slotsBy markBy saidBy wholeOf noFate
@@ -131,7 +132,7 @@ rejects-no-fate d = omega (arith, d (firsts 6) (firsts-ok 6) (unfold firsts in l
 -- ---- a late continuation counted as expired
 
 unfoldable pub countsLate : Parts
-countsLate = record { opening = openedSlot; atOnce = untouched; breaking = resetSlot; ending = resetSlot; straying = Expired; delivering = wholeOf }
+countsLate = record { opening = openedSlot; copying = copiedSlot; atOnce = untouched; breaking = resetSlot; ending = resetSlot; straying = Expired; delivering = wholeOf }
 
 countsLate-counts : received (by countsLate) 1 (pair 1 501) .counters .«expired_sessions» ≡ 1
 unfolding ran pair announces goes-on frame by stepBy outcomeBy slotsBy markBy saidBy wholeOf untouched countsLate
@@ -148,7 +149,7 @@ rejects-counts-late d = omega (arith, d (pair 1 501) (pair-ok 1 501 (lit< tt)) (
 -- ---- a broken session left open
 
 unfoldable pub leavesOpen : Parts
-leavesOpen = record { opening = openedSlot; atOnce = untouched; breaking = λ (s : Slot). s; ending = resetSlot; straying = Lost; delivering = wholeOf }
+leavesOpen = record { opening = openedSlot; copying = copiedSlot; atOnce = untouched; breaking = λ (s : Slot). s; ending = resetSlot; straying = Lost; delivering = wholeOf }
 
 leavesOpen-holds : inProgress (received (by leavesOpen) 1 (pair 2 1) .heads) ≡ 1
 unfolding ran pair announces goes-on frame by stepBy outcomeBy slotsBy markBy saidBy wholeOf untouched leavesOpen
@@ -169,7 +170,7 @@ unfolding told pair announces goes-on frame lastByte
 pair-says = refl
 
 unfoldable pub backwards : Parts
-backwards = record { opening = openedSlot; atOnce = untouched; breaking = resetSlot; ending = resetSlot; straying = Lost; delivering = λ (f : Heard) (s : Slot). reverse (wholeOf f s) }
+backwards = record { opening = openedSlot; copying = copiedSlot; atOnce = untouched; breaking = resetSlot; ending = resetSlot; straying = Lost; delivering = λ (f : Heard) (s : Slot). reverse (wholeOf f s) }
 
 backwards-says : lastByte 0 (received (by backwards) 1 (pair 1 1) .said) ≡ 7
 unfolding ran pair announces goes-on frame by stepBy outcomeBy slotsBy markBy saidBy wholeOf untouched backwards lastByte
@@ -185,6 +186,7 @@ unfoldable pub notCut : Parts
 notCut =
     record {
       opening = openedSlot;
+      copying = copiedSlot;
       atOnce = untouched;
       breaking = resetSlot;
       ending = resetSlot;
@@ -210,6 +212,7 @@ unfoldable pub losesByte : Parts
 losesByte =
     record {
       opening = λ (f : Heard) (s : Slot). record { head = openedHead f; buffer = paste (s .buffer) 0 (firstBytes f) 5 };
+      copying = copiedSlot;
       atOnce = untouched;
       breaking = resetSlot;
       ending = resetSlot;

@@ -37,5 +37,7 @@ values =
       p11-stray = refl;
       p11-held = refl;
       p12-taken = refl;
+      p12-held = refl;
       p12-time = refl;
+      p12-counted = refl;
     }
