@@ -1,6 +1,6 @@
 -- The pools that the calls make are possible, so refusal 1 never comes from one of them. Assumes nothing.
 use Prim.Native.Nat.{ℕ, zero, suc, _≤_, _<_, min}
-use mathlib.Core.Path.{_≡_, refl, _∙_}
+use mathlib.Core.Path.{_≡_, refl, sym, ap, subst, _∙_}
 use mathlib.Core.Bool.{Bool, true, false}
 use mathlib.Core.Option.{none}
 use mathlib.Core.List.{List, [], _∷_}
@@ -18,15 +18,19 @@ use Rattle.session.specs.declared.Head.{Head}
 use Rattle.session.specs.Rules.{base, poolLimit}
 use Rattle.session.specs.Heads.{freshHead, impossibleHead}
 use Rattle.assembler.specs.declared.Pool.{Pool}
-use Rattle.assembler.specs.declared.HeardWithLength.{HeardWithLength}
+use Rattle.assembler.specs.declared.Processed.{Processed}
+use Rattle.assembler.specs.declared.Received.{Received}
+use Rattle.assembler.specs.declared.ArrivalWithLength.{ArrivalWithLength}
 use Rattle.assembler.specs.Call.{CallOk}
 use Rattle.assembler.specs.Slots.{within, onHead, impossible}
 use Rattle.assembler.specs.Step.{eventOf, saidOf, outcome, stepIf, step}
 use Rattle.assembler.specs.Making.{freshPool, madeIf, newPool}
 use Rattle.assembler.specs.View.{slotsFrom, slotsOf, shown, replyOf, receiveOf}
-use Rattle.assembler.specs.Forms.{filledFrame, receiveWithLengthOf}
-use Rattle.assembler.specs.Possible.{ByCalls, made, byDefault, left, leftWithLength}
-use Rattle.assembler.proofs.Unique.{replied}
+use Rattle.assembler.specs.Arrivals.{heardOf, heardWithLength}
+use Rattle.assembler.specs.Promises.{rulesOf}
+use Rattle.assembler.specs.Possible.{ByCalls, made, byDefault, received, processed}
+use Rattle.assembler.proofs.Replies.{replied}
+use Rattle.assembler.proofs.Promised.{received-by, processed-by}
 use Rattle.assembler.proofs.Views.{Sized, sized-view, view-forth}
 use Rattle.assembler.proofs.Keeps.{keeps}
 
@@ -35,7 +39,7 @@ record Good (p : Pool) : Type 0 where
   possible : impossible base (slotsOf p) ≡ false
   sized : Sized (slotsOf p .slots)
 
-idle-fine : (n m : ℕ) (bs : List ℕ) → any (onHead (impossibleHead base)) (take n (slotsFrom (replicate m freshHead) bs)) ≡ false
+idle-fine : (n m : ℕ) (bs : List ℕ) → any (onHead impossibleHead) (take n (slotsFrom (replicate m freshHead) bs)) ≡ false
 unfolding any slotsFrom impossibleHead freshHead
 idle-fine zero m bs = refl
 idle-fine (suc n) zero bs = refl
@@ -54,7 +58,7 @@ unfolding madeIf
 made-good true n e = fresh-good 0 (omega arith)
 made-good false n e = fresh-good n (ltb-false poolLimit n e)
 
-left-good : (pgns : List ℕ) (f : Heard) (p : Pool) (k : Counters) → CallOk base (record { pgns = pgns; heard = f }) → Good p → Good (receiveOf base pgns f p k .pool)
+left-good : (pgns : List ℕ) (f : Heard) (p : Pool) (k : Counters) → CallOk (record { pgns = pgns; heard = f }) → Good p → Good (receiveOf base pgns f p k .pool)
 unfolding receiveOf shown
 left-good pgns f p k ok good =
     let kept = keeps base (slotsOf p) k (record { pgns = pgns; heard = f }) ok (good .possible) in
@@ -68,20 +72,20 @@ filled-byte len [] e h = absurd (omega arith)
 filled-byte zero (b ∷ bytes) e h = omega arith
 filled-byte (suc len) (b ∷ bytes) e h = let s : min (suc len) 8 ≡ suc (min len 7) = omega arith in rw s h
 
-filled-ok : (pgns : List ℕ) (x : HeardWithLength) → CallOk base (record { pgns = pgns; heard = x .heard }) → CallOk base (record { pgns = pgns; heard = filledFrame x })
-unfolding filledFrame
+pub filled-ok : (pgns : List ℕ) (x : ArrivalWithLength) → CallOk (record { pgns = pgns; heard = heardOf (x .arrival) }) → CallOk (record { pgns = pgns; heard = heardWithLength x })
+unfolding heardOf heardWithLength
 filled-ok pgns x ok =
     record {
-      eight = unfold filledFrom in length-fill 8 (take (min (x .length) 8) (x .heard .«data»));
-      byte = filled-byte (x .length) (x .heard .«data») (ok .eight) (ok .byte);
+      eight = unfold filledFrom in length-fill 8 (take (min (x .length) 8) (x .arrival .«data»));
+      byte = filled-byte (x .length) (x .arrival .«data») (ok .eight) (ok .byte);
     }
 
 by-calls-good : {p : Pool} → ByCalls p → Good p
-unfolding newPool receiveWithLengthOf
+unfolding newPool rulesOf
 by-calls-good (made size) = made-good (ltb poolLimit size) size refl
 by-calls-good byDefault = fresh-good 4 (omega arith)
-by-calls-good (left {p} pgns f k ok h) = left-good pgns f p k ok (by-calls-good h)
-by-calls-good (leftWithLength {p} pgns x k ok h) = left-good pgns (filledFrame x) p k (filled-ok pgns x ok) (by-calls-good h)
+by-calls-good (received {p} {pgns} {f} {k} ok h g) = subst Good (ap (λ (r : Received). r .pool) (sym (received-by pgns f p k h))) (left-good pgns f p k ok (by-calls-good g))
+by-calls-good (processed {p} {pgns} {f} {before = k} ok h g) = subst Good (ap (λ (r : Processed). r .pool) (sym (processed-by pgns f p k h .0))) (left-good pgns f p k ok (by-calls-good g))
 
 pub never-impossible : {p : Pool} → ByCalls p → impossible base (slotsOf p) ≡ false
 never-impossible h = by-calls-good h .possible

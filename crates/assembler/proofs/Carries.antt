@@ -35,7 +35,8 @@ use Rattle.assembler.specs.declared.Pool.{Pool}
 use Rattle.assembler.specs.declared.Received.{Received}
 use Rattle.assembler.specs.Call.{Call}
 use Rattle.assembler.specs.Slots.{Slot, Slots, freshSlot, onHead, impossible, chosen, live, openedSlot, resetSlot, copiedSlot}
-use Rattle.assembler.specs.Step.{Event, notListed, rejected, shortMessage, poolFull, opened, stray, outOfTurn, copied, completed, opensAt, firstShort, firstSized, copyAt, turnAt, continuesAt, byIndex, byList, eventOf, slotsAfter, markOf, ignored, padded, message, saidOf, outcome, stepIf, step}
+use Rattle.assembler.specs.Step.{Event, notListed, rejected, shortMessage, poolFull, opened, stray, outOfTurn, copied, completed, opensAt, continuesAt, eventOf, slotsAfter, markOf, ignored, padded, message, saidOf, outcome, stepIf, step}
+use Rattle.assembler.proofs.Events.{firstShort, firstSized, copyAt, turnAt, byIndex, byList}
 use Rattle.assembler.specs.View.{slotsFrom, slotsOf, poolOf, zeros, replyKind, replyPayload, replyLength, shown, receiveOf}
 use Rattle.assembler.proofs.Copies.{copy-none, paste-over}
 use Rattle.assembler.proofs.Views.{Whole, slots-long, slot-at, view-back, view-same, view-set, read-back, first-view, any-view}
@@ -151,7 +152,7 @@ module _ (R : Rules) (f : Heard) (p : Pool) (k : Counters) (w : Whole p) (eight 
       enough = omega (arith, next-seven)
 
       does-copy : Sound head → (b : Bool) → Does f p k (planCopy b f head) i (after (copyAt b i))
-      unfolding planCopy copyAt copiedSlot carried shown outcome saidOf slotsAfter markOf slotsOf resetSlot copiedHead nextBytes message replyKind replyPayload replyLength zeros
+      unfolding planCopy pick copiedSlot carried shown outcome saidOf slotsAfter markOf slotsOf resetSlot copiedHead nextBytes message replyKind replyPayload replyLength zeros
       does-copy s false =
           record {
             fits = record { room = fit s; there = few; whole = omega arith; short = omega arith; total = omega arith };
@@ -178,7 +179,7 @@ module _ (R : Rules) (f : Heard) (p : Pool) (k : Counters) (w : Whole p) (eight 
           }
 
       does-turn : Sound head → (b : Bool) → Does f p k (planTurn b f head) i (after (turnAt b f i head))
-      unfolding planTurn turnAt
+      unfolding planTurn pick
       does-turn s true = does-copy s (allThere (copiedHead f head))
       does-turn s false =
           record {
@@ -208,36 +209,36 @@ module _ (R : Rules) (f : Heard) (p : Pool) (k : Counters) (w : Whole p) (eight 
     inside-choice true = inside-or (p .size) _ _ (inside-slots (hasKey R f)) (inside-or (p .size) _ _ (inside-slots (isFreeOfSource R f)) (inside-slots (isFree R f)))
     inside-choice false = inside-slots (hasLiveKey R f)
 
-    live-sound : any (onHead (impossibleHead R)) slots ≡ false → (i : ℕ) → live R f slots ≡ some i → Sound (getD (p .heads) i d)
+    live-sound : any (onHead impossibleHead) slots ≡ false → (i : ℕ) → live R f slots ≡ some i → Sound (getD (p .heads) i d)
     unfolding live
     live-sound fine i e =
         let hit = first-passes (onHead (hasLiveKey R f)) slots freshSlot i e in
         let u : i < p .size = subst (Inside (p .size)) e (inside-slots (hasLiveKey R f)) in
         let keyed : hasLiveKey R f (getD (p .heads) i d) ≡ true = rw (slot-here i u) at (hit .passed) in
-        let good : impossibleHead R (getD (p .heads) i d) ≡ false = rw (slot-here i u) at (none-at (onHead (impossibleHead R)) slots i freshSlot fine (hit .inside)) in
+        let good : impossibleHead (getD (p .heads) i d) ≡ false = rw (slot-here i u) at (none-at (onHead impossibleHead) slots i freshSlot fine (hit .inside)) in
         sound R (getD (p .heads) i d) (busy-live R f (getD (p .heads) i d) keyed) good
 
     does-first : (b : Bool) → leb (sizeOf f) 6 ≡ b → Does f p k (planShort b (found (choice true)) R f (getD (p .heads) (spot (choice true)) d)) (spot (choice true)) (after (firstShort b R f slots))
-    does-first true e = unfold firstShort in does-short (found (choice true)) (spot (choice true)) (leb-true (sizeOf f) 6 e)
-    does-first false e = unfold planShort firstShort choice in does-open (chosen R f slots) (inside-choice true)
+    does-first true e = unfold pick in does-short (found (choice true)) (spot (choice true)) (leb-true (sizeOf f) 6 e)
+    does-first false e = unfold planShort pick choice in does-open (chosen R f slots) (inside-choice true)
 
     does-sized : (b : Bool) → Does f p k (planSized b (found (choice true)) R f (getD (p .heads) (spot (choice true)) d)) (spot (choice true)) (after (firstSized b R f slots))
-    unfolding planSized firstSized
+    unfolding planSized pick
     does-sized true = unfold markOf saidOf slotsAfter in does-ignored rejected (spot (choice true)) refl refl
     does-sized false = does-first (leb (sizeOf f) 6) refl
 
-    module _ (fine : any (onHead (impossibleHead R)) slots ≡ false) where
+    module _ (fine : any (onHead impossibleHead) slots ≡ false) where
       does-index : (b : Bool) → Does f p k (planIndex b (found (choice b)) R f (getD (p .heads) (spot (choice b)) d)) (spot (choice b)) (after (byIndex b R f slots))
-      unfolding planIndex byIndex planFirst
+      unfolding planIndex pick planFirst
       does-index true = does-sized (badSize f)
       does-index false = unfold choice in does-next (live R f slots) (inside-choice false) (live-sound fine)
 
       does-listed : (b : Bool) → Does f p k (planListed b (found (choice (eqb (indexOf f) 0))) R f (getD (p .heads) (spot (choice (eqb (indexOf f) 0))) d)) (spot (choice (eqb (indexOf f) 0))) (after (byList b R f slots))
-      unfolding planListed byList
+      unfolding planListed pick
       does-listed false = unfold markOf saidOf slotsAfter in does-ignored notListed (spot (choice (eqb (indexOf f) 0))) refl refl
       does-listed true = does-index (eqb (indexOf f) 0)
 
-    does-checked : (l : List ℕ) (b : Bool) → any (onHead (impossibleHead R)) slots ≡ b
+    does-checked : (l : List ℕ) (b : Bool) → any (onHead impossibleHead) slots ≡ b
         → Does f p k (planOf b (listedIn (f .pgn) l) (found (choice (eqb (indexOf f) 0))) R f (getD (p .heads) (spot (choice (eqb (indexOf f) 0))) d)) (spot (choice (eqb (indexOf f) 0)))
         (shown (stepIf b R (slotsOf p) k (record { pgns = l; heard = f })))
     unfolding planOf stepIf
@@ -268,7 +269,7 @@ module _ (R : Rules) (f : Heard) (p : Pool) (k : Counters) (w : Whole p) (eight 
     where
       go : (b : Bool) → ltb poolLimit (p .size) ≡ b → (n : ℕ) → n ≡ poolLimit
           → Does f p k (planOf (seenIf b R f (p .size) (p .heads) .bad) (listedIn (f .pgn) l) (ltb (placeOf f (seenIf b R f (p .size) (p .heads))) poolLimit) R f (getD (p .heads) (withinLimit (placeOf f (seenIf b R f (p .size) (p .heads)))) d))
-          (withinLimit (placeOf f (seenIf b R f (p .size) (p .heads)))) (shown (stepIf (ltb n (p .size) || any (onHead (impossibleHead R)) slots) R (slotsOf p) k (record { pgns = l; heard = f })))
+          (withinLimit (placeOf f (seenIf b R f (p .size) (p .heads)))) (shown (stepIf (ltb n (p .size) || any (onHead impossibleHead) slots) R (slotsOf p) k (record { pgns = l; heard = f })))
       go true e n en = unfold nothingFound planOf stepIf in rw (en, e) (does-refused _)
       go false e n en =
           let small : p .size ≤ poolLimit = ltb-false poolLimit (p .size) e in
@@ -280,8 +281,8 @@ module _ (R : Rules) (f : Heard) (p : Pool) (k : Counters) (w : Whole p) (eight 
             placed-found o (p .size) small (inside-choice small (eqb (indexOf f) 0)),
             placed-spot o (p .size) small (inside-choice small (eqb (indexOf f) 0)),
             seen-bad R f (take (p .size) (p .heads)) 0,
-            ← any-view (impossibleHead R) (p .size) (p .heads) (p .bytes),
-          ) (does-checked small l (any (onHead (impossibleHead R)) slots) refl)
+            ← any-view impossibleHead (p .size) (p .heads) (p .bytes),
+          ) (does-checked small l (any (onHead impossibleHead) slots) refl)
 
 -- as the code comes by it: each thing that it computes is a variable with what is known of it
 module _ (R : Rules) (limit : R .limit ≡ poolLimit) (l : List ℕ) (f : Heard) (p : Pool) (k : Counters) (w : Whole p) (eight : length (f .«data») ≡ 8) (e : Head) (s : Found) (t : Bool) (i g : ℕ) (d : Plan)

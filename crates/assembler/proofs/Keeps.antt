@@ -9,6 +9,7 @@ use lib.Seq.{length-paste, length-take-le, take-at, take-all}
 use lib.Dec.{eqb, ltb, leb}
 use native.Mathlib.Omega.{arith}
 use borrow.Author.Tests.{ltb-false, leb-false, eqb-true, lt-ltb, le-ltb, eq-eqb}
+use Rattle.base.specs.Pick.{pick}
 use Rattle.base.specs.Lists.{any}
 use Rattle.base.proofs.Cases.{less?}
 use Rattle.base.proofs.First.{first-passes}
@@ -21,7 +22,8 @@ use Rattle.session.specs.Heads.{impossibleHead, hasLiveKey, inTurn, openedHead,
 use Rattle.session.proofs.Sound.{Sound, sound, none-at, busy-live, or-left, or-right}
 use Rattle.assembler.specs.Call.{Call, CallOk, listed}
 use Rattle.assembler.specs.Slots.{Slot, Slots, freshSlot, slotAt, within, onHead, impossible, chosen, live, openedSlot, resetSlot, copiedSlot}
-use Rattle.assembler.specs.Step.{Event, notListed, rejected, shortMessage, poolFull, opened, stray, outOfTurn, copied, completed, opensAt, firstShort, firstSized, copyAt, turnAt, continuesAt, byIndex, byList, eventOf, slotsAfter, outcome, stepIf, step}
+use Rattle.assembler.specs.Step.{Event, notListed, rejected, shortMessage, poolFull, opened, stray, outOfTurn, copied, completed, opensAt, continuesAt, eventOf, slotsAfter, outcome, stepIf, step}
+use Rattle.assembler.proofs.Events.{firstShort, firstSized, copyAt, turnAt, byIndex, byList}
 use Rattle.assembler.proofs.Views.{Sized, none, more, sized-append}
 
 -- ---- lists
@@ -61,11 +63,11 @@ sized-drop (more d h) (suc n) = sized-drop h n
 
 -- ---- heads that a call leaves
 
-opened-fine : (R : Rules) (f : Heard) → sequenceOf f ≤ 7 → 7 ≤ sizeOf f → sizeOf f ≤ 223 → impossibleHead R (openedHead f) ≡ false
+opened-fine : (R : Rules) (f : Heard) → sequenceOf f ≤ 7 → 7 ≤ sizeOf f → sizeOf f ≤ 223 → impossibleHead (openedHead f) ≡ false
 unfolding impossibleHead openedHead
 opened-fine R f a b d = rw (le-ltb 7 (sequenceOf f) a, le-ltb (sizeOf f) 7 b, le-ltb 223 (sizeOf f) d, lt-ltb 6 (sizeOf f) b)
 
-reset-fine : (R : Rules) (h : Head) → impossibleHead R (resetHead h) ≡ false
+reset-fine : (R : Rules) (h : Head) → impossibleHead (resetHead h) ≡ false
 unfolding impossibleHead resetHead
 reset-fine R h = refl
 
@@ -73,7 +75,7 @@ and-false : (a : Bool) → (a && false) ≡ false
 and-false true = refl
 and-false false = refl
 
-copied-fine : (R : Rules) (f : Heard) (h : Head) → Sound h → inTurn f h ≡ true → allThere (copiedHead f h) ≡ false → impossibleHead R (copiedHead f h) ≡ false
+copied-fine : (R : Rules) (f : Heard) (h : Head) → Sound h → inTurn f h ≡ true → allThere (copiedHead f h) ≡ false → impossibleHead (copiedHead f h) ≡ false
 unfolding impossibleHead copiedHead allThere inTurn wanted
 copied-fine R f h s turn short =
     let next : indexOf f ≡ h .«last_frame_index» + 1 = eqb-true (indexOf f) (h .«last_frame_index» + 1) turn in
@@ -101,17 +103,17 @@ after-length f ss (outOfTurn i) = simp length-set
 after-length f ss (copied i) = simp length-set
 after-length f ss (completed i) = simp length-set
 
-module _ (R : Rules) (c : Call) (ok : CallOk R c) (ss : List Slot) (fine : any (onHead (impossibleHead R)) ss ≡ false) where
+module _ (R : Rules) (c : Call) (ok : CallOk c) (ss : List Slot) (fine : any (onHead impossibleHead) ss ≡ false) where
   -- a record, so that antt reads the slots off the goal
   record Fine (ts : List Slot) : Type 0 where
-    possible : any (onHead (impossibleHead R)) ts ≡ false
+    possible : any (onHead impossibleHead) ts ≡ false
     sized : Sized ss → Sized ts
 
   same : Fine ss
   same = record { possible = fine; sized = λ h. h }
 
-  put : (i : ℕ) (s : Slot) → impossibleHead R (s .head) ≡ false → (Sized ss → length (s .buffer) ≡ 223) → Fine (set ss i s)
-  put i s good long = record { possible = any-set (onHead (impossibleHead R)) ss i s fine good; sized = λ h. sized-set h i s (long h) }
+  put : (i : ℕ) (s : Slot) → impossibleHead (s .head) ≡ false → (Sized ss → length (s .buffer) ≡ 223) → Fine (set ss i s)
+  put i s good long = record { possible = any-set (onHead impossibleHead) ss i s fine good; sized = λ h. sized-set h i s (long h) }
 
   few : sequenceOf (c .heard) ≤ 7
   unfolding sequenceOf
@@ -133,12 +135,12 @@ module _ (R : Rules) (c : Call) (ok : CallOk R c) (ss : List Slot) (fine : any (
       (λ h. length-paste (slotAt ss i .buffer) 0 (firstBytes (c .heard)) 6 (omega (arith, sized-at h i)) (omega (arith, six)) ∙ sized-at h i)
 
   short : (b : Bool) → leb (sizeOf (c .heard)) 6 ≡ b → sizeOf (c .heard) ≤ 223 → Fine (slotsAfter (c .heard) ss (firstShort b R (c .heard) ss))
-  unfolding firstShort
+  unfolding pick
   short true e high = unfold slotsAfter in same
   short false e high = opens (leb-false (sizeOf (c .heard)) 6 e) high (chosen R (c .heard) ss)
 
   first : (b : Bool) → badSize (c .heard) ≡ b → Fine (slotsAfter (c .heard) ss (firstSized b R (c .heard) ss))
-  unfolding firstSized
+  unfolding pick
   first true e = unfold slotsAfter in same
   first false e = short (leb (sizeOf (c .heard)) 6) refl (unfold badSize in ltb-false 223 (sizeOf (c .heard)) (or-right (eqb (sizeOf (c .heard)) 0) (ltb 223 (sizeOf (c .heard))) e))
 
@@ -150,12 +152,12 @@ module _ (R : Rules) (c : Call) (ok : CallOk R c) (ss : List Slot) (fine : any (
         (omega (arith, sized-at h i, s .most, s .below)) (omega (arith, seven)) ∙ sized-at h i
 
     copies : (b : Bool) → inTurn (c .heard) (slotAt ss i .head) ≡ true → allThere (copiedHead (c .heard) (slotAt ss i .head)) ≡ b → Fine (slotsAfter (c .heard) ss (copyAt b i))
-    unfolding copyAt slotsAfter
+    unfolding pick slotsAfter
     copies true turn e = put i (resetSlot (copiedSlot (c .heard) (slotAt ss i))) (unfold resetSlot in reset-fine R _) (λ h. unfold resetSlot in copied-long h)
     copies false turn e = put i (copiedSlot (c .heard) (slotAt ss i)) (unfold copiedSlot in copied-fine R (c .heard) (slotAt ss i .head) s turn e) copied-long
 
     turns : (b : Bool) → inTurn (c .heard) (slotAt ss i .head) ≡ b → Fine (slotsAfter (c .heard) ss (turnAt b (c .heard) i (slotAt ss i .head)))
-    unfolding turnAt
+    unfolding pick
     turns true e = copies (allThere (copiedHead (c .heard) (slotAt ss i .head))) e refl
     turns false e = unfold slotsAfter in put i (resetSlot (slotAt ss i)) (unfold resetSlot in reset-fine R _) (λ h. unfold resetSlot in sized-at h i)
 
@@ -164,16 +166,16 @@ module _ (R : Rules) (c : Call) (ok : CallOk R c) (ss : List Slot) (fine : any (
   continues none e = unfold slotsAfter in same
   continues (some i) e =
       let hit = first-passes (onHead (hasLiveKey R (c .heard))) ss freshSlot i e in
-      turns i (sound R (slotAt ss i .head) (busy-live R (c .heard) (slotAt ss i .head) (hit .passed)) (none-at (onHead (impossibleHead R)) ss i freshSlot fine (hit .inside)))
+      turns i (sound R (slotAt ss i .head) (busy-live R (c .heard) (slotAt ss i .head) (hit .passed)) (none-at (onHead impossibleHead) ss i freshSlot fine (hit .inside)))
       (inTurn (c .heard) (slotAt ss i .head)) refl
 
   index : (b : Bool) → Fine (slotsAfter (c .heard) ss (byIndex b R (c .heard) ss))
-  unfolding byIndex
+  unfolding pick
   index true = first (badSize (c .heard)) refl
   index false = continues (live R (c .heard) ss) refl
 
   list : (b : Bool) → Fine (slotsAfter (c .heard) ss (byList b R (c .heard) ss))
-  unfolding byList
+  unfolding pick
   list false = unfold slotsAfter in same
   list true = index (eqb (indexOf (c .heard)) 0)
 
@@ -187,21 +189,21 @@ pub record Kept (R : Rules) (p q : Slots) : Type 0 where
   pub possible : impossible R q ≡ false
   pub sized : Sized (p .slots) → Sized (q .slots)
 
-still-possible : (R : Rules) (p : Slots) (ts : List Slot) → length ts ≡ length (within p) → ltb (R .limit) (p .size) ≡ false → any (onHead (impossibleHead R)) ts ≡ false
+still-possible : (R : Rules) (p : Slots) (ts : List Slot) → length ts ≡ length (within p) → ltb (R .limit) (p .size) ≡ false → any (onHead impossibleHead) ts ≡ false
     → impossible R (record { slots = ts ++ drop (p .size) (p .slots); size = p .size }) ≡ false
 unfolding impossible
 still-possible R p ts long small fine = rw (small, take-rest (p .size) (p .slots) ts long) fine
 
 in-limit : (R : Rules) (p : Slots) → impossible R p ≡ false → ltb (R .limit) (p .size) ≡ false
 unfolding impossible
-in-limit R p e = or-left (ltb (R .limit) (p .size)) (any (onHead (impossibleHead R)) (within p)) e
+in-limit R p e = or-left (ltb (R .limit) (p .size)) (any (onHead impossibleHead) (within p)) e
 
-all-possible : (R : Rules) (p : Slots) → impossible R p ≡ false → any (onHead (impossibleHead R)) (within p) ≡ false
+all-possible : (R : Rules) (p : Slots) → impossible R p ≡ false → any (onHead impossibleHead) (within p) ≡ false
 unfolding impossible
-all-possible R p e = or-right (ltb (R .limit) (p .size)) (any (onHead (impossibleHead R)) (within p)) e
+all-possible R p e = or-right (ltb (R .limit) (p .size)) (any (onHead impossibleHead) (within p)) e
 
 -- the theorem
-pub keeps : (R : Rules) (p : Slots) (k : Counters) (c : Call) → CallOk R c → impossible R p ≡ false → Kept R p (step R p k c .pool)
+pub keeps : (R : Rules) (p : Slots) (k : Counters) (c : Call) → CallOk c → impossible R p ≡ false → Kept R p (step R p k c .pool)
 unfolding step stepIf outcome
 keeps R p k c ok e =
     let done = event R c ok (within p) (all-possible R p e) in

@@ -1,7 +1,10 @@
 pub mod Copies
 pub mod Views
+pub mod Events
 pub mod Carries
 pub mod Keeps
 pub mod Types
+pub mod Replies
+pub mod Promised
 pub mod Unique
 pub mod ByCalls

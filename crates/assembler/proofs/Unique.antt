@@ -1,25 +1,21 @@
 -- Two outcomes that satisfy a call's contract are equal. Assumes nothing.
 use Prim.Native.Nat.{ℕ}
-use mathlib.Core.Path.{_≡_, refl}
+use mathlib.Core.Path.{_≡_}
+use mathlib.Core.Bool.{Bool}
+use mathlib.Core.List.{List}
 use Rattle.base.proofs.Cases.{determined}
-use Rattle.assembler.specs.declared.Pool.{Pool}
-use Rattle.assembler.specs.declared.MadePool.{MadePool}
-use Rattle.assembler.specs.Making.{freshPool, newPool}
-use mathlib.Core.Bool.{Bool, true, false}
-use mathlib.Core.List.{List, []}
-use Rattle.base.specs.Answer.{gives, refuses}
 use Rattle.fast_packet.specs.FastPacket.{listedIn}
 use Rattle.session.specs.declared.Counters.{Counters}
-use Rattle.session.specs.declared.Heard.{Heard}
-use Rattle.session.specs.Rules.{Rules, base}
-use Rattle.assembler.specs.declared.Received.{Received}
-use Rattle.assembler.specs.Call.{Call}
-use Rattle.assembler.specs.Slots.{Slots, impossible}
-use Rattle.assembler.specs.Step.{Said, ignored, consumed, complete, outcome, stepIf, step}
-use Rattle.assembler.specs.View.{slotsOf, replyKind, replyPayload, replyLength, shown, replyBy, replyOf, receiveOf}
+use Rattle.assembler.specs.declared.Arrival.{Arrival}
+use Rattle.assembler.specs.declared.ArrivalWithLength.{ArrivalWithLength}
+use Rattle.assembler.specs.declared.MadePool.{MadePool}
+use Rattle.assembler.specs.declared.Pool.{Pool}
 use Rattle.assembler.specs.declared.Processed.{Processed}
-use Rattle.assembler.specs.declared.HeardWithLength.{HeardWithLength}
-use Rattle.assembler.specs.Forms.{receiveWithLengthOf, processedOf}
+use Rattle.assembler.specs.declared.Received.{Received}
+use Rattle.assembler.specs.Making.{freshPool, newPool}
+use Rattle.assembler.specs.Arrivals.{heardOf, heardWithLength}
+use Rattle.assembler.specs.Promises.{Receives, ReceivesWithLength, Processes, ProcessesWithLength}
+use Rattle.assembler.proofs.Promised.{received-by, processed-by}
 
 -- ---- making a pool
 
@@ -34,44 +30,25 @@ default-unique r s = determined
 pub handles-unique : (pgns : List ℕ) (pgn : ℕ) (r s : Bool) → r ≡ listedIn pgn pgns → s ≡ listedIn pgn pgns → r ≡ s
 handles-unique pgns pgn r s = determined
 
--- `receive`, and `process_frame_through` of `assembler`, which promises the same
-pub receive-unique : (pgns : List ℕ) (heard : Heard) (pool : Pool) (counters : Counters) (r s : Received)
-    → r ≡ receiveOf base pgns heard pool counters → s ≡ receiveOf base pgns heard pool counters → r ≡ s
-receive-unique pgns heard pool counters r s = determined
+module _ (pgns : List ℕ) (pool : Pool) (counters : Counters) where
+  -- `receive`, and `process_frame_through`
+  pub receive-unique : (a : Arrival) (r s : Received) → Receives pgns a pool counters r → Receives pgns a pool counters s → r ≡ s
+  receive-unique a r s p q = determined (received-by pgns (heardOf a) pool counters p) (received-by pgns (heardOf a) pool counters q)
 
--- ---- an answer read back by 01's numbers
+  -- `receive_with_length`, and `process_frame_with_length_through`
+  pub receive-with-length-unique : (x : ArrivalWithLength) (r s : Received) → ReceivesWithLength pgns x pool counters r → ReceivesWithLength pgns x pool counters s → r ≡ s
+  receive-with-length-unique x r s p q = determined (received-by pgns (heardWithLength x) pool counters p) (received-by pgns (heardWithLength x) pool counters q)
 
-said-back : (s : Said) → replyBy (replyKind (gives s)) (replyPayload (gives s)) (replyLength (gives s)) ≡ gives s
-unfolding replyBy replyKind replyPayload replyLength
-said-back ignored = refl
-said-back consumed = refl
-said-back (complete bytes n) = refl
+  -- the answer, and the lent counters after the call
+  pub process-frame-unique : (a : Arrival) (r s : Processed) (j k : Counters) → Processes pgns a pool counters r j → Processes pgns a pool counters s k → (r ≡ s) × (j ≡ k)
+  process-frame-unique a r s j k p q =
+      let one = processed-by pgns (heardOf a) pool counters p in
+      let two = processed-by pgns (heardOf a) pool counters q in
+      (determined (one .0) (two .0), determined (one .1) (two .1))
 
-step-back : (b : Bool) (R : Rules) (p : Slots) (k : Counters) (c : Call) → replyOf (shown (stepIf b R p k c)) ≡ stepIf b R p k c .reply
-unfolding replyOf shown stepIf
-step-back true R p k c = unfold replyBy replyKind in refl
-step-back false R p k c = unfold outcome in said-back _
-
-pub replied : (R : Rules) (pgns : List ℕ) (f : Heard) (p : Pool) (k : Counters) → replyOf (receiveOf R pgns f p k) ≡ step R (slotsOf p) k (record { pgns = pgns; heard = f }) .reply
-unfolding receiveOf step
-replied R pgns f p k = step-back (impossible R (slotsOf p)) R (slotsOf p) k (record { pgns = pgns; heard = f })
-
--- ---- its other forms
-
--- `receive_with_length`, and `process_frame_with_length_through`
-pub receive-with-length-unique : (pgns : List ℕ) (x : HeardWithLength) (pool : Pool) (counters : Counters) (r s : Received)
-    → r ≡ receiveWithLengthOf base pgns x pool counters → s ≡ receiveWithLengthOf base pgns x pool counters → r ≡ s
-receive-with-length-unique pgns x pool counters r s = determined
-
--- what a call with lent counters leaves: its answer and the counters at its exit
-pub process-frame-unique : (pgns : List ℕ) (heard : Heard) (pool : Pool) (counters : Counters) (r s : Processed) (j k : Counters)
-    → (r ≡ processedOf (receiveOf base pgns heard pool counters)) × (j ≡ receiveOf base pgns heard pool counters .counters)
-    → (s ≡ processedOf (receiveOf base pgns heard pool counters)) × (k ≡ receiveOf base pgns heard pool counters .counters)
-    → (r ≡ s) × (j ≡ k)
-process-frame-unique pgns heard pool counters r s j k p q = (determined (p .0) (q .0), determined (p .1) (q .1))
-
-pub process-frame-with-length-unique : (pgns : List ℕ) (x : HeardWithLength) (pool : Pool) (counters : Counters) (r s : Processed) (j k : Counters)
-    → (r ≡ processedOf (receiveWithLengthOf base pgns x pool counters)) × (j ≡ receiveWithLengthOf base pgns x pool counters .counters)
-    → (s ≡ processedOf (receiveWithLengthOf base pgns x pool counters)) × (k ≡ receiveWithLengthOf base pgns x pool counters .counters)
-    → (r ≡ s) × (j ≡ k)
-process-frame-with-length-unique pgns x pool counters r s j k p q = (determined (p .0) (q .0), determined (p .1) (q .1))
+  pub process-frame-with-length-unique : (x : ArrivalWithLength) (r s : Processed) (j k : Counters) → ProcessesWithLength pgns x pool counters r j → ProcessesWithLength pgns x pool counters s k
+      → (r ≡ s) × (j ≡ k)
+  process-frame-with-length-unique x r s j k p q =
+      let one = processed-by pgns (heardWithLength x) pool counters p in
+      let two = processed-by pgns (heardWithLength x) pool counters q in
+      (determined (one .0) (two .0), determined (one .1) (two .1))

@@ -15,7 +15,7 @@ pub record Call : Type 0 where
   pub heard : Heard
 
 -- what every `[u8; 8]` is: eight numbers, and the first below 256
-pub record CallOk (R : Rules) (c : Call) : Type 0 where
+pub record CallOk (c : Call) : Type 0 where
   pub eight : length (c .heard .«data») ≡ 8
   pub byte : getD (c .heard .«data») 0 0 < 256
 

@@ -4,5 +4,7 @@ pub mod Slots
 pub mod Step
 pub mod Runs
 pub mod View
-pub mod Forms
+pub mod Arrivals
+pub mod Promises
 pub mod Possible
+pub mod inner

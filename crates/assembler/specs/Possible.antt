@@ -3,16 +3,16 @@ use mathlib.Core.List.{List}
 use Prim.Native.Nat.{ℕ}
 use Rattle.session.specs.declared.Counters.{Counters}
 use Rattle.session.specs.declared.Heard.{Heard}
-use Rattle.session.specs.Rules.{base}
 use Rattle.assembler.specs.declared.Pool.{Pool}
-use Rattle.assembler.specs.declared.HeardWithLength.{HeardWithLength}
+use Rattle.assembler.specs.declared.Processed.{Processed}
+use Rattle.assembler.specs.declared.Received.{Received}
 use Rattle.assembler.specs.Call.{CallOk}
 use Rattle.assembler.specs.Making.{newPool, freshPool}
-use Rattle.assembler.specs.View.{receiveOf}
-use Rattle.assembler.specs.Forms.{receiveWithLengthOf}
+use Rattle.assembler.specs.Promises.{ReceivesHeard, ProcessesHeard}
 
 pub data ByCalls : Pool → Type 0 where
   made : (size : ℕ) → ByCalls (newPool size .pool)
   byDefault : ByCalls (freshPool 4)
-  left : {p : Pool} (pgns : List ℕ) (f : Heard) (k : Counters) → CallOk base (record { pgns = pgns; heard = f }) → ByCalls p → ByCalls (receiveOf base pgns f p k .pool)
-  leftWithLength : {p : Pool} (pgns : List ℕ) (x : HeardWithLength) (k : Counters) → CallOk base (record { pgns = pgns; heard = x .heard }) → ByCalls p → ByCalls (receiveWithLengthOf base pgns x p k .pool)
+  received : {p : Pool} {pgns : List ℕ} {f : Heard} {k : Counters} {r : Received} → CallOk (record { pgns = pgns; heard = f }) → ReceivesHeard pgns f p k r → ByCalls p → ByCalls (r .pool)
+  processed : {p : Pool} {pgns : List ℕ} {f : Heard} {before after : Counters} {r : Processed} → CallOk (record { pgns = pgns; heard = f }) → ProcessesHeard pgns f p before r after → ByCalls p
+      → ByCalls (r .pool)

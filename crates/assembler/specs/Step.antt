@@ -6,8 +6,8 @@ use Prim.Native.Nat.{ℕ, _-_}
 use lib.ListN.{length, take, drop, set, replicate}
 use lib.Dec.{eqb, leb}
 use Rattle.base.specs.Answer.{Answer, gives, refuses}
+use Rattle.base.specs.Pick.{pick}
 use Rattle.fast_packet.specs.FastPacket.{maxPayload}
-use Rattle.session.specs.declared.Head.{Head}
 use Rattle.session.specs.declared.Heard.{Heard}
 use Rattle.session.specs.declared.Counters.{Counters}
 use Rattle.session.specs.declared.Mark.{Mark}
@@ -31,49 +31,31 @@ pub data Event : Type 0 where
   stray : Event
   outOfTurn copied completed : ℕ → Event
 
--- "A slot taken while in progress and silent over 500 counts in expired_sessions."
+-- step 3: "take .."; "else Ignored, pool_exhausted. A slot taken while in progress and silent over 500 counts in expired_sessions."
 unfoldable pub opensAt : Rules → Heard → List Slot → Option ℕ → Event
 opensAt R f ss none = poolFull
 opensAt R f ss (some i) = opened i (isExpired R f (slotAt ss i .head))
 
--- "Size 1 to 6: MessageComplete at once, slots untouched. Otherwise take .."
-unfoldable pub firstShort : Bool → Rules → Heard → List Slot → Event
-firstShort true R f ss = shortMessage
-firstShort false R f ss = opensAt R f ss (chosen R f ss)
-
--- "0 or over 223: Ignored, rejected_frames."
-unfoldable pub firstSized : Bool → Rules → Heard → List Slot → Event
-firstSized true R f ss = rejected
-firstSized false R f ss = firstShort (leb (sizeOf f) 6) R f ss
-
--- "MessageComplete with reset when all is there, else FragmentConsumed"
-unfoldable pub copyAt : Bool → ℕ → Event
-copyAt true i = completed i
-copyAt false i = copied i
-
--- "Index not last index + 1: the slot is reset .. Otherwise copy"
-unfoldable pub turnAt : Bool → Heard → ℕ → Head → Event
-turnAt true f i h = copyAt (allThere (copiedHead f h)) i
-turnAt false f i h = outOfTurn i
-
--- "None: a stray"
+-- step 4: "None: a stray .. Index not last index + 1: the slot is reset .. Otherwise copy ..; MessageComplete with reset when all is there, else
+-- FragmentConsumed"
 unfoldable pub continuesAt : Heard → List Slot → Option ℕ → Event
 continuesAt f ss none = stray
-continuesAt f ss (some i) = turnAt (inTurn f (slotAt ss i .head)) f i (slotAt ss i .head)
+continuesAt f ss (some i) =
+    pick (inTurn f (slotAt ss i .head))
+    (pick (allThere (copiedHead f (slotAt ss i .head))) (completed i) (copied i))
+    (outOfTurn i)
 
--- step 3 at "Index 0", step 4 at "Index 1 to 31"
-unfoldable pub byIndex : Bool → Rules → Heard → List Slot → Event
-byIndex true R f ss = firstSized (badSize f) R f ss
-byIndex false R f ss = continuesAt f ss (live R f ss)
-
--- step 2
-unfoldable pub byList : Bool → Rules → Heard → List Slot → Event
-byList false R f ss = notListed
-byList true R f ss = byIndex (eqb (indexOf f) 0) R f ss
-
--- steps 2 to 4, over the slots within the size
+-- steps 2 to 4, over the slots within the size: "PGN not listed"; "Index 0": "0 or over 223", "Size 1 to 6: MessageComplete at once .. Otherwise take";
+-- "Index 1 to 31. Take the first in-progress slot with this key not silent over 500."
 unfoldable pub eventOf : Rules → List Slot → Call → Event
-eventOf R ss c = byList (listed c) R (c .heard) ss
+eventOf R ss c =
+    pick (listed c)
+    (pick (eqb (indexOf (c .heard)) 0)
+    (pick (badSize (c .heard)) rejected
+    (pick (leb (sizeOf (c .heard)) 6) shortMessage
+    (opensAt R (c .heard) ss (chosen R (c .heard) ss))))
+    (continuesAt (c .heard) ss (live R (c .heard) ss)))
+    notListed
 
 -- ---- what that does to the slots
 

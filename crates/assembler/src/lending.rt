@@ -1,16 +1,15 @@
 // The calls with the counters lent: one thin function over each by-value core reads the record, and writes back what the core says of it.
 ghost use mathlib.Core.Path.{_≡_};
-ghost use Rattle.session.specs.Rules.{base};
-ghost use Rattle.assembler.specs.View.{receiveOf};
-ghost use Rattle.assembler.specs.Forms.{receiveWithLengthOf, processedOf, receivedOf};
-use crate::HeardWithLength;
+ghost use Rattle.assembler.specs.Promises.{Receives, ReceivesWithLength, Processes, ProcessesWithLength};
+ghost use Rattle.assembler.specs.inner.Forms.{processedOf, receivedOf};
+use crate::Arrival;
+use crate::ArrivalWithLength;
 use crate::Pool;
 use crate::Processed;
 use crate::Received;
-use crate::lengths::receive_with_length;
 use crate::receiving::receive;
+use crate::receiving::receive_with_length;
 use session::Counters;
-use session::Heard;
 
 fn counters_of(r: Received) -> Counters
     ensures { λ s. ⌜ s ≡ r .counters ⌝ }
@@ -34,12 +33,16 @@ fn processed_of(r: Received) -> Processed
 }
 
 // Process a CAN frame that may belong to a Fast Packet session. `pgns` is the list of Fast Packet PGNs; a PGN outside it is ignored.
-pub fn process_frame(pool: Pool, counters: &mut Counters, pgns: &[u32], heard: Heard) -> Processed
-    ensures { λ r. ⌜ (r ≡ processedOf (receiveOf base (now (pgns .entry)) heard pool (now (counters .entry))))
-        × (now (counters .exit) ≡ receiveOf base (now (pgns .entry)) heard pool (now (counters .entry)) .counters) ⌝ }
+pub fn process_frame(
+    pool: Pool,
+    counters: &mut Counters,
+    pgns: &[u32],
+    arrival: Arrival,
+) -> Processed
+    ensures { λ r. ⌜ Processes (now (pgns .entry)) arrival pool (now (counters .entry)) r (now (counters .exit)) ⌝ }
 {
     let c = *counters;
-    let out = receive(pool, c, pgns, heard);
+    let out = receive(pool, c, pgns, arrival);
     *counters = counters_of(out);
     processed_of(out)
 }
@@ -49,10 +52,9 @@ pub fn process_frame_with_length(
     pool: Pool,
     counters: &mut Counters,
     pgns: &[u32],
-    x: HeardWithLength,
+    x: ArrivalWithLength,
 ) -> Processed
-    ensures { λ r. ⌜ (r ≡ processedOf (receiveWithLengthOf base (now (pgns .entry)) x pool (now (counters .entry))))
-        × (now (counters .exit) ≡ receiveWithLengthOf base (now (pgns .entry)) x pool (now (counters .entry)) .counters) ⌝ }
+    ensures { λ r. ⌜ ProcessesWithLength (now (pgns .entry)) x pool (now (counters .entry)) r (now (counters .exit)) ⌝ }
 {
     let c = *counters;
     let out = receive_with_length(pool, c, pgns, x);
@@ -76,11 +78,16 @@ fn joined(a: Processed, counters: Counters) -> Received
 }
 
 // `process_frame` for callers that hold the counters by value, as a program or an exported function does.
-pub fn process_frame_through(pool: Pool, counters: Counters, pgns: &[u32], heard: Heard) -> Received
-    ensures { λ r. ⌜ r ≡ receiveOf base (now (pgns .entry)) heard pool counters ⌝ }
+pub fn process_frame_through(
+    pool: Pool,
+    counters: Counters,
+    pgns: &[u32],
+    arrival: Arrival,
+) -> Received
+    ensures { λ r. ⌜ Receives (now (pgns .entry)) arrival pool counters r ⌝ }
 {
     let mut c = counters;
-    let a = process_frame(pool, &mut c, pgns, heard);
+    let a = process_frame(pool, &mut c, pgns, arrival);
     joined(a, c)
 }
 
@@ -89,9 +96,9 @@ pub fn process_frame_with_length_through(
     pool: Pool,
     counters: Counters,
     pgns: &[u32],
-    x: HeardWithLength,
+    x: ArrivalWithLength,
 ) -> Received
-    ensures { λ r. ⌜ r ≡ receiveWithLengthOf base (now (pgns .entry)) x pool counters ⌝ }
+    ensures { λ r. ⌜ ReceivesWithLength (now (pgns .entry)) x pool counters r ⌝ }
 {
     let mut c = counters;
     let a = process_frame_with_length(pool, &mut c, pgns, x);

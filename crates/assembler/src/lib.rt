@@ -1,7 +1,7 @@
 // NMEA 2000 Fast Packet assembler: the pool, the receive call, and its other forms, for a frame with a length and with the counters lent.
+mod arrivals;
 mod bytes;
 mod lending;
-mod lengths;
 mod making;
 mod receiving;
 
@@ -10,12 +10,11 @@ pub use lending::process_frame;
 pub use lending::process_frame_through;
 pub use lending::process_frame_with_length;
 pub use lending::process_frame_with_length_through;
-pub use lengths::receive_with_length;
 pub use receiving::handles;
 pub use receiving::receive;
+pub use receiving::receive_with_length;
 use session::Counters;
 use session::Head;
-use session::Heard;
 use session::Kind;
 use session::POOL_LIMIT;
 
@@ -39,9 +38,17 @@ pub struct MadePool {
     pub pool: Pool,
 }
 
-// A heard frame with its length: of its eight bytes the first `length` were sent.
-pub struct HeardWithLength {
-    pub heard: Heard,
+// A frame that arrived, with the clock reading at it.
+pub struct Arrival {
+    pub now_ms: u64,
+    pub pgn: u32,
+    pub source_address: u8,
+    pub data: [u8; 8],
+}
+
+// A frame that arrived with a length: of its eight bytes the first `length` were sent.
+pub struct ArrivalWithLength {
+    pub arrival: Arrival,
     pub length: usize,
 }
 

@@ -2,10 +2,14 @@
 ghost use mathlib.Core.Path.{_≡_};
 ghost use Rattle.base.specs.Pick.{pick};
 ghost use Rattle.fast_packet.specs.FastPacket.{listedIn};
-ghost use Rattle.session.specs.Rules.{base};
 ghost use Rattle.assembler.specs.View.{receiveOf};
+ghost use Rattle.assembler.specs.Promises.{rulesOf, Receives, ReceivesWithLength};
+use crate::Arrival;
+use crate::ArrivalWithLength;
 use crate::Pool;
 use crate::Received;
+use crate::arrivals::heard_of;
+use crate::arrivals::heard_with_length;
 use crate::bytes::deliver;
 use crate::bytes::deliver_short;
 use crate::bytes::store;
@@ -34,9 +38,9 @@ fn either(b: bool, x: usize, y: usize) -> usize
     if b { x } else { y }
 }
 
-// One call, with pool and counters in and out by value.
-pub fn receive(pool: Pool, counters: Counters, pgns: &[u32], heard: Heard) -> Received
-    ensures { λ r. ⌜ r ≡ receiveOf base (now (pgns .entry)) heard pool counters ⌝ }
+// One call of a frame as the steps hear it.
+fn receive_heard(pool: Pool, counters: Counters, pgns: &[u32], heard: Heard) -> Received
+    ensures { λ r. ⌜ r ≡ receiveOf (rulesOf pool) (now (pgns .entry)) heard pool counters ⌝ }
 {
     let mut q = pool;
     // of a pool that is too large nothing is looked at
@@ -70,4 +74,23 @@ pub fn receive(pool: Pool, counters: Counters, pgns: &[u32], heard: Heard) -> Re
         pool: q,
         counters: c,
     }
+}
+
+// One call, with pool and counters in and out by value.
+pub fn receive(pool: Pool, counters: Counters, pgns: &[u32], arrival: Arrival) -> Received
+    ensures { λ r. ⌜ Receives (now (pgns .entry)) arrival pool counters r ⌝ }
+{
+    receive_heard(pool, counters, pgns, heard_of(arrival))
+}
+
+// The same for a frame with a length: its first bytes, and 0xFF after them.
+pub fn receive_with_length(
+    pool: Pool,
+    counters: Counters,
+    pgns: &[u32],
+    x: ArrivalWithLength,
+) -> Received
+    ensures { λ r. ⌜ ReceivesWithLength (now (pgns .entry)) x pool counters r ⌝ }
+{
+    receive_heard(pool, counters, pgns, heard_with_length(x))
 }

@@ -6,7 +6,8 @@ use lib.Dec.{ltb}
 use native.Mathlib.Omega.{arith}
 use borrow.Author.Tests.{lt-ltb, le-ltb}
 use Rattle.base.proofs.Cases.{less?}
-use Rattle.batch.specs.Lengths.{tooShort, noRoom}
+use Rattle.batch.specs.Lengths.{tooShort}
+use Rattle.batch.specs.inner.Room.{noRoom}
 
 module _ (n a b c d e : ℕ) where
   pub few-pgns : a < n → true ≡ tooShort n a b c d e

@@ -10,3 +10,4 @@ pub mod Steps
 pub mod Unique
 pub mod Continues
 pub mod Told
+pub mod Promised

@@ -104,9 +104,9 @@ unfolding foundIn seenIf nothingFound impossible slotsOf
 looked-at R f p limit = go (ltb poolLimit (p .size)) refl (R .limit) limit
   where
     go : (b : Bool) → ltb poolLimit (p .size) ≡ b → (n : ℕ) → n ≡ poolLimit
-        → seenIf b R f (p .size) (p .heads) .bad ≡ (ltb n (p .size) || any (onHead (impossibleHead R)) (take (p .size) (slotsFrom (p .heads) (p .bytes))))
+        → seenIf b R f (p .size) (p .heads) .bad ≡ (ltb n (p .size) || any (onHead impossibleHead) (take (p .size) (slotsFrom (p .heads) (p .bytes))))
     go true e n en = rw (en, e)
-    go false e n en = rw (en, e, any-view (impossibleHead R) (p .size) (p .heads) (p .bytes)) (seen-bad R f (take (p .size) (p .heads)) 0)
+    go false e n en = rw (en, e, any-view impossibleHead (p .size) (p .heads) (p .bytes)) (seen-bad R f (take (p .size) (p .heads)) 0)
 
 -- ---- plans
 

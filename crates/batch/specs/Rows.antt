@@ -1,5 +1,6 @@
 -- A batch: the rows of frames that a caller lends, taken one after the other by the single call, as long as the arena has room for their messages.
 use mathlib.Core.List.{List, [], _∷_, _++_}
+use mathlib.Core.Path.{_≡_}
 use Prim.Native.Nat.{ℕ, zero, suc, _+_, _*_}
 use lib.ListN.{length, getD, take, drop}
 use lib.Dec.{ltb}
@@ -13,6 +14,7 @@ use Rattle.assembler.specs.declared.Pool.{Pool}
 use Rattle.assembler.specs.declared.Received.{Received}
 use Rattle.assembler.specs.Slots.{impossible}
 use Rattle.assembler.specs.View.{slotsOf, receiveOf}
+use Rattle.assembler.specs.Promises.{rulesOf}
 use Rattle.batch.specs.Lengths.{tooShort}
 use Rattle.batch.specs.declared.Batch.{Batch}
 
@@ -106,3 +108,10 @@ batchOf R pgns w p k kinds lengths arena =
     pick (impossible R (slotsOf p)) (refusedBy 1 p k kinds lengths arena)
     (pick (tooShort (length (w .times)) (length (w .pgns)) (length (w .sources)) (length (w .bytes)) (length kinds) (length lengths)) (refusedBy 27 p k kinds lengths arena)
     (leaves (runOf R pgns w (length arena) p k) kinds lengths arena))
+
+-- what `process_frames` promises: its answer, and the lent rows of kinds and lengths and the arena after it, under the rules of the pool at hand
+pub record Batches (list times pgns sources bytes : List ℕ) (p : Pool) (k : Counters) (kinds lengths arena : List ℕ) (r : Batch) (kinds′ lengths′ arena′ : List ℕ) : Type 0 where
+  pub answer : r ≡ batchOf (rulesOf p) list (record { times = times; pgns = pgns; sources = sources; bytes = bytes }) p k kinds lengths arena .answer
+  pub told : kinds′ ≡ batchOf (rulesOf p) list (record { times = times; pgns = pgns; sources = sources; bytes = bytes }) p k kinds lengths arena .kinds
+  pub measured : lengths′ ≡ batchOf (rulesOf p) list (record { times = times; pgns = pgns; sources = sources; bytes = bytes }) p k kinds lengths arena .lengths
+  pub delivered : arena′ ≡ batchOf (rulesOf p) list (record { times = times; pgns = pgns; sources = sources; bytes = bytes }) p k kinds lengths arena .arena

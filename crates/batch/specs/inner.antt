@@ -3,3 +3,4 @@ pub mod Mirror
 pub mod Memory
 pub mod Ways
 pub mod Looked
+pub mod Room

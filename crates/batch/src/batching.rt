@@ -3,7 +3,7 @@ ghost use mathlib.Core.Path.{_≡_};
 ghost use Rattle.session.specs.Rules.{base};
 ghost use Rattle.session.specs.inner.Search.{foundIn};
 ghost use Rattle.batch.specs.Lengths.{tooShort};
-ghost use Rattle.batch.specs.Rows.{BatchLeft, batchOf};
+ghost use Rattle.batch.specs.Rows.{Batches};
 ghost use Rattle.batch.specs.inner.Ways.{blankHeard, refusalOf};
 use crate::Batch;
 use crate::bytes::deliver_short;
@@ -83,7 +83,8 @@ pub fn process_frames(
     lengths: &mut [u8],
     arena: &mut [u8],
 ) -> Batch
-    ensures { λ r. ⌜ _≡_ {A = BatchLeft} (record { answer = r; kinds = now (kinds .exit); lengths = now (lengths .exit); arena = now (arena .exit) }) (batchOf base (now (pgns .entry)) (record { times = now (times .entry); pgns = now («frame_pgns» .entry); sources = now (sources .entry); bytes = now («data» .entry) }) pool counters (now (kinds .entry)) (now (lengths .entry)) (now (arena .entry))) ⌝ }
+    ensures { λ r. ⌜ Batches (now (pgns .entry)) (now (times .entry)) (now («frame_pgns» .entry)) (now (sources .entry)) (now («data» .entry)) pool counters
+        (now (kinds .entry)) (now (lengths .entry)) (now (arena .entry)) r (now (kinds .exit)) (now (lengths .exit)) (now (arena .exit)) ⌝ }
 {
     let mut q = pool;
     let heads = q.heads;

@@ -1,6 +1,7 @@
 // Whether the rows that a batch is lent are long enough, and its arena for one message more.
 ghost use mathlib.Core.Path.{_≡_};
-ghost use Rattle.batch.specs.Lengths.{tooShort, noRoom};
+ghost use Rattle.batch.specs.Lengths.{tooShort};
+ghost use Rattle.batch.specs.inner.Room.{noRoom};
 
 // Whether a row is shorter than the n frames ask: one entry for each of them, and eight bytes.
 pub(crate) fn too_short(

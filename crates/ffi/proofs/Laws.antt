@@ -7,7 +7,7 @@ use Rattle.can_id.specs.Build.{newIdBuilder, buildOf, idWithPriority as idPrior
 use Rattle.can_id.specs.declared.CanIdBuilder.{CanIdBuilder}
 use Rattle.can_id.specs.declared.Destination.{Destination}
 use Rattle.builder.specs.Builder.{newBuilder, withSequence, withPriority, withDestination}
-use Rattle.builder.specs.declared.MadeBuilder.{MadePool as Begun}
+use Rattle.builder.specs.declared.MadeBuilder.{MadeBuilder as Begun}
 use Rattle.builder.specs.Next.{Step, nextOf}
 use Rattle.builder.specs.Frames.{Turn, nextTurn}
 use Rattle.builder.specs.declared.FrameIterator.{FrameIterator}

@@ -10,7 +10,7 @@ use Rattle.can_id.specs.declared.CanIdBuilder.{CanIdBuilder}
 use Rattle.builder.specs.Next.{Step}
 use Rattle.builder.specs.declared.FastPacketBuilder.{FastPacketBuilder}
 use Rattle.builder.specs.declared.FrameIterator.{FrameIterator}
-use Rattle.builder.specs.declared.MadeBuilder.{MadePool as Begun}
+use Rattle.builder.specs.declared.MadeBuilder.{MadeBuilder as Begun}
 use Rattle.fast_packet.specs.FastPacket.{listedIn, filledFrom}
 use Rattle.assembler.specs.declared.MadePool.{MadePool}
 use Rattle.assembler.specs.declared.Received.{Received}

@@ -52,7 +52,7 @@ pub ruleset choices = (either-yes, either-no, first-here, first-there, limit-low
 pub look-is : (f : Heard) (h : Head) (s : Found) (i : ℕ) (silent keyed bad : Bool) (key live own free : ℕ)
     → silent ≡ silence (f .«now_ms») (h .«last_seen_ms»)
     → keyed ≡ hasKey base f h
-    → bad ≡ impossibleHead base h
+    → bad ≡ impossibleHead h
     → key ≡ pick keyed i (s .key)
     → live ≡ pick (keyed && not silent) i (s .live)
     → own ≡ pick ((not (h .«in_progress») || silent) && eqb (h .«source_address») (f .«source_address»)) i (s .own)

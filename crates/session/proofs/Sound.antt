@@ -39,7 +39,7 @@ none-at t (x ∷ xs) zero e n h = or-left (t x) (any t xs) n
 none-at t (x ∷ xs) (suc i) e n h = none-at t xs i e (or-right (t x) (any t xs) n) (omega arith)
 
 module _ (R : Rules) where
-  pub sound : (h : Head) → h .«in_progress» ≡ true → impossibleHead R h ≡ false → Sound h
+  pub sound : (h : Head) → h .«in_progress» ≡ true → impossibleHead h ≡ false → Sound h
   unfolding impossibleHead
   sound h busy e =
       let e0 = rw busy at e in

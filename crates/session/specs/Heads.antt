@@ -26,8 +26,8 @@ unfoldable pub headKey : Head → Key
 headKey h = record { source = h .«source_address»; pgn = h .pgn; sequence = h .«sequence_id» }
 
 -- "an in-progress slot .. has sequence over 7, expected size outside 7..223, current size other than 6 + 7 × last index, or current size not below expected"
-unfoldable pub impossibleHead : Rules → Head → Bool
-impossibleHead R h =
+unfoldable pub impossibleHead : Head → Bool
+impossibleHead h =
     h .«in_progress» && (ltb 7 (h .«sequence_id») || (ltb (h .«expected_size») 7 || (ltb maxPayload (h .«expected_size»)
     || (not (eqb (h .«current_size») (6 + 7 * h .«last_frame_index»)) || not (ltb (h .«current_size») (h .«expected_size»))))))
 

@@ -1,5 +1,6 @@
-// One session of the Fast Packet assembler, but for its bytes: its types, its silence and its counters. What a frame finds there is crate `slot_search`,
-// what it makes of it crate `plan`. specs/ says what the tests and heads are (document 01); specs/inner/ how the code goes about a call.
+// One session of the Fast Packet assembler, but for its bytes: its types, its silence and its counters, what a frame finds in the heads and what it
+// makes of the head that it takes. The single call and the batch share it. specs/ says what the tests and heads are (document 01); specs/inner/ how the
+// code goes about a call.
 mod counting;
 mod frames;
 mod heads;

@@ -36,7 +36,7 @@ fn wide(x: u8) -> usize
 
 // A head that no run of frames makes.
 fn is_impossible(h: Head) -> bool
-    ensures { λ r. ⌜ r ≡ impossibleHead base h ⌝ }
+    ensures { λ r. ⌜ r ≡ impossibleHead h ⌝ }
 {
     let held = FIRST_FRAME_PAYLOAD + CONTINUATION_PAYLOAD * wide(h.last_frame_index);
     h.in_progress

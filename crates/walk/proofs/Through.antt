@@ -2,7 +2,7 @@
 --     fn through(pool: A, counters: C, list: &[R], x: X) -> O { let mut c = counters; let a = lent(pool, &mut c, list, x); joined(a, c) }
 -- with any names, and `lent` a function that `Raises.antt` proves.
 --     body      its MIR: locals 0 the result, 1 pool, 2 counters, 3 list, 4 x, 5 c, 6 a, 7 the reference, 8 the copy of c that is joined
---     through   its theorem: what the core gives, where `lent` says `toldOf` and `keptOf` of it and `joined` is their inverse
+--     through   its theorem: what the core gives, where `lent` says `toldOf` and `keptOf` of it and `joined` is their inverse, so a promise that it keeps is kept
 -- Assumes nothing.
 use mathlib.Core.Path.{_≡_, refl, _∙_, ap}
 use mathlib.Core.List.{List, [], _∷_}
@@ -91,9 +91,11 @@ module _ (A C X O B : Plain) (R : RattleType) (k-lent k-joined : Name) where
         (says₁ : (κs : Lfts 2) (a : Dens κs lent-ps) (z : ty B .Denot) (e : AtExit (endedOf 2 lent-ps (result B)) κs) → Q₁ κs a z e
         → (z ≡ toldOf (coreOf (a .0) (a .1 .0 .now) (a .1 .1 .0 .now) (a .1 .1 .1 .0))) × (e .1 .0 .now ≡ keptOf (coreOf (a .0) (a .1 .0 .now) (a .1 .1 .0 .now) (a .1 .1 .1 .0))))
         (asked₂ : (a : Dens tt both) → P₂ tt a) (says₂ : (a : Dens tt both) (z : ty O .Denot) (e : AtExit (endedOf 0 both (result O)) tt) → Q₂ tt a z e → z ≡ joinedOf (a .0) (a .1 .0))
-        (back : (o : ty O .Denot) → joinedOf (toldOf o) (keptOf o) ≡ o) where
+        (back : (o : ty O .Denot) → joinedOf (toldOf o) (keptOf o) ≡ o)
+        (Promise : ty A .Denot → ty C .Denot → List (R .Denot) → ty X .Denot → ty O .Denot → Type 0)
+        (kept : (p : ty A .Denot) (c : ty C .Denot) (l : List (R .Denot)) (x : ty X .Denot) (z : ty O .Denot) → z ≡ coreOf p c l x → Promise p c l x z) where
       abbrev Post : Out 1 ps (result O)
-      Post κs a z e = z ≡ coreOf (a .0) (a .1 .0) (a .1 .1 .0 .now) (a .1 .1 .1 .0)
+      Post κs a z e = Promise (a .0) (a .1 .0) (a .1 .1 .0 .now) (a .1 .1 .1 .0) z
 
       pub through : (key : Name) → walk.Is 1 ps (result O) xs 1 hs body w γ key → walk.Proved 1 ps (result O) Post w γ (γ key)
       through key is = walk.proves 1 ps (result O) Post w γ key xs 1 hs body is derives
@@ -105,7 +107,7 @@ module _ (A C X O B : Plain) (R : RattleType) (k-lent k-joined : Name) where
                 (λ _. asked₂ _),
                 (λ made. (
                   (tt, (tt, (refl, (tt, tt)))),
-                  rejoins back (coreOf (a .0) (a .1 .0) (a .1 .1 .0 .now) (a .1 .1 .1 .0)) (made .1) (heard .1) (heard .2 .1 .0) (says₂ _ _ _ (made .5)) (says₁ _ _ _ _ (heard .5) .0) (says₁ _ _ _ _ (heard .5) .1),
+                  kept (a .0) (a .1 .0) (a .1 .1 .0 .now) (a .1 .1 .1 .0) _ (rejoins back (coreOf (a .0) (a .1 .0) (a .1 .1 .0 .now) (a .1 .1 .1 .0)) (made .1) (heard .1) (heard .2 .1 .0) (says₂ _ _ _ (made .5)) (says₁ _ _ _ _ (heard .5) .0) (says₁ _ _ _ _ (heard .5) .1)),
                 )),
               ),
             )),

@@ -14,6 +14,7 @@ use Rattle.batch.proofs.RowLaws.{has-room, head-place, number-place, ne
 use Rattle.batch.proofs.WayLaws.{run-missing}
 use Rattle.batch.proofs.Mirrors.{remembers-none, looked-right}
 use Rattle.batch.proofs.Runs.{begins, ends, gives-refused, gives-run, possible, fits-all}
+use Rattle.batch.proofs.Promised.{batched}
 use Rattle.batch.proofs.Sought.{small-of}
 use Rattle.batch.proofs.Steps.{Stands, step-missed, stop-short, step-short, runs-fit, step-running, plan-fits, stop-by, step-by}
 use Rattle.batch.proofs.batching.process_frames.Statement.{statement}
@@ -35,7 +36,7 @@ returns : tie.Need-returns Inv-loop μ-loop
 unfolding refusedBy
 returns c =
     let a = c .before .before .before .before .before .before .before .before .before .before .before .args in
-    gives-refused base (a .pgns .now) (record { times = a .times .now; pgns = a .frame-pgns .now; sources = a .sources .now; bytes = a .«data» .now }) (a .pool) (a .counters) (a .kinds .now) (a .lengths .now) (a .arena .now) limit blankHeard _ (c .before .refusal .ensures) (c .if1 .taken)
+    batched (gives-refused base (a .pgns .now) (record { times = a .times .now; pgns = a .frame-pgns .now; sources = a .sources .now; bytes = a .«data» .now }) (a .pool) (a .counters) (a .kinds .now) (a .lengths .now) (a .arena .now) limit blankHeard _ (c .before .refusal .ensures) (c .if1 .taken))
 
 loop-holds : tie.Need-loop-holds Inv-loop μ-loop
 loop-holds c =
@@ -85,8 +86,8 @@ same-length-3 c = search (needs, c .before .before .before .before .before .befo
 returns-2 : tie.Need-returns-2 Inv-loop μ-loop
 returns-2 c =
     let a = c .before .before .before .before .before .before .before .before .before .before .before .before .before .before .before .before .before .before .before .before .before .before .before .before .before .before .before .before .before .before .before .before .before .args in
-    gives-run base (a .pgns .now) (record { times = a .times .now; pgns = a .frame-pgns .now; sources = a .sources .now; bytes = a .«data» .now }) (a .pool) (a .counters) (a .kinds .now) (a .lengths .now) (a .arena .now) limit blankHeard _ (c .before .before .before .before .before .before .before .before .before .before .before .before .before .before .before .before .before .before .before .before .before .before .before .refusal .ensures) (c .before .before .before .before .before .before .before .before .before .before .before .before .before .before .before .before .before .before .before .before .before .before .if1 .left) _
-    (stop-short _ _ _ _ _ _ _ _ _ _ _ _ _ _ _ _ _ (c .before .before .before .before .before .before .before .before .before .before .before .before .before .before .before .before .loop .inv .0) (c .before .before .before .before .before .before .before .before .before .before .before .before .before .before .before .loop-test .taken) _ (c .before .before .before .before .before .before .before .before .before .before .before .before .before .before .frame-at .ensures) _ (looked-right _ _ _ (c .before .before .before .before .before .before .before .before .before .before .before .before .before .before .before .before .loop .inv .1) _ _ _ _ (c .before .before .before .before .before .before .before .before .before .before .before .looked-up .ensures) .0) _ (c .before .before .before .before .before .before .before .before .before .before .key-of-frame .ensures) _ (c .before .before .before .before .before .before .seek .ensures) (c .before .before .before .before .if2 .taken) _ (c .before .before .before .short-in .ensures .0) (c .before .before .if3 .left) _ (c .before .no-room .ensures) (c .if4 .taken))
+    batched (gives-run base (a .pgns .now) (record { times = a .times .now; pgns = a .frame-pgns .now; sources = a .sources .now; bytes = a .«data» .now }) (a .pool) (a .counters) (a .kinds .now) (a .lengths .now) (a .arena .now) limit blankHeard _ (c .before .before .before .before .before .before .before .before .before .before .before .before .before .before .before .before .before .before .before .before .before .before .before .refusal .ensures) (c .before .before .before .before .before .before .before .before .before .before .before .before .before .before .before .before .before .before .before .before .before .before .if1 .left) _
+    (stop-short _ _ _ _ _ _ _ _ _ _ _ _ _ _ _ _ _ (c .before .before .before .before .before .before .before .before .before .before .before .before .before .before .before .before .loop .inv .0) (c .before .before .before .before .before .before .before .before .before .before .before .before .before .before .before .loop-test .taken) _ (c .before .before .before .before .before .before .before .before .before .before .before .before .before .before .frame-at .ensures) _ (looked-right _ _ _ (c .before .before .before .before .before .before .before .before .before .before .before .before .before .before .before .before .loop .inv .1) _ _ _ _ (c .before .before .before .before .before .before .before .before .before .before .before .looked-up .ensures) .0) _ (c .before .before .before .before .before .before .before .before .before .before .key-of-frame .ensures) _ (c .before .before .before .before .before .before .seek .ensures) (c .before .before .before .before .if2 .taken) _ (c .before .before .before .short-in .ensures .0) (c .before .before .if3 .left) _ (c .before .no-room .ensures) (c .if4 .taken)))
 
 deliver-short-requires : tie.Need-deliver-short-requires Inv-loop μ-loop
 deliver-short-requires c κs = (has-room _ (c .before .before .before .before .before .before .before .before .before .before .before .before .before .before .before .before .before .loop .used) _ _ (c .before .before .no-room .ensures) (c .before .if4 .left), c .before .before .before .before .short-in .ensures .1)
@@ -147,8 +148,8 @@ same-length-6 c = search (needs, c .before .before .before .before .before .befo
 returns-3 : tie.Need-returns-3 Inv-loop μ-loop
 returns-3 c =
     let a = c .before .before .before .before .before .before .before .before .before .before .before .before .before .before .before .before .before .before .before .before .before .before .before .before .before .before .before .before .before .before .before .before .before .before .before .args in
-    gives-run base (a .pgns .now) (record { times = a .times .now; pgns = a .frame-pgns .now; sources = a .sources .now; bytes = a .«data» .now }) (a .pool) (a .counters) (a .kinds .now) (a .lengths .now) (a .arena .now) limit blankHeard _ (c .before .before .before .before .before .before .before .before .before .before .before .before .before .before .before .before .before .before .before .before .before .before .before .before .before .refusal .ensures) (c .before .before .before .before .before .before .before .before .before .before .before .before .before .before .before .before .before .before .before .before .before .before .before .before .if1 .left) _
-    (stop-by _ _ _ _ _ _ _ _ _ _ _ _ _ _ _ _ _ (c .before .before .before .before .before .before .before .before .before .before .before .before .before .before .before .before .before .before .loop .inv .0) (c .before .before .before .before .before .before .before .before .before .before .before .before .before .before .before .before .before .loop-test .taken) _ (c .before .before .before .before .before .before .before .before .before .before .before .before .before .before .before .before .frame-at .ensures) _ (looked-right _ _ _ (c .before .before .before .before .before .before .before .before .before .before .before .before .before .before .before .before .before .before .loop .inv .1) _ _ _ _ (c .before .before .before .before .before .before .before .before .before .before .before .before .before .looked-up .ensures) .0) _ (c .before .before .before .before .before .before .before .before .before .before .before .before .key-of-frame .ensures) _ (c .before .before .before .before .before .before .before .before .seek .ensures) (c .before .before .before .before .before .before .if2 .left) _ _ (c .before .before .decide .ensures) _ (c .before .no-room2 .ensures) (c .if6 .taken))
+    batched (gives-run base (a .pgns .now) (record { times = a .times .now; pgns = a .frame-pgns .now; sources = a .sources .now; bytes = a .«data» .now }) (a .pool) (a .counters) (a .kinds .now) (a .lengths .now) (a .arena .now) limit blankHeard _ (c .before .before .before .before .before .before .before .before .before .before .before .before .before .before .before .before .before .before .before .before .before .before .before .before .before .refusal .ensures) (c .before .before .before .before .before .before .before .before .before .before .before .before .before .before .before .before .before .before .before .before .before .before .before .before .if1 .left) _
+    (stop-by _ _ _ _ _ _ _ _ _ _ _ _ _ _ _ _ _ (c .before .before .before .before .before .before .before .before .before .before .before .before .before .before .before .before .before .before .loop .inv .0) (c .before .before .before .before .before .before .before .before .before .before .before .before .before .before .before .before .before .loop-test .taken) _ (c .before .before .before .before .before .before .before .before .before .before .before .before .before .before .before .before .frame-at .ensures) _ (looked-right _ _ _ (c .before .before .before .before .before .before .before .before .before .before .before .before .before .before .before .before .before .before .loop .inv .1) _ _ _ _ (c .before .before .before .before .before .before .before .before .before .before .before .before .before .looked-up .ensures) .0) _ (c .before .before .before .before .before .before .before .before .before .before .before .before .key-of-frame .ensures) _ (c .before .before .before .before .before .before .before .before .seek .ensures) (c .before .before .before .before .before .before .if2 .left) _ _ (c .before .before .decide .ensures) _ (c .before .no-room2 .ensures) (c .if6 .taken)))
 
 take-requires : tie.Need-take-requires Inv-loop μ-loop
 take-requires c κs =
@@ -191,8 +192,8 @@ same-length-9 c = search (needs, c .before .loop .inv .0 .run .arena)
 returns-4 : tie.Need-returns-4 Inv-loop μ-loop
 returns-4 c =
     let a = c .before .before .before .before .before .before .before .before .before .before .before .before .before .before .before .before .before .before .args in
-    gives-run base (a .pgns .now) (record { times = a .times .now; pgns = a .frame-pgns .now; sources = a .sources .now; bytes = a .«data» .now }) (a .pool) (a .counters) (a .kinds .now) (a .lengths .now) (a .arena .now) limit blankHeard _ (c .before .before .before .before .before .before .before .before .refusal .ensures) (c .before .before .before .before .before .before .before .if1 .left) _
-    (ends base _ _ _ _ _ _ _ _ _ _ _ _ _ _ (c .before .loop .inv .0 .run) (c .loop-test .left))
+    batched (gives-run base (a .pgns .now) (record { times = a .times .now; pgns = a .frame-pgns .now; sources = a .sources .now; bytes = a .«data» .now }) (a .pool) (a .counters) (a .kinds .now) (a .lengths .now) (a .arena .now) limit blankHeard _ (c .before .before .before .before .before .before .before .before .refusal .ensures) (c .before .before .before .before .before .before .before .if1 .left) _
+    (ends base _ _ _ _ _ _ _ _ _ _ _ _ _ _ (c .before .loop .inv .0 .run) (c .loop-test .left)))
 
 pub process-frames-spec : {M : Type 1} → statement M
 process-frames-spec =

@@ -1,0 +1,29 @@
+-- An answer read back by 01's numbers is the step's reply. Assumes nothing.
+use Prim.Native.Nat.{ℕ}
+use mathlib.Core.Path.{_≡_, refl}
+use mathlib.Core.Bool.{Bool, true, false}
+use mathlib.Core.List.{List}
+use Rattle.base.specs.Answer.{gives}
+use Rattle.session.specs.declared.Counters.{Counters}
+use Rattle.session.specs.declared.Heard.{Heard}
+use Rattle.session.specs.Rules.{Rules}
+use Rattle.assembler.specs.declared.Pool.{Pool}
+use Rattle.assembler.specs.Call.{Call}
+use Rattle.assembler.specs.Slots.{Slots, impossible}
+use Rattle.assembler.specs.Step.{Said, ignored, consumed, complete, outcome, stepIf, step}
+use Rattle.assembler.specs.View.{slotsOf, replyKind, replyPayload, replyLength, shown, replyBy, replyOf, receiveOf}
+
+said-back : (s : Said) → replyBy (replyKind (gives s)) (replyPayload (gives s)) (replyLength (gives s)) ≡ gives s
+unfolding replyBy replyKind replyPayload replyLength
+said-back ignored = refl
+said-back consumed = refl
+said-back (complete bytes n) = refl
+
+step-back : (b : Bool) (R : Rules) (p : Slots) (k : Counters) (c : Call) → replyOf (shown (stepIf b R p k c)) ≡ stepIf b R p k c .reply
+unfolding replyOf shown stepIf
+step-back true R p k c = unfold replyBy replyKind in refl
+step-back false R p k c = unfold outcome in said-back _
+
+pub replied : (R : Rules) (pgns : List ℕ) (f : Heard) (p : Pool) (k : Counters) → replyOf (receiveOf R pgns f p k) ≡ step R (slotsOf p) k (record { pgns = pgns; heard = f }) .reply
+unfolding receiveOf step
+replied R pgns f p k = step-back (impossible R (slotsOf p)) R (slotsOf p) k (record { pgns = pgns; heard = f })

@@ -1,0 +1,12 @@
+-- `arrivals::heard_with_length` meets its contract. Assumes nothing.
+use borrow.Author.Needs.{needs}
+use Rattle.assembler.specs.Arrivals.{heardWithLength}
+use Rattle.assembler.proofs.arrivals.heard_with_length.Statement.{statement}
+use Rattle.assembler.proofs.arrivals.heard_with_length.Tie as tie
+
+returns : tie.Need-returns
+unfolding heardWithLength
+returns c = rw (c .fill-short .ensures)
+
+pub heard-with-length-spec : {M : Type 1} → statement M
+heard-with-length-spec = tie.close (tie.spec (λ c κs. search needs) returns)

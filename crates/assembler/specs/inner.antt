@@ -1,0 +1,2 @@
+-- How the code goes about the call. Nobody needs to believe these: only private contracts cite them.
+pub mod Forms

@@ -1,0 +1,34 @@
+// A frame that arrived, as the steps hear it: every form of the call turns its own record into that one.
+ghost use mathlib.Core.Path.{_≡_};
+ghost use Rattle.assembler.specs.Arrivals.{heardOf, heardWithLength};
+use crate::Arrival;
+use crate::ArrivalWithLength;
+use fast_packet::fill_short;
+use session::Heard;
+
+pub(crate) fn heard_of(arrival: Arrival) -> Heard
+    ensures { λ r. ⌜ r ≡ heardOf arrival ⌝ }
+{
+    let data = arrival.data;
+    Heard {
+        now_ms: arrival.now_ms,
+        pgn: arrival.pgn,
+        source_address: arrival.source_address,
+        data: data,
+    }
+}
+
+// A frame cut short, as eight bytes.
+pub(crate) fn heard_with_length(x: ArrivalWithLength) -> Heard
+    ensures { λ r. ⌜ r ≡ heardWithLength x ⌝ }
+{
+    let arrival = x.arrival;
+    let sent = arrival.data;
+    let data = fill_short(sent, x.length);
+    Heard {
+        now_ms: arrival.now_ms,
+        pgn: arrival.pgn,
+        source_address: arrival.source_address,
+        data: data,
+    }
+}
