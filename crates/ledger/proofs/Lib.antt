@@ -1,10 +1,11 @@
-pub mod Batches
 pub mod Moves
 pub mod Shows
 pub mod Match
 pub mod Run
 pub mod Admission
+pub mod Start
 pub mod Received
+pub mod Rows
 pub mod Demand3
 pub mod Moments
 pub mod EveryFate

@@ -19,7 +19,7 @@ use Rattle.assembler.specs.Slots.{Slot, resetSlot}
 use Rattle.assembler.specs.Making.{freshPool}
 use Rattle.assembler.specs.View.{receiveOf}
 use Rattle.ledger.specs.Demand3.{Seen}
-use Rattle.ledger.specs.Runs.{Receive, State, newState, afterCall, receives, seenIn, received}
+use Rattle.ledger.specs.Runs.{Receive, State, start, afterCall, receives, seenIn, seenAfter}
 use Rattle.ledger.specs.Demand2.{Demand2, OneKind, NeverStores}
 use Rattle.ledger.proofs.EveryFate.{ran, frame, announces, goes-on}
 use Rattle.ledger.proofs.Trials.{pair, lastByte}
@@ -100,11 +100,11 @@ storesNothing =
       delivering = λ (f : Heard) (s : Slot). take (s .head .«expected_size») (s .buffer);
     }
 
-nothing-says : lastByte 0 (received (by storesNothing) 4 (pair 1 1) .said) ≡ 0
+nothing-says : lastByte 0 (seenAfter (by storesNothing) (freshPool 4) (pair 1 1) .said) ≡ 0
 unfolding ran pair announces goes-on frame by stepBy outcomeBy slotsBy markBy saidBy untouched storesNothing lastByte
 nothing-says = refl
 
-steps-say : lastByte 0 (received (receiveOf base) 4 (pair 1 1) .said) ≡ 1
+steps-say : lastByte 0 (seenAfter (receiveOf base) (freshPool 4) (pair 1 1) .said) ≡ 1
 unfolding ran pair announces goes-on frame lastByte
 steps-say = refl
 
@@ -116,5 +116,5 @@ runs-as-steps f meets z (c ∷ cs) = rw (meets (c .pgns) (c .heard) (z .pool) (z
 
 pub rejects-stores-nothing : Demand2 (by storesNothing) → ⊥
 rejects-stores-nothing meets =
-    let same : received (by storesNothing) 4 (pair 1 1) ≡ received (receiveOf base) 4 (pair 1 1) = unfold received in ap seenIn (runs-as-steps (by storesNothing) meets (newState 4) (pair 1 1)) in
+    let same : seenAfter (by storesNothing) (freshPool 4) (pair 1 1) ≡ seenAfter (receiveOf base) (freshPool 4) (pair 1 1) = unfold seenAfter in ap seenIn (runs-as-steps (by storesNothing) meets (start (freshPool 4)) (pair 1 1)) in
     omega (arith, ap (λ (s : Seen). lastByte 0 (s .said)) same, nothing-says, steps-say)

@@ -1,4 +1,3 @@
-pub mod Taken
 pub mod Ledger
 pub mod Demand3
 pub mod Runs

@@ -8,7 +8,6 @@ use Rattle.can_id.specs.Build.{buildOf, newIdBuilder, idWithPriority, idWithDes
 use Rattle.can_id.specs.declared.Destination.the-variants.{Nobody}
 use Rattle.builder.specs.Builder.{newBuilder}
 use Rattle.builder.specs.Next.{nextOf, frameOf, sentStep}
-use Rattle.session.specs.declared.Heard.{Heard}
 use Rattle.session.specs.declared.Counters.{Counters}
 use Rattle.session.specs.declared.Kind.the-variants.{Ignored, FragmentConsumed, MessageComplete}
 use Rattle.session.specs.Rules.{base}
