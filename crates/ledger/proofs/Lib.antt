@@ -13,3 +13,4 @@ pub mod Trials
 pub mod Parts
 pub mod Wrong
 pub mod TooLittle
+pub mod Keys
