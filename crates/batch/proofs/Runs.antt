@@ -17,6 +17,7 @@ use Rattle.session.specs.declared.Heard.{Heard}
 use Rattle.session.specs.declared.Head.{Head}
 use Rattle.session.specs.declared.Plan.{Plan}
 use Rattle.session.specs.declared.Counters.{Counters}
+use Rattle.session.specs.Kinds.{kindNumber}
 use Rattle.session.specs.Rules.{Rules, poolLimit}
 use Rattle.session.specs.declared.Kind.the-variants.{Ignored}
 use Rattle.session.specs.declared.Mark.{Mark}
@@ -34,7 +35,7 @@ use Rattle.assembler.proofs.Carries.{carried, Does, slot-long}
 use Rattle.batch.proofs.WayLaws.{shortPlan, runPlan}
 use Rattle.batch.specs.inner.Ways.{refusalOf}
 use Rattle.batch.specs.Lengths.{tooShort}
-use Rattle.batch.specs.Rows.{Rows, frameInRows, kindNumber, Run, emptyRun, took, answerIn, runFrom, runOf, BatchLeft, over, leaves, refusedBy, batchOf}
+use Rattle.batch.specs.Rows.{Rows, frameInRows, Run, emptyRun, took, answerIn, runFrom, runOf, BatchLeft, over, leaves, refusedBy, batchOf}
 
 -- ---- the bytes of a message, in the arena and as the answer has them
 
@@ -287,28 +288,28 @@ module _ (R : Rules) (l : List ℕ) (w : Rows) (p : Pool) (k : Counters) (ks₀ 
       no-bytes = sym (le-ltb (length ar) (used + 0) (omega (arith, h .room)))
 
       -- neither a slot nor a message
-      pub goes-missed : (k₁ : Mark) → Does f q c (idle Ignored k₁ (getD (q .heads) g e)) g (receiveOf R l f q c) → (m : Counters) → m ≡ raised k₁ c → Running (set ks i 0) (set ls i 0) ar q m used (i + 1)
+      pub goes-missed : (k₁ : Mark) → Does f q c (idle Ignored k₁ (getD (q .heads) g e)) g (receiveOf R l f q c) → (m : Counters) → m ≡ raised k₁ c → Running (set ks i 101) (set ls i 0) ar q m used (i + 1)
       unfolding idle kindNumber
       goes-missed k₁ does m em =
           rw (add-zero used) at
-          (goes-past lt f ef (idle Ignored k₁ (getD (q .heads) g e)) g does 0 refl false no-bytes refl low eight e (record { head = refl; count = refl; whole = refl }) ar (paste-zero ar used (drop 2 (f .«data»))) m em 0 refl)
+          (goes-past lt f ef (idle Ignored k₁ (getD (q .heads) g e)) g does 0 refl false no-bytes refl low eight e (record { head = refl; count = refl; whole = refl }) ar (paste-zero ar used (drop 2 (f .«data»))) m em 101 refl)
 
       -- a message in one frame
       pub goes-short : (n : ℕ) → Does f q c (shortPlan R f (getD (q .heads) g e) n) g (receiveOf R l f q c) → (b : Bool) → b ≡ ltb (length ar) (used + n) → b ≡ false
-          → (ar′ : List ℕ) → ar′ ≡ paste ar used (drop 2 (f .«data»)) n → Running (set ks i 2) (set ls i n) ar′ q c (used + n) (i + 1)
+          → (ar′ : List ℕ) → ar′ ≡ paste ar used (drop 2 (f .«data»)) n → Running (set ks i 103) (set ls i n) ar′ q c (used + n) (i + 1)
       unfolding shortPlan kindNumber raised
       goes-short n does b eb y ar′ ear =
-          goes-past lt f ef (shortPlan R f (getD (q .heads) g e) n) g does n (sym (zero-add n)) b eb y low eight e (record { head = refl; count = refl; whole = refl }) ar′ ear c refl 2 refl
+          goes-past lt f ef (shortPlan R f (getD (q .heads) g e) n) g does n (sym (zero-add n)) b eb y low eight e (record { head = refl; count = refl; whole = refl }) ar′ ear c refl 103 refl
 
       -- seven bytes more
       pub goes-running : Does f q c (runPlan R f (getD (q .heads) g e)) g (receiveOf R l f q c) → (t : Head) → t ≡ copiedHead f (getD (q .heads) g e)
           → (bs : List ℕ) → bs ≡ paste (q .bytes) (g * 223 + getD (q .heads) g e .«current_size») (drop 1 (f .«data»)) 7
-          → Running (set ks i 1) (set ls i 0) ar (record { size = q .size; heads = set (q .heads) g t; bytes = bs }) c used (i + 1)
+          → Running (set ks i 102) (set ls i 0) ar (record { size = q .size; heads = set (q .heads) g t; bytes = bs }) c used (i + 1)
       unfolding runPlan kindNumber raised
       goes-running does t et bs ebs =
           let laid-none : ar ≡ paste (paste ar used (drop (g * 223) bs) 0) used (drop 2 (f .«data»)) 0 = paste-zero ar used (drop (g * 223) bs) ∙ paste-zero (paste ar used (drop (g * 223) bs) 0) used (drop 2 (f .«data»)) in
           rw (add-zero used, ← et) at
-          (goes-on lt f ef (runPlan R f (getD (q .heads) g e)) g does 0 refl false no-bytes refl low eight (inl refl) bs ebs ar laid-none c refl 1 refl)
+          (goes-on lt f ef (runPlan R f (getD (q .heads) g e)) g does 0 refl false no-bytes refl low eight (inl refl) bs ebs ar laid-none c refl 102 refl)
 
       -- by any plan for a slot
       pub goes-by : (d : Plan) → Does f q c d g (receiveOf R l f q c) → d .short ≡ 0 → (b : Bool) → b ≡ ltb (length ar) (used + d .whole) → b ≡ false

@@ -13,6 +13,7 @@ use Rattle.session.specs.declared.Heard.{Heard}
 use Rattle.session.specs.declared.Head.{Head}
 use Rattle.session.specs.declared.Plan.{Plan}
 use Rattle.session.specs.declared.Counters.{Counters}
+use Rattle.session.specs.Kinds.{kindNumber}
 use Rattle.session.specs.Rules.{base, poolLimit}
 use Rattle.session.specs.Heads.{freshHead, copiedHead}
 use Rattle.session.specs.Counting.{raised}
@@ -21,7 +22,7 @@ use Rattle.assembler.specs.declared.Pool.{Pool}
 use Rattle.assembler.specs.Slots.{impossible}
 use Rattle.assembler.specs.View.{slotsOf, receiveOf}
 use Rattle.assembler.proofs.Carries.{Fits, Does}
-use Rattle.batch.specs.Rows.{Rows, frameInRows, kindNumber, BatchLeft, leaves, runOf}
+use Rattle.batch.specs.Rows.{Rows, frameInRows, BatchLeft, leaves, runOf}
 use Rattle.batch.specs.inner.Mirror.{InRange, Shows, Mirrors, frameKey, sought}
 use Rattle.batch.specs.inner.Ways.{shortIn, missMark, runsOn}
 use Rattle.batch.proofs.WayLaws.{runPlan}
@@ -47,7 +48,7 @@ module _ (l : List ℕ) (w : Rows) (p₀ : Pool) (k₀ : Counters) (ks₀ ls₀ 
 
     -- no slot
     module _ (past : poolLimit ≤ g) (n : ℕ) (en : n ≡ shortIn t f) where
-      pub step-missed : n ≡ 0 → (m : Counters) → m ≡ raised (missMark t f) c → Stands (set ks i 0) (set ls i 0) ar q keys owners lasts m used (i + 1)
+      pub step-missed : n ≡ 0 → (m : Counters) → m ≡ raised (missMark t f) c → Stands (set ks i 101) (set ls i 0) ar q keys owners lasts m used (i + 1)
       step-missed z m em =
           let does = seeks-missed l f q c (s .run .whole) long freshHead (s .possible) keys owners lasts (s .mirrors) (ek .1) t et key (ek .0) g eg past n en z in
           record {
@@ -62,7 +63,7 @@ module _ (l : List ℕ) (w : Rows) (p₀ : Pool) (k₀ : Counters) (ks₀ ls₀ 
             let does = seeks-short l f q c (s .run .whole) long freshHead (s .possible) keys owners lasts (s .mirrors) (ek .1) t et key (ek .0) g eg past n en some in
             stops-short base l w p₀ k₀ ks₀ ls₀ ar₀ ks ls ar q c used i (s .run) turn f row 0 (omega arith) long freshHead n does b eb y
 
-        pub step-short : b ≡ false → (ar′ : List ℕ) → ar′ ≡ paste ar used (drop 2 (f .«data»)) n → Stands (set ks i 2) (set ls i n) ar′ q keys owners lasts c (used + n) (i + 1)
+        pub step-short : b ≡ false → (ar′ : List ℕ) → ar′ ≡ paste ar used (drop 2 (f .«data»)) n → Stands (set ks i 103) (set ls i n) ar′ q keys owners lasts c (used + n) (i + 1)
         step-short y ar′ ear =
             let does = seeks-short l f q c (s .run .whole) long freshHead (s .possible) keys owners lasts (s .mirrors) (ek .1) t et key (ek .0) g eg past n en some in
             record {
@@ -82,7 +83,7 @@ module _ (l : List ℕ) (w : Rows) (p₀ : Pool) (k₀ : Counters) (ks₀ ls₀ 
         runs-fit = runs .fits .room
 
         pub step-running : (h : Head) → h ≡ copiedHead f (getD (q .heads) g e) → (bs : List ℕ) → bs ≡ paste (q .bytes) (g * 223 + getD (q .heads) g e .«current_size») (drop 1 (f .«data»)) 7
-            → Stands (set ks i 1) (set ls i 0) ar (record { size = q .size; heads = set (q .heads) g h; bytes = bs }) keys owners (set lasts g (f .«now_ms»)) c used (i + 1)
+            → Stands (set ks i 102) (set ls i 0) ar (record { size = q .size; heads = set (q .heads) g h; bytes = bs }) keys owners (set lasts g (f .«now_ms»)) c used (i + 1)
         step-running h eh bs ebs =
             record {
               run = goes-running base l w p₀ k₀ ks₀ ls₀ ar₀ ks ls ar q c used i (s .run) turn f row g low long e runs h eh bs ebs;

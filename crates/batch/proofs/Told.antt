@@ -1,4 +1,4 @@
--- No entry of a batch's kinds is a refusal's: a possible pool stays possible, so each is 0, 1 or 2. Assumes nothing.
+-- No entry of a batch's kinds is a refusal's: a possible pool stays possible, so each is 101, 102 or 103. Assumes nothing.
 use Prim.Native.Nat.{ℕ, zero, suc, _+_, _*_, _≤_, _<_}
 use mathlib.Core.Path.{_≡_, refl, ap, subst}
 use mathlib.Core.Bool.{Bool, true, false}
@@ -13,6 +13,7 @@ use Rattle.base.specs.Answer.{gives}
 use Rattle.session.specs.declared.Heard.{Heard}
 use Rattle.session.specs.declared.Plan.{Plan}
 use Rattle.session.specs.declared.Counters.{Counters}
+use Rattle.session.specs.Kinds.{kindNumber}
 use Rattle.session.specs.Rules.{base, poolLimit}
 use Rattle.session.specs.Heads.{freshHead}
 use Rattle.session.specs.inner.Search.{withinLimit}
@@ -23,16 +24,20 @@ use Rattle.assembler.specs.Step.{Said, ignored, consumed, complete, outcome, st
 use Rattle.assembler.specs.View.{slotsOf, replyKind, shown, receiveOf}
 use Rattle.assembler.proofs.Views.{Whole}
 use Rattle.assembler.proofs.Carries.{carried, Does, receives, slot-long}
-use Rattle.batch.specs.Rows.{Rows, frameInRows, kindNumber, Run, emptyRun, took, answerIn, runFrom, runOf}
+use Rattle.batch.specs.Rows.{Rows, frameInRows, Run, emptyRun, took, answerIn, runFrom, runOf}
 use Rattle.batch.proofs.Sought.{call-possible}
 
 -- ---- one answer
 
-said-kind : (s : Said) → kindNumber (replyKind (gives s)) < 3
+-- Ignored, FragmentConsumed or MessageComplete
+abbrev pub OfFrame : ℕ → Type 0
+OfFrame n = (101 ≤ n) × (n ≤ 103)
+
+said-kind : (s : Said) → OfFrame (kindNumber (replyKind (gives s)))
 unfolding kindNumber replyKind
-said-kind ignored = omega arith
-said-kind consumed = omega arith
-said-kind (complete bytes n) = omega arith
+said-kind ignored = (omega arith, omega arith)
+said-kind consumed = (omega arith, omega arith)
+said-kind (complete bytes n) = (omega arith, omega arith)
 
 limit : base .limit ≡ poolLimit
 unfolding base
@@ -47,7 +52,7 @@ within-low i = go (ltb i poolLimit) refl
     go false e = unfold pick in omega arith
 
 module _ (l : List ℕ) (f : Heard) (p : Pool) (k : Counters) where
-  answer-kind : impossible base (slotsOf p) ≡ false → kindNumber (receiveOf base l f p k .kind) < 3
+  answer-kind : impossible base (slotsOf p) ≡ false → OfFrame (kindNumber (receiveOf base l f p k .kind))
   unfolding receiveOf shown step
   answer-kind fine = rw fine (unfold stepIf outcome in said-kind _)
 
@@ -61,12 +66,12 @@ module _ (l : List ℕ) (f : Heard) (p : Pool) (k : Counters) where
 
 -- ---- all answers
 
--- every entry is below 3
+-- every entry is the kind of a frame's answer
 pub data Told : List ℕ → Type 0 where
   none : Told []
-  more : {n : ℕ} {l : List ℕ} → n < 3 → Told l → Told (n ∷ l)
+  more : {n : ℕ} {l : List ℕ} → OfFrame n → Told l → Told (n ∷ l)
 
-told-last : {l : List ℕ} (n : ℕ) → Told l → n < 3 → Told (l ++ (n ∷ []))
+told-last : {l : List ℕ} (n : ℕ) → Told l → OfFrame n → Told (l ++ (n ∷ []))
 told-last n none h = more h none
 told-last n (more a t) h = more a (told-last n t h)
 
@@ -98,7 +103,7 @@ module _ (l : List ℕ) (w : Rows) (bytes : (j : ℕ) → getD (w .bytes) j 0 < 
       go true r = t
       go false r = r
 
-  -- rows of bytes, a whole and possible pool: every kind is 0, 1 or 2
+  -- rows of bytes, a whole and possible pool: every kind is 101, 102 or 103
   pub told : (room : ℕ) (p : Pool) (k : Counters) → length (w .times) * 8 ≤ length (w .bytes) → Whole p → impossible base (slotsOf p) ≡ false → Told (runOf base l w room p k .kinds)
   unfolding runOf emptyRun
   told room p k long whole fine = told-from room (length (w .times)) 0 (emptyRun p k) (omega (arith, long)) whole fine none

@@ -7,8 +7,7 @@ use lib.Dec.{ltb}
 use Rattle.base.specs.Pick.{pick}
 use Rattle.session.specs.declared.Heard.{Heard}
 use Rattle.session.specs.declared.Counters.{Counters}
-use Rattle.session.specs.declared.Kind.{Kind}
-use Rattle.session.specs.declared.Kind.the-variants.{Refused, Ignored, FragmentConsumed, MessageComplete}
+use Rattle.session.specs.Kinds.{kindNumber}
 use Rattle.session.specs.Rules.{Rules}
 use Rattle.assembler.specs.declared.Pool.{Pool}
 use Rattle.assembler.specs.declared.Received.{Received}
@@ -32,14 +31,8 @@ frameInRows w i = record { «now_ms» = getD (w .times) i 0; pgn = getD (w .pgns
 
 -- ---- the run
 
--- how a row tells the answers apart; the pool is looked at before the first frame, so that none of them is a refusal
-unfoldable pub kindNumber : Kind → ℕ
-kindNumber Ignored = 0
-kindNumber FragmentConsumed = 1
-kindNumber MessageComplete = 2
-kindNumber (Refused n) = 3
-
--- the pool and counters that the frames so far left, the kinds and lengths of their answers, and their messages end to end
+-- the pool and counters that the frames so far left, the kinds and lengths of their answers, and their messages end to end; the pool is looked at before the
+-- first frame, so that no kind is a refusal
 pub record Run : Type 0 where
   pub pool : Pool
   pub counters : Counters

@@ -26,8 +26,11 @@ use crate::ways::short_in;
 use assembler::Pool;
 use fast_packet::is_listed;
 use session::Counters;
+use session::FRAGMENT_CONSUMED;
 use session::Head;
 use session::Heard;
+use session::IGNORED;
+use session::MESSAGE_COMPLETE;
 use session::POOL_LIMIT;
 use session::decide;
 
@@ -130,7 +133,7 @@ pub fn process_frames(
             let short = short_in(listed, heard);
             if short == 0 {
                 c = missed(c, listed, heard);
-                kinds[i] = 0;
+                kinds[i] = IGNORED;
                 lengths[i] = 0;
                 i += 1;
                 continue;
@@ -145,7 +148,7 @@ pub fn process_frames(
                 };
             }
             deliver_short(arena, used, frame, short);
-            kinds[i] = 2;
+            kinds[i] = MESSAGE_COMPLETE;
             lengths[i] = short as u8;
             used += short;
             i += 1;
@@ -157,7 +160,7 @@ pub fn process_frames(
             q.heads[g] = ran_on(h, heard);
             lasts[g] = heard.now_ms;
             keep(&mut q.bytes, g, h.current_size, frame);
-            kinds[i] = 1;
+            kinds[i] = FRAGMENT_CONSUMED;
             lengths[i] = 0;
             i += 1;
             continue;

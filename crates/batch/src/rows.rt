@@ -2,9 +2,13 @@
 ghost use mathlib.Core.Path.{_≡_};
 ghost use Prim.Native.Nat.{_+_, _*_, _<_, _≤_};
 ghost use lib.ListN.{length, take, drop};
-ghost use Rattle.batch.specs.Rows.{frameInRows, kindNumber};
+ghost use Rattle.batch.specs.Rows.{frameInRows};
+ghost use Rattle.session.specs.Kinds.{kindNumber};
+use session::FRAGMENT_CONSUMED;
 use session::Heard;
+use session::IGNORED;
 use session::Kind;
+use session::MESSAGE_COMPLETE;
 
 fn eight(data: &[u8], at: usize) -> [u8; 8]
     requires { ⌜ at + 8 ≤ length (now «data») ⌝ }
@@ -36,9 +40,9 @@ pub(crate) fn number_of(kind: Kind) -> u8
     ensures { λ r. ⌜ r ≡ kindNumber kind ⌝ }
 {
     match kind {
-        Kind::Ignored => 0,
-        Kind::FragmentConsumed => 1,
-        Kind::MessageComplete => 2,
-        Kind::Refused(_) => 3,
+        Kind::Ignored => IGNORED,
+        Kind::FragmentConsumed => FRAGMENT_CONSUMED,
+        Kind::MessageComplete => MESSAGE_COMPLETE,
+        Kind::Refused(number) => number,
     }
 }

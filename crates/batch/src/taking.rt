@@ -7,7 +7,7 @@ ghost use Rattle.fast_packet.specs.FastPacket.{maxPayload};
 ghost use Rattle.session.specs.Rules.{poolLimit};
 ghost use Rattle.session.specs.Counting.{raised};
 ghost use Rattle.assembler.specs.Making.{poolBytes};
-ghost use Rattle.batch.specs.Rows.{kindNumber};
+ghost use Rattle.session.specs.Kinds.{kindNumber};
 use crate::bytes::carry;
 use crate::rows::number_of;
 use assembler::POOL_BYTES;

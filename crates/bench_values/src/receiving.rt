@@ -4,7 +4,7 @@ use assembler::Pool;
 use assembler::Received;
 use assembler::receive;
 use session::Counters;
-use session::Heard;
+use assembler::Arrival;
 use session::Kind;
 
 const PGN: u32 = 127489;
@@ -20,8 +20,8 @@ pub(crate) fn no_counts() -> Counters {
 }
 
 // A first frame that announces seven bytes.
-fn first_frame(now_ms: u64, source_address: u8) -> Heard {
-    Heard {
+fn first_frame(now_ms: u64, source_address: u8) -> Arrival {
+    Arrival {
         now_ms: now_ms,
         pgn: PGN,
         source_address: source_address,
@@ -44,8 +44,8 @@ fn show_counts(c: Counters) {
     say::counted(b" expired_sessions ", c.expired_sessions as u64);
 }
 
-fn show(pool: Pool, counters: Counters, heard: Heard) {
-    let r = receive(pool, counters, &[PGN], heard);
+fn show(pool: Pool, counters: Counters, arrival: Arrival) {
+    let r = receive(pool, counters, &[PGN], arrival);
     let kind = r.kind;
     let c = r.counters;
     show_kind(kind);

@@ -7,7 +7,8 @@ use native.Mathlib.Omega.{arith}
 use borrow.Author.Tests.{eq-eqb, ne-eqb}
 use lib.ListN.{length}
 use Rattle.base.specs.Pick.{pick}
-use Rattle.builder.specs.Laid.{headerOf, indexAfter, laidOf}
+use Rattle.builder.specs.FrameBytes.{headerOf, indexAfter}
+use Rattle.builder.specs.inner.Laid.{laidOf}
 use Rattle.builder.specs.inner.Placed.{laidAt}
 use Rattle.builder.specs.declared.frame_bytes.Laid.{Laid}
 

@@ -15,10 +15,10 @@ use Rattle.can_id.specs.declared.CanId.{CanId}
 use Rattle.can_id.specs.declared.CanIdBuildError.{CanIdBuildError}
 use Rattle.can_id.specs.declared.Destination.{Destination}
 use Rattle.fast_packet.specs.FastPacket.{listedIn, maxPayload}
-use Rattle.builder.specs.Laid.{laidOf}
+use Rattle.builder.specs.inner.Laid.{laidOf, laidStep}
 use Rattle.builder.specs.declared.frame_bytes.Laid.{Laid}
 use Rattle.builder.specs.Builder.{newBuilder, idBuilder}
-use Rattle.builder.specs.Next.{Step, laidStep, endStep, refusedStep, framedStep, builtStep, nextOf}
+use Rattle.builder.specs.Next.{Step, endStep, refusedStep, framedStep, builtStep, nextOf}
 use Rattle.builder.specs.declared.FastPacketBuilder.{FastPacketBuilder}
 
 -- ---- a new builder, as the code comes by its framing

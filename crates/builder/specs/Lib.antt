@@ -1,4 +1,4 @@
-pub mod Laid
+pub mod FrameBytes
 pub mod inner
 pub mod Builder
 pub mod Next

@@ -2,7 +2,8 @@
 ghost use mathlib.Core.Path.{_≡_};
 ghost use Prim.Native.Nat.{_-_, _%_, _≤_, min};
 ghost use lib.ListN.{drop, replicate};
-ghost use Rattle.builder.specs.Laid.{headerOf, indexAfter, laidOf};
+ghost use Rattle.builder.specs.FrameBytes.{headerOf, indexAfter};
+ghost use Rattle.builder.specs.inner.Laid.{laidOf};
 ghost use Rattle.builder.specs.inner.Placed.{headed, laidAt};
 use fast_packet::FILL;
 

@@ -2,7 +2,8 @@
 ghost use mathlib.Core.Path.{_≡_};
 ghost use Rattle.can_id.specs.Build.{ofBuilt, buildOf, errorNumber, errorCarries};
 ghost use Rattle.builder.specs.Builder.{newBuilder, withSequence, withPriority, withDestination, idBuilder};
-ghost use Rattle.builder.specs.Next.{noFrame, laidStep, ofNext, nextOf, endStep, refusedStep, framedStep};
+ghost use Rattle.builder.specs.Next.{noFrame, ofNext, nextOf, endStep, refusedStep, framedStep};
+ghost use Rattle.builder.specs.inner.Laid.{laidStep};
 ghost use Rattle.builder.specs.Frames.{started, turnOf, nextTurn};
 
 mod frame_bytes;

@@ -5,7 +5,7 @@ use assembler::Pool;
 use assembler::Received;
 use assembler::receive;
 use session::Counters;
-use session::Heard;
+use assembler::Arrival;
 use session::Kind;
 
 struct Gateway {
@@ -54,8 +54,8 @@ fn show_frame(now_ms: u64, source: u8, sequence: u8, index: u8) {
     say::text(b": ");
 }
 
-fn heard_frame(now_ms: u64, source: u8, sequence: u8, index: u8, hours: u32) -> Heard {
-    Heard {
+fn arrived_frame(now_ms: u64, source: u8, sequence: u8, index: u8, hours: u32) -> Arrival {
+    Arrival {
         now_ms: now_ms,
         pgn: engine::PGN,
         source_address: source,
@@ -63,10 +63,10 @@ fn heard_frame(now_ms: u64, source: u8, sequence: u8, index: u8, hours: u32) -> 
     }
 }
 
-fn received(g: Gateway, heard: Heard) -> Received {
+fn received(g: Gateway, arrival: Arrival) -> Received {
     let pool = g.pool;
     let counters = g.counters;
-    receive(pool, counters, &[engine::PGN], heard)
+    receive(pool, counters, &[engine::PGN], arrival)
 }
 
 fn after(r: Received) -> Gateway {
@@ -81,7 +81,7 @@ fn after(r: Received) -> Gateway {
 // One frame of an engine record is heard.
 fn hear(g: Gateway, now_ms: u64, source: u8, sequence: u8, index: u8, hours: u32) -> Gateway {
     show_frame(now_ms, source, sequence, index);
-    let r = received(g, heard_frame(now_ms, source, sequence, index, hours));
+    let r = received(g, arrived_frame(now_ms, source, sequence, index, hours));
     show_answer(r);
     after(r)
 }

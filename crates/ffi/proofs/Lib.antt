@@ -1,4 +1,5 @@
 pub mod Rows
 pub mod Laws
 pub mod Leaves
+pub mod BenchLaws
 pub mod Unique

@@ -2,30 +2,27 @@
 use Prim.Native.Nat.{ℕ}
 use mathlib.Core.Bool.{Bool}
 use mathlib.Core.List.{List}
-use mathlib.Core.Path.{_≡_}
+use mathlib.Core.Path.{_≡_, ap, _∙_}
+use Rattle.base.specs.Answer.{Answer, counted}
 use Rattle.base.proofs.Cases.{determined}
-use Rattle.can_id.specs.Layout.{priorityOf, pgnOf, destinationOf, sourceOf}
-use Rattle.can_id.specs.Build.{buildOf}
-use Rattle.can_id.specs.declared.CanIdBuilder.{CanIdBuilder}
-use Rattle.builder.specs.Next.{Step}
-use Rattle.builder.specs.declared.FastPacketBuilder.{FastPacketBuilder}
-use Rattle.builder.specs.declared.FrameIterator.{FrameIterator}
-use Rattle.builder.specs.declared.MadeBuilder.{MadeBuilder as Begun}
+use Rattle.can_id.specs.Layout.{priorityOf, pgnOf, sourceOf}
 use Rattle.fast_packet.specs.FastPacket.{listedIn, filledFrom}
-use Rattle.assembler.specs.declared.MadePool.{MadePool}
-use Rattle.assembler.specs.declared.Received.{Received}
-use Rattle.base.specs.Answer.{Answer}
-use Rattle.batch.specs.Rows.{BatchLeft as Rowed}
-use Rattle.oracle.specs.Strict.{BenchMessage}
+use Rattle.assembler.specs.declared.Arrival.{Arrival}
+use Rattle.assembler.specs.declared.ArrivalWithLength.{ArrivalWithLength}
+use Rattle.batch.specs.Rows.{Rows}
+use Rattle.oracle.specs.Rows.{rowIn}
+use Rattle.oracle.specs.Strict.{deliveredTo}
+use Rattle.oracle.specs.Check.{checkTxOf}
 use Rattle.splitter.specs.Frames.{countIn}
-use Rattle.splitter.specs.declared.Frame.{Frame}
-use Rattle.ffi.specs.Batches.{LeftBy}
-use Rattle.numbers.specs.Fives.{fiveOf}
-use Rattle.ffi.specs.BenchEntries.{Reassembles, Splits}
-use Rattle.numbers.specs.Pool.{CallLeft, MadeAs}
-use Rattle.ffi.specs.Ids.{readParts}
-use Rattle.numbers.specs.Numbers.{addressOf, codeOf, valueOf}
-use Rattle.numbers.specs.Frames.{builderNumbers, heldAfter, madeNumbers, placeNumbers, NextLeft}
+use Rattle.numbers.specs.Fives.{ToldInFive}
+use Rattle.numbers.specs.Numbers.{Answered}
+use Rattle.numbers.specs.Pool.{CallMemory, PoolMemory}
+use Rattle.numbers.proofs.Unique.{leave-unique, leave-made-unique}
+use Rattle.ffi.specs.Ids.{readDestination, readParts, PartsBuilt, SetBuilt, BothBuilt}
+use Rattle.ffi.specs.Frames.{NewBuilderLeft, sequenceSet, prioritySet, destinationSet, startedPlace, FrameMemory, NextFrameLeft, TurnLeft}
+use Rattle.ffi.specs.Calls.{NewPoolLeft, DefaultPoolLeft, FrameLeft, FrameWithLengthLeft}
+use Rattle.ffi.specs.Batches.{BatchMemory, FramesLeft}
+use Rattle.ffi.specs.BenchEntries.{ReassemblesInNumbers, SplitsInNumbers, ChecksTxInNumbers}
 
 -- a number returned, and memory lent out
 both : {A B : Type 0} {x r s : A} {y v w : B} → (r ≡ x) × (v ≡ y) → (s ≡ x) × (w ≡ y) → (r ≡ s) × (v ≡ w)
@@ -39,7 +36,7 @@ module _ (id r s : ℕ) where
   pub hf-can-id-pgn-unique : r ≡ pgnOf id → s ≡ pgnOf id → r ≡ s
   hf-can-id-pgn-unique = determined
 
-  pub hf-can-id-destination-unique : r ≡ addressOf (destinationOf id) → s ≡ addressOf (destinationOf id) → r ≡ s
+  pub hf-can-id-destination-unique : r ≡ readDestination id → s ≡ readDestination id → r ≡ s
   hf-can-id-destination-unique = determined
 
   pub hf-can-id-source-address-unique : r ≡ sourceOf id → s ≡ sourceOf id → r ≡ s
@@ -48,24 +45,58 @@ module _ (id r s : ℕ) where
 pub hf-can-id-parts-unique : (id : ℕ) (r s : List ℕ) → r ≡ readParts id → s ≡ readParts id → r ≡ s
 hf-can-id-parts-unique id r s = determined
 
--- of whatever builder: `partsOf`, `setOf` or `bothOf` of the entry's numbers
-pub hf-can-id-build-unique : (b : CanIdBuilder) (r s v w : ℕ) → (r ≡ codeOf (buildOf b)) × (v ≡ valueOf (buildOf b)) → (s ≡ codeOf (buildOf b)) × (w ≡ valueOf (buildOf b)) → (r ≡ s) × (v ≡ w)
-hf-can-id-build-unique b r s v w = both
+-- a refusal's number or 0, and what is given or carried
+answers : {a : Answer ℕ} {r s v w : ℕ} → Answered a r v → Answered a s w → (r ≡ s) × (v ≡ w)
+answers p q = (determined (p .told) (q .told), determined (p .given) (q .given))
+
+module _ (pgn source priority destination r s v w : ℕ) where
+  pub hf-can-id-build-unique : PartsBuilt priority pgn source destination r v → PartsBuilt priority pgn source destination s w → (r ≡ s) × (v ≡ w)
+  hf-can-id-build-unique = answers
+
+  pub hf-can-id-build-with-unique : SetBuilt pgn source priority destination r v → SetBuilt pgn source priority destination s w → (r ≡ s) × (v ≡ w)
+  hf-can-id-build-with-unique = answers
+
+  pub hf-can-id-build-to-unique : BothBuilt pgn source priority destination r v → BothBuilt pgn source priority destination s w → (r ≡ s) × (v ≡ w)
+  hf-can-id-build-to-unique = answers
 
 -- ---- frames
-pub hf-builder-new-unique : (m : Begun) (r s : ℕ) (v w : List ℕ) → (r ≡ heldAfter m) × (v ≡ madeNumbers m) → (s ≡ heldAfter m) × (w ≡ madeNumbers m) → (r ≡ s) × (v ≡ w)
-hf-builder-new-unique m r s v w = both
+pub hf-builder-new-unique : (pgn source destination : ℕ) (payload pgns : List ℕ) (held r s : ℕ) (v w : List ℕ)
+    → NewBuilderLeft pgn source destination payload pgns held r v → NewBuilderLeft pgn source destination payload pgns held s w → (r ≡ s) × (v ≡ w)
+hf-builder-new-unique pgn source destination payload pgns held r s v w p q = (determined (p .told) (q .told), determined (p .made) (q .made))
 
--- of whatever builder: `withSequence`, `withPriority` or `withDestination` of the entry's numbers
-pub hf-builder-set-unique : (b : FastPacketBuilder) (v w : List ℕ) → v ≡ builderNumbers b → w ≡ builderNumbers b → v ≡ w
-hf-builder-set-unique b v w = determined
+module _ (builder v w : List ℕ) where
+  pub hf-builder-with-sequence-id-unique : (x : ℕ) → v ≡ sequenceSet builder x → w ≡ sequenceSet builder x → v ≡ w
+  hf-builder-with-sequence-id-unique x = determined
 
-pub hf-builder-build-unique : (t : FrameIterator) (v w : List ℕ) → v ≡ placeNumbers t → w ≡ placeNumbers t → v ≡ w
-hf-builder-build-unique t v w = determined
+  pub hf-builder-with-priority-unique : (x : ℕ) → v ≡ prioritySet builder x → w ≡ prioritySet builder x → v ≡ w
+  hf-builder-with-priority-unique x = determined
 
--- `t` is `nextWith` or `turnWith` of the entry's numbers, and `x` is `stepAfter` of it, or `placeLaid` over the place: what is returned, the bytes, the numbers and the place
-pub hf-next-frame-unique : (t : Step) (x : List ℕ) (r s : ℕ) (v w p q b c : List ℕ) → NextLeft t r v p × (b ≡ x) → NextLeft t s w q × (c ≡ x) → (r ≡ s) × (v ≡ w) × (p ≡ q) × (b ≡ c)
-hf-next-frame-unique t x r s v w p q b c (h, f) (k, g) = (determined (h .told) (k .told), determined (h .filled) (k .filled), determined (h .named) (k .named), determined f g)
+  pub hf-builder-to-destination-unique : (x : ℕ) → v ≡ destinationSet builder x → w ≡ destinationSet builder x → v ≡ w
+  hf-builder-to-destination-unique x = determined
+
+  pub hf-builder-build-unique : v ≡ startedPlace builder → w ≡ startedPlace builder → v ≡ w
+  hf-builder-build-unique = determined
+
+-- lent memory whose parts are equal is equal
+frames-same : (a b : FrameMemory) → a .bytes ≡ b .bytes → a .numbers ≡ b .numbers → a .place ≡ b .place → a ≡ b
+frames-same a b x y z =
+    ap (λ (u : List ℕ). record { bytes = u; numbers = a .numbers; place = a .place }) x
+    ∙ ap (λ (u : List ℕ). record { bytes = b .bytes; numbers = u; place = a .place }) y
+    ∙ ap (λ (u : List ℕ). record { bytes = b .bytes; numbers = b .numbers; place = u }) z
+
+pub hf-next-frame-unique : (builder : List ℕ) (index sent : ℕ) (payload : List ℕ) (r s : ℕ) (a b : FrameMemory)
+    → NextFrameLeft builder index sent payload r a → NextFrameLeft builder index sent payload s b → (r ≡ s) × (a ≡ b)
+hf-next-frame-unique builder index sent payload r s a b p q = (
+  determined (p .asked .told) (q .asked .told),
+  frames-same a b (determined (p .asked .filled) (q .asked .filled)) (determined (p .asked .named) (q .asked .named)) (determined (p .follows) (q .follows)),
+)
+
+pub hf-frame-iterator-next-unique : (builder payload place : List ℕ) (r s : ℕ) (a b : FrameMemory)
+    → TurnLeft builder payload place r a → TurnLeft builder payload place s b → (r ≡ s) × (a ≡ b)
+hf-frame-iterator-next-unique builder payload place r s a b p q = (
+  determined (p .asked .told) (q .asked .told),
+  frames-same a b (determined (p .asked .filled) (q .asked .filled)) (determined (p .asked .named) (q .asked .named)) (determined (p .goes-on) (q .goes-on)),
+)
 
 -- ---- the list and the filling
 pub hf-is-listed-unique : (pgn : ℕ) (pgns : List ℕ) (r s : Bool) → r ≡ listedIn pgn pgns → s ≡ listedIn pgn pgns → r ≡ s
@@ -77,45 +108,62 @@ hf-fill-short-unique len bytes r s = determined
 pub hf-handles-unique : (pgn : ℕ) (pgns : List ℕ) (r s : Bool) → r ≡ listedIn pgn pgns → s ≡ listedIn pgn pgns → r ≡ s
 hf-handles-unique pgn pgns r s = determined
 
--- ---- the receive call: what is returned, the heads, the bytes, the counters, the payload and the length
--- `r` is `calledWith` or `calledWithLength` of the entry's numbers
-pub hf-process-frame-unique : (r : Received) (old was : List ℕ) (a b : ℕ) (h i j k c d p q : List ℕ) (l m : ℕ)
-    → CallLeft r old was a h j c p l → CallLeft r old was b i k d q m
-    → (a ≡ b) × (h ≡ i) × (j ≡ k) × (c ≡ d) × (p ≡ q) × (l ≡ m)
-hf-process-frame-unique r old was a b h i j k c d p q l m x y =
-    (determined (x .told) (y .told), determined (x .kept) (y .kept), determined (x .stored) (y .stored), determined (x .counted) (y .counted), determined (x .delivered) (y .delivered), determined (x .measured) (y .measured))
+-- ---- the pool and the receive calls: what is returned, and all that was lent
+pub hf-pool-new-unique : (wanted : ℕ) (before : PoolMemory) (r s : ℕ) (a b : PoolMemory) → NewPoolLeft wanted before r a → NewPoolLeft wanted before s b → (r ≡ s) × (a ≡ b)
+hf-pool-new-unique wanted before r s a b = leave-made-unique _ before r s a b
 
--- `n` is `madeOf` of the size wanted, or the default pool: what is returned, the heads, the bytes and the size
-pub hf-pool-new-unique : (n : MadePool) (old was : List ℕ) (a b : ℕ) (h i j k : List ℕ) (l m : ℕ)
-    → MadeAs n old was a h j l → MadeAs n old was b i k m → (a ≡ b) × (h ≡ i) × (j ≡ k) × (l ≡ m)
-hf-pool-new-unique n old was a b h i j k l m x y =
-    (determined (x .told) (y .told), determined (x .kept) (y .kept), determined (x .stored) (y .stored), determined (x .sized) (y .sized))
+pub hf-pool-default-unique : (before : PoolMemory) (r s : ℕ) (a b : PoolMemory) → DefaultPoolLeft before r a → DefaultPoolLeft before s b → (r ≡ s) × (a ≡ b)
+hf-pool-default-unique before r s a b = leave-made-unique _ before r s a b
 
--- `l` is `batchWith` of the entry's numbers: what is returned, heads, bytes, counters, kinds, lengths, arena and counts
-pub hf-process-frames-unique : (l : Rowed) (old : List ℕ) (a b : ℕ) (h i j k c d m n o p q r s t : List ℕ)
-    → LeftBy l old a h j c m o q s → LeftBy l old b i k d n p r t
-    → (a ≡ b) × (h ≡ i) × (j ≡ k) × (c ≡ d) × (m ≡ n) × (o ≡ p) × (q ≡ r) × (s ≡ t)
-hf-process-frames-unique l old a b h i j k c d m n o p q r s t x y =
-    let u = x .pool in
-    let v = y .pool in
-    (determined (u .told) (v .told), determined (u .kept) (v .kept), determined (u .stored) (v .stored), determined (u .counted) (v .counted), determined (x .answered) (y .answered), determined (x .measured) (y .measured), determined (x .delivered) (y .delivered), determined (u .taken) (v .taken))
+module _ (size : ℕ) (pgns : List ℕ) (before : CallMemory) (r s : ℕ) (a b : CallMemory) where
+  -- of `hf_receive` too
+  pub hf-process-frame-unique : (arrival : Arrival) → FrameLeft size pgns arrival before r a → FrameLeft size pgns arrival before s b → (r ≡ s) × (a ≡ b)
+  hf-process-frame-unique arrival = leave-unique _ before r s a b
+
+  pub hf-process-frame-with-length-unique : (x : ArrivalWithLength)
+      → FrameWithLengthLeft size pgns x before r a → FrameWithLengthLeft size pgns x before s b → (r ≡ s) × (a ≡ b)
+  hf-process-frame-with-length-unique x = leave-unique _ before r s a b
+
+batches-same : (a b : BatchMemory) → a .heads ≡ b .heads → a .bytes ≡ b .bytes → a .counters ≡ b .counters → a .kinds ≡ b .kinds → a .lengths ≡ b .lengths → a .arena ≡ b .arena → a .counts ≡ b .counts → a ≡ b
+batches-same a b h y c k l r t =
+    ap (λ (x : List ℕ). record { heads = x; bytes = a .bytes; counters = a .counters; kinds = a .kinds; lengths = a .lengths; arena = a .arena; counts = a .counts }) h
+    ∙ ap (λ (x : List ℕ). record { heads = b .heads; bytes = x; counters = a .counters; kinds = a .kinds; lengths = a .lengths; arena = a .arena; counts = a .counts }) y
+    ∙ ap (λ (x : List ℕ). record { heads = b .heads; bytes = b .bytes; counters = x; kinds = a .kinds; lengths = a .lengths; arena = a .arena; counts = a .counts }) c
+    ∙ ap (λ (x : List ℕ). record { heads = b .heads; bytes = b .bytes; counters = b .counters; kinds = x; lengths = a .lengths; arena = a .arena; counts = a .counts }) k
+    ∙ ap (λ (x : List ℕ). record { heads = b .heads; bytes = b .bytes; counters = b .counters; kinds = b .kinds; lengths = x; arena = a .arena; counts = a .counts }) l
+    ∙ ap (λ (x : List ℕ). record { heads = b .heads; bytes = b .bytes; counters = b .counters; kinds = b .kinds; lengths = b .lengths; arena = x; counts = a .counts }) r
+    ∙ ap (λ (x : List ℕ). record { heads = b .heads; bytes = b .bytes; counters = b .counters; kinds = b .kinds; lengths = b .lengths; arena = b .arena; counts = x }) t
+
+pub hf-process-frames-unique : (size : ℕ) (pgns : List ℕ) (rows : Rows) (before : BatchMemory) (r s : ℕ) (a b : BatchMemory)
+    → FramesLeft size pgns rows before r a → FramesLeft size pgns rows before s b → (r ≡ s) × (a ≡ b)
+hf-process-frames-unique size pgns rows before r s a b p q = (
+  determined (p .told) (q .told),
+  batches-same a b (determined (p .kept) (q .kept)) (determined (p .stored) (q .stored)) (determined (p .counted) (q .counted)) (determined (p .answered) (q .answered)) (determined (p .measured) (q .measured)) (determined (p .delivered) (q .delivered)) (determined (p .taken) (q .taken)),
+)
 
 -- ---- the bench
--- `w` is `reassembledIn` of the entry's rows: what is returned, the five numbers, the list and the arena
-pub hf-reassemble-unique : (w : Answer (List BenchMessage)) (list arena : List ℕ) (a b : ℕ) (v x l m n o : List ℕ)
-    → Reassembles w a v l list n arena → Reassembles w b x m list o arena → (a ≡ b) × (v ≡ x) × (l ≡ m) × (n ≡ o)
-hf-reassemble-unique w list arena a b v x l m n o p q =
-    (determined (p .told) (q .told), determined (p .carried) (q .carried), determined (p .listed) (q .listed), determined (p .laid) (q .laid))
+five-unique : (a : Answer ℕ) {r s : ℕ} {v w : List ℕ} → ToldInFive a r v → ToldInFive a s w → (r ≡ s) × (v ≡ w)
+five-unique a p q = (determined (p .told) (q .told), determined (p .carried) (q .carried))
 
--- `w` is `splitIn` of the entry's rows: what is returned, the number of frames and the three rows
-pub hf-fast-packet-frames-unique : (w : Answer (List Frame)) (ids bytes lens : List ℕ) (a b f g : ℕ) (i j k l m n : List ℕ)
-    → Splits w a f i ids k bytes m lens → Splits w b g j ids l bytes n lens → (a ≡ b) × (f ≡ g) × (i ≡ j) × (k ≡ l) × (m ≡ n)
-hf-fast-packet-frames-unique w ids bytes lens a b f g i j k l m n p q =
-    (determined (p .told) (q .told), determined (p .given) (q .given), determined (p .named) (q .named), determined (p .filled) (q .filled), determined (p .measured) (q .measured))
+-- what is returned, the list, the arena and the five numbers
+pub hf-reassemble-unique : (ids bytes lens : List ℕ) (source pgn : ℕ) (list arena : List ℕ) {a b : ℕ} {l m n o v x : List ℕ}
+    → ReassemblesInNumbers ids bytes lens source pgn list arena a l n v → ReassemblesInNumbers ids bytes lens source pgn list arena b m o x
+    → (a ≡ b) × (l ≡ m) × (n ≡ o) × (v ≡ x)
+hf-reassemble-unique ids bytes lens source pgn list arena p q =
+    let e = five-unique (counted (deliveredTo list arena (rowIn ids bytes lens) source pgn)) (p .answer) (q .answer) in
+    (e .0, determined (p .listed) (q .listed), determined (p .laid) (q .laid), e .1)
+
+-- what is returned, the three rows and the number of frames
+pub hf-fast-packet-frames-unique : (id sequence : ℕ) (payload ids bytes lens : List ℕ) {a b : ℕ} {i j k l m n : List ℕ} {f g : ℕ}
+    → SplitsInNumbers id sequence payload ids bytes lens a i k m f → SplitsInNumbers id sequence payload ids bytes lens b j l n g
+    → (a ≡ b) × (i ≡ j) × (k ≡ l) × (m ≡ n) × (f ≡ g)
+hf-fast-packet-frames-unique id sequence payload ids bytes lens p q =
+    (determined (p .told) (q .told), determined (p .named) (q .named), determined (p .filled) (q .filled), determined (p .measured) (q .measured), determined (p .given) (q .given))
 
 pub hf-frame-count-unique : (ids bytes lens r s : ℕ) → r ≡ countIn ids bytes lens → s ≡ countIn ids bytes lens → r ≡ s
 hf-frame-count-unique ids bytes lens r s = determined
 
--- `w` is `checkTxOf` of the entry's rows
-pub hf-check-tx-unique : (w : Answer ℕ) (a b : ℕ) (v x : List ℕ) → (a ≡ codeOf w) × (v ≡ fiveOf w) → (b ≡ codeOf w) × (x ≡ fiveOf w) → (a ≡ b) × (v ≡ x)
-hf-check-tx-unique w a b v x = both
+-- what is returned and the five numbers
+pub hf-check-tx-unique : (ids bytes lens : List ℕ) (source expected base : ℕ) {a b : ℕ} {v x : List ℕ}
+    → ChecksTxInNumbers ids bytes lens source expected base a v → ChecksTxInNumbers ids bytes lens source expected base b x → (a ≡ b) × (v ≡ x)
+hf-check-tx-unique ids bytes lens source expected base = five-unique (checkTxOf (rowIn ids bytes lens) source expected base)

@@ -2,26 +2,37 @@
 use Prim.Native.Nat.{ℕ}
 use mathlib.Core.List.{List, [], _∷_}
 use mathlib.Core.Path.{_≡_}
-use Rattle.session.specs.Rules.{base}
+use Rattle.assembler.specs.declared.Pool.{Pool}
+use Rattle.assembler.specs.Promises.{rulesOf}
 use Rattle.batch.specs.Rows.{Rows, BatchLeft, batchOf}
-use Rattle.batch.specs.declared.Batch.{Batch}
-use Rattle.numbers.specs.Pool.{laid, poolFrom, countersFrom, counterNumbers}
+use Rattle.numbers.specs.Pool.{laidOver, poolFrom, countersFrom, counterNumbers}
 
--- what the answer leaves: what is returned, the lent heads (which were `old`), bytes and counters, and how many frames and arena bytes were taken
-pub record LeftPool (r : Batch) (old : List ℕ) (code : ℕ) (heads bytes counters counts : List ℕ) : Type 0 where
-  pub told : code ≡ r .refused
-  pub kept : heads ≡ laid 8 (r .pool .heads) old
-  pub stored : bytes ≡ r .pool .bytes
-  pub counted : counters ≡ counterNumbers (r .counters)
-  pub taken : counts ≡ r .taken ∷ r .used ∷ []
+-- the memory that a caller lends; `counts` is how many frames were taken and how many bytes of the arena
+pub record BatchMemory : Type 0 where
+  pub heads : List ℕ
+  pub bytes : List ℕ
+  pub counters : List ℕ
+  pub kinds : List ℕ
+  pub lengths : List ℕ
+  pub arena : List ℕ
+  pub counts : List ℕ
 
--- and beside it the rows
-pub record LeftBy (l : BatchLeft) (old : List ℕ) (code : ℕ) (heads bytes counters kinds lengths arena counts : List ℕ) : Type 0 where
-  pub pool : LeftPool (l .answer) old code heads bytes counters counts
-  pub answered : kinds ≡ l .kinds
-  pub measured : lengths ≡ l .lengths
-  pub delivered : arena ≡ l .arena
+-- what the batch leaves: what is returned, and that memory, from what it was before
+pub record BatchMemoryLeft (l : BatchLeft) (before : BatchMemory) (code : ℕ) (after : BatchMemory) : Type 0 where
+  pub told : code ≡ l .answer .refused
+  pub kept : after .heads ≡ laidOver (before .heads) (l .answer .pool .heads)
+  pub stored : after .bytes ≡ l .answer .pool .bytes
+  pub counted : after .counters ≡ counterNumbers (l .answer .counters)
+  pub answered : after .kinds ≡ l .kinds
+  pub measured : after .lengths ≡ l .lengths
+  pub delivered : after .arena ≡ l .arena
+  pub taken : after .counts ≡ l .answer .taken ∷ l .answer .used ∷ []
 
-unfoldable pub batchWith : ℕ → List ℕ → List ℕ → List ℕ → List ℕ → Rows → List ℕ → List ℕ → List ℕ → BatchLeft
-batchWith size heads bytes counters pgns rows kinds lengths arena =
-    batchOf base pgns rows (poolFrom size heads bytes) (countersFrom counters) kinds lengths arena
+unfoldable pub batchIn : ℕ → List ℕ → Rows → BatchMemory → BatchLeft
+batchIn size pgns rows before =
+    let p : Pool = poolFrom size (before .heads) (before .bytes) in
+    batchOf (rulesOf p) pgns rows p (countersFrom (before .counters)) (before .kinds) (before .lengths) (before .arena)
+
+-- `hf_process_frames`
+abbrev pub FramesLeft : ℕ → List ℕ → Rows → BatchMemory → ℕ → BatchMemory → Type 0
+FramesLeft size pgns rows before code after = BatchMemoryLeft (batchIn size pgns rows before) before code after

@@ -1,35 +1,29 @@
--- The answers of the bench as numbers: the refusal's number or 0, and five numbers lent out.
+-- What the entries of the bench promise: the refusal's number or 0, what is lent out, and the lent rows, before and after.
 use Prim.Native.Nat.{ℕ}
 use mathlib.Core.List.{List}
 use mathlib.Core.Path.{_≡_}
-use lib.ListN.{length}
-use Rattle.base.specs.Answer.{Answer, counted}
-use Rattle.oracle.specs.Strict.{BenchMessage, deliveredTo, listWith, arenaWith}
+use Rattle.base.specs.Answer.{counted}
+use Rattle.oracle.specs.Strict.{deliveredTo, listWith, arenaWith}
+use Rattle.oracle.specs.Check.{checkTxOf}
 use Rattle.oracle.specs.Rows.{rowIn}
-use Rattle.splitter.specs.Frames.{countIn}
-use Rattle.splitter.specs.Split.{splitOf, idsWith, bytesWith, lensWith}
-use Rattle.splitter.specs.declared.Frame.{Frame}
+use Rattle.splitter.specs.Split.{splitIn, idsWith, bytesWith, lensWith}
 use Rattle.numbers.specs.Numbers.{codeOf, valueOf}
-use Rattle.numbers.specs.Fives.{fiveOf}
+use Rattle.numbers.specs.Fives.{ToldInFive}
 
--- what strict reassembly leaves: what is returned, the five numbers, the list and the arena
-pub record Reassembles (a : Answer (List BenchMessage)) (code : ℕ) (values list list₀ arena arena₀ : List ℕ) : Type 0 where
-  pub told : code ≡ codeOf (counted a)
-  pub carried : values ≡ fiveOf (counted a)
-  pub listed : list ≡ listWith a list₀
-  pub laid : arena ≡ arenaWith a arena₀
+-- strict reassembly: what is returned and the five numbers, the list and the arena
+pub record ReassemblesInNumbers (ids bytes lens : List ℕ) (source pgn : ℕ) (list arena : List ℕ) (code : ℕ) (list′ arena′ values : List ℕ) : Type 0 where
+  pub answer : ToldInFive (counted (deliveredTo list arena (rowIn ids bytes lens) source pgn)) code values
+  pub listed : list′ ≡ listWith (deliveredTo list arena (rowIn ids bytes lens) source pgn) list
+  pub laid : arena′ ≡ arenaWith (deliveredTo list arena (rowIn ids bytes lens) source pgn) arena
 
--- what the splitter leaves: what is returned, the number of frames, and the three rows
-pub record Splits (a : Answer (List Frame)) (code frames : ℕ) (ids ids₀ bytes bytes₀ lens lens₀ : List ℕ) : Type 0 where
-  pub told : code ≡ codeOf (counted a)
-  pub given : frames ≡ valueOf (counted a)
-  pub named : ids ≡ idsWith a ids₀
-  pub filled : bytes ≡ bytesWith a bytes₀
-  pub measured : lens ≡ lensWith a lens₀
+-- the splitter: what is returned, the three rows, and the number of frames
+pub record SplitsInNumbers (id sequence : ℕ) (payload ids bytes lens : List ℕ) (code : ℕ) (ids′ bytes′ lens′ : List ℕ) (frames : ℕ) : Type 0 where
+  pub told : code ≡ codeOf (counted (splitIn id sequence payload ids bytes lens))
+  pub named : ids′ ≡ idsWith (splitIn id sequence payload ids bytes lens) ids
+  pub filled : bytes′ ≡ bytesWith (splitIn id sequence payload ids bytes lens) bytes
+  pub measured : lens′ ≡ lensWith (splitIn id sequence payload ids bytes lens) lens
+  pub given : frames ≡ valueOf (counted (splitIn id sequence payload ids bytes lens))
 
--- on the rows that a caller lends
-unfoldable pub reassembledIn : List ℕ → List ℕ → List ℕ → ℕ → ℕ → List ℕ → List ℕ → Answer (List BenchMessage)
-reassembledIn ids bytes lens source pgn list arena = deliveredTo list arena (rowIn ids bytes lens) source pgn
-
-unfoldable pub splitIn : ℕ → ℕ → List ℕ → List ℕ → List ℕ → List ℕ → Answer (List Frame)
-splitIn id sequence payload ids bytes lens = splitOf id sequence payload (countIn (length ids) (length bytes) (length lens))
+-- the transmit check: what is returned, and the five numbers
+abbrev pub ChecksTxInNumbers : List ℕ → List ℕ → List ℕ → ℕ → ℕ → ℕ → ℕ → List ℕ → Type 0
+ChecksTxInNumbers ids bytes lens source expected base = ToldInFive (checkTxOf (rowIn ids bytes lens) source expected base)

@@ -1,19 +1,39 @@
--- The receive calls on a pool and counters of numbers.
+-- What making a pool and the receive calls leave, on a pool and counters of numbers.
 use Prim.Native.Nat.{ℕ}
 use mathlib.Core.List.{List}
-use Rattle.session.specs.Rules.{base}
-use Rattle.session.specs.declared.Heard.{Heard}
+use Rattle.assembler.specs.Making.{freshPool, newPool}
 use Rattle.assembler.specs.View.{receiveOf}
+use Rattle.assembler.specs.declared.Pool.{Pool}
 use Rattle.assembler.specs.declared.Received.{Received}
-use Rattle.assembler.specs.Forms.{receiveWithLengthOf}
-use Rattle.assembler.specs.declared.HeardWithLength.{HeardWithLength}
-use Rattle.numbers.specs.Pool.{poolFrom, countersFrom}
+use Rattle.assembler.specs.Arrivals.{heardOf, heardWithLength}
+use Rattle.assembler.specs.Promises.{rulesOf}
+use Rattle.assembler.specs.declared.Arrival.{Arrival}
+use Rattle.assembler.specs.declared.ArrivalWithLength.{ArrivalWithLength}
+use Rattle.numbers.specs.Pool.{poolFrom, countersFrom, CallMemory, CallLeft, PoolMemory, PoolLeft}
 
--- of a frame
-unfoldable pub calledWith : ℕ → List ℕ → List ℕ → List ℕ → List ℕ → Heard → Received
-calledWith size heads bytes counters pgns heard = receiveOf base pgns heard (poolFrom size heads bytes) (countersFrom counters)
+-- ---- a pool made
+-- `hf_pool_new`
+abbrev pub NewPoolLeft : ℕ → PoolMemory → ℕ → PoolMemory → Type 0
+NewPoolLeft wanted before code after = PoolLeft (newPool wanted) before code after
 
--- and of a frame with a length
-unfoldable pub calledWithLength : ℕ → List ℕ → List ℕ → List ℕ → List ℕ → Heard → ℕ → Received
-calledWithLength size heads bytes counters pgns heard len =
-    receiveWithLengthOf base pgns (record { heard = heard; length = len }) (poolFrom size heads bytes) (countersFrom counters)
+-- `hf_pool_default`: "4 by default", never refused
+abbrev pub DefaultPoolLeft : PoolMemory → ℕ → PoolMemory → Type 0
+DefaultPoolLeft before code after = PoolLeft (record { refused = 0; pool = freshPool 4 }) before code after
+
+-- ---- the receive calls, on the pool and counters that the lent memory has
+unfoldable pub poolIn : ℕ → CallMemory → Pool
+poolIn size m = poolFrom size (m .heads) (m .bytes)
+
+unfoldable pub receivedIn : ℕ → List ℕ → Arrival → CallMemory → Received
+receivedIn size pgns a before = receiveOf (rulesOf (poolIn size before)) pgns (heardOf a) (poolIn size before) (countersFrom (before .counters))
+
+unfoldable pub receivedWithLengthIn : ℕ → List ℕ → ArrivalWithLength → CallMemory → Received
+receivedWithLengthIn size pgns x before = receiveOf (rulesOf (poolIn size before)) pgns (heardWithLength x) (poolIn size before) (countersFrom (before .counters))
+
+-- `hf_process_frame` and `hf_receive`
+abbrev pub FrameLeft : ℕ → List ℕ → Arrival → CallMemory → ℕ → CallMemory → Type 0
+FrameLeft size pgns a before code after = CallLeft (receivedIn size pgns a before) before code after
+
+-- `hf_process_frame_with_length`
+abbrev pub FrameWithLengthLeft : ℕ → List ℕ → ArrivalWithLength → CallMemory → ℕ → CallMemory → Type 0
+FrameWithLengthLeft size pgns x before code after = CallLeft (receivedWithLengthIn size pgns x before) before code after

@@ -4,17 +4,24 @@ use mathlib.Core.List.{List, [], _∷_}
 use lib.Dec.{ltb}
 use Rattle.base.specs.Pick.{pick}
 use Rattle.can_id.specs.Layout.{priorityOf, pgnOf, sourceOf, destinationOf}
-use Rattle.can_id.specs.Build.{newIdBuilder, idWithPriority, idWithDestination}
+use Rattle.can_id.specs.Build.{buildOf, newIdBuilder, idWithPriority, idWithDestination}
 use Rattle.can_id.specs.declared.CanIdBuilder.{CanIdBuilder}
-use Rattle.numbers.specs.Numbers.{toAddress, addressOf}
+use Rattle.numbers.specs.Numbers.{toAddress, addressOf, Answered}
+
+-- ---- read
+-- the destination, or 256 where there is none
+abbrev pub readDestination : ℕ → ℕ
+readDestination id = addressOf (destinationOf id)
 
 -- what an identifier reads as: priority, PGN, source, and destination or 256
 unfoldable pub readParts : ℕ → List ℕ
-readParts id = priorityOf id ∷ pgnOf id ∷ sourceOf id ∷ addressOf (destinationOf id) ∷ []
+readParts id = priorityOf id ∷ pgnOf id ∷ sourceOf id ∷ readDestination id ∷ []
+
+-- ---- built
 
 -- a builder of these parts as they are
-unfoldable pub partsOf : ℕ → ℕ → ℕ → ℕ → CanIdBuilder
-partsOf priority pgn source destination = record { priority = priority; pgn = pgn; «source_address» = source; destination = toAddress destination }
+unfoldable pub builderOfParts : ℕ → ℕ → ℕ → ℕ → CanIdBuilder
+builderOfParts priority pgn source destination = record { priority = priority; pgn = pgn; «source_address» = source; destination = toAddress destination }
 
 -- a fresh builder, with the priority and the destination set where they are below 256
 unfoldable pub setPriority : ℕ → CanIdBuilder → CanIdBuilder
@@ -29,3 +36,13 @@ setOf pgn source priority destination = setDestination destination (setPriority 
 -- a fresh builder, with both set
 unfoldable pub bothOf : ℕ → ℕ → ℕ → ℕ → CanIdBuilder
 bothOf pgn source priority destination = idWithDestination (idWithPriority (newIdBuilder pgn source) priority) destination
+
+-- `hf_can_id_build`, `hf_can_id_build_with` and `hf_can_id_build_to`
+abbrev pub PartsBuilt : ℕ → ℕ → ℕ → ℕ → ℕ → ℕ → Type 0
+PartsBuilt priority pgn source destination code value = Answered (buildOf (builderOfParts priority pgn source destination)) code value
+
+abbrev pub SetBuilt : ℕ → ℕ → ℕ → ℕ → ℕ → ℕ → Type 0
+SetBuilt pgn source priority destination code value = Answered (buildOf (setOf pgn source priority destination)) code value
+
+abbrev pub BothBuilt : ℕ → ℕ → ℕ → ℕ → ℕ → ℕ → Type 0
+BothBuilt pgn source priority destination code value = Answered (buildOf (bothOf pgn source priority destination)) code value

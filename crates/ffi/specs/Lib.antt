@@ -1,4 +1,6 @@
 pub mod Ids
+pub mod Frames
 pub mod Calls
 pub mod Batches
 pub mod BenchEntries
+pub mod inner

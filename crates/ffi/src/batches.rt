@@ -1,10 +1,11 @@
 // The batch: many frames in one call.
 ghost use mathlib.Core.Path.{_≡_};
-ghost use Rattle.batch.specs.Rows.{Rows, BatchLeft};
-ghost use Rattle.ffi.specs.Batches.{LeftPool, LeftBy, batchWith};
+ghost use Rattle.ffi.specs.Batches.{FramesLeft};
+ghost use Rattle.ffi.specs.inner.Batches.{PoolAfter};
 use assembler::POOL_BYTES;
 use batch::Batch;
 use batch::process_frames;
+use numbers::HEAD_NUMBERS;
 use numbers::counter_numbers;
 use numbers::counters_from;
 use numbers::pool_from;
@@ -12,12 +13,12 @@ use numbers::put_heads;
 
 fn leave_batch(
     r: Batch,
-    heads: &mut [u64; 64],
+    heads: &mut [u64; HEAD_NUMBERS],
     bytes: &mut [u8; POOL_BYTES],
     counters: &mut [u32; 5],
     counts: &mut [u64; 2],
 ) -> u32
-    ensures { λ code. ⌜ LeftPool r (now (heads .entry)) code (now (heads .exit)) (now (bytes .exit)) (now (counters .exit)) (now (counts .exit)) ⌝ }
+    ensures { λ code. ⌜ PoolAfter r (now (heads .entry)) code (now (heads .exit)) (now (bytes .exit)) (now (counters .exit)) (now (counts .exit)) ⌝ }
 {
     let pool = r.pool;
     let h = pool.heads;
@@ -30,12 +31,12 @@ fn leave_batch(
     r.refused as u32
 }
 
-// 0, 1 or 27. Of each frame taken, `kinds` has 0 Ignored, 1 FragmentConsumed or 2 MessageComplete, and `lengths` the message's; the messages stand end to
+// 0, 1 or 27. Of each frame taken, `kinds` has 101 Ignored, 102 FragmentConsumed or 103 MessageComplete, and `lengths` the message's; the messages stand end to
 // end from the arena's start. `counts` is how many frames were taken and how many bytes of the arena.
 #[no_mangle]
 pub extern "C" fn hf_process_frames(
     size: usize,
-    heads: &mut [u64; 64],
+    heads: &mut [u64; HEAD_NUMBERS],
     bytes: &mut [u8; POOL_BYTES],
     counters: &mut [u32; 5],
     pgns: &[u32],
@@ -48,11 +49,9 @@ pub extern "C" fn hf_process_frames(
     arena: &mut [u8],
     counts: &mut [u64; 2],
 ) -> u32
-    ensures { λ code. ⌜ LeftBy
-        (batchWith size (now (heads .entry)) (now (bytes .entry)) (now (counters .entry)) (now (pgns .entry))
-        (record { times = now (times .entry); pgns = now («frame_pgns» .entry); sources = now (sources .entry); bytes = now («data» .entry) })
-        (now (kinds .entry)) (now (lengths .entry)) (now (arena .entry)))
-        (now (heads .entry)) code (now (heads .exit)) (now (bytes .exit)) (now (counters .exit)) (now (kinds .exit)) (now (lengths .exit)) (now (arena .exit)) (now (counts .exit)) ⌝ }
+    ensures { λ code. ⌜ FramesLeft size (now (pgns .entry)) (record { times = now (times .entry); pgns = now («frame_pgns» .entry); sources = now (sources .entry); bytes = now («data» .entry) })
+        (record { heads = now (heads .entry); bytes = now (bytes .entry); counters = now (counters .entry); kinds = now (kinds .entry); lengths = now (lengths .entry); arena = now (arena .entry); counts = now (counts .entry) })
+        code (record { heads = now (heads .exit); bytes = now (bytes .exit); counters = now (counters .exit); kinds = now (kinds .exit); lengths = now (lengths .exit); arena = now (arena .exit); counts = now (counts .exit) }) ⌝ }
 {
     let p = pool_from(size, heads, bytes);
     let c = counters_from(counters);

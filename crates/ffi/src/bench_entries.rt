@@ -1,11 +1,7 @@
 // The bench: strict reassembly, the splitter and the transmit check, over rows of numbers.
 ghost use mathlib.Core.Path.{_≡_};
 ghost use Rattle.splitter.specs.Frames.{countIn};
-ghost use Rattle.oracle.specs.Check.{checkTxOf};
-ghost use Rattle.oracle.specs.Rows.{rowIn};
-ghost use Rattle.numbers.specs.Numbers.{codeOf};
-ghost use Rattle.numbers.specs.Fives.{fiveOf};
-ghost use Rattle.ffi.specs.BenchEntries.{Reassembles, Splits, reassembledIn, splitIn};
+ghost use Rattle.ffi.specs.BenchEntries.{ReassemblesInNumbers, SplitsInNumbers, ChecksTxInNumbers};
 use numbers::split_count;
 use numbers::split_number;
 use numbers::told_checked;
@@ -28,9 +24,8 @@ pub extern "C" fn hf_reassemble(
     arena: &mut [u8],
     values: &mut [u64; 5],
 ) -> u32
-    ensures { λ code. ⌜ Reassembles
-        (reassembledIn (now (ids .entry)) (now (bytes .entry)) (now (lens .entry)) source pgn (now (list .entry)) (now (arena .entry)))
-        code (now (values .exit)) (now (list .exit)) (now (list .entry)) (now (arena .exit)) (now (arena .entry)) ⌝ }
+    ensures { λ code. ⌜ ReassemblesInNumbers (now (ids .entry)) (now (bytes .entry)) (now (lens .entry)) source pgn (now (list .entry)) (now (arena .entry))
+        code (now (list .exit)) (now (arena .exit)) (now (values .exit)) ⌝ }
 {
     let r = reassemble_rows(ids, bytes, lens, source, pgn, list, arena);
     told_reassembled(r, values)
@@ -55,9 +50,8 @@ pub extern "C" fn hf_fast_packet_frames(
     lens: &mut [usize],
     frames: &mut usize,
 ) -> u32
-    ensures { λ code. ⌜ Splits
-        (splitIn id sequence (now (payload .entry)) (now (ids .entry)) (now (bytes .entry)) (now (lens .entry)))
-        code (now (frames .exit)) (now (ids .exit)) (now (ids .entry)) (now (bytes .exit)) (now (bytes .entry)) (now (lens .exit)) (now (lens .entry)) ⌝ }
+    ensures { λ code. ⌜ SplitsInNumbers id sequence (now (payload .entry)) (now (ids .entry)) (now (bytes .entry)) (now (lens .entry))
+        code (now (ids .exit)) (now (bytes .exit)) (now (lens .exit)) (now (frames .exit)) ⌝ }
 {
     let s = fast_packet_rows(id, sequence, payload, ids, bytes, lens);
     *frames = split_count(s);
@@ -75,8 +69,7 @@ pub extern "C" fn hf_check_tx(
     hours_base: u32,
     values: &mut [u64; 5],
 ) -> u32
-    ensures { λ code. ⌜ (code ≡ codeOf (checkTxOf (rowIn (now (ids .entry)) (now (bytes .entry)) (now (lens .entry))) source expected «hours_base»))
-        × (now (values .exit) ≡ fiveOf (checkTxOf (rowIn (now (ids .entry)) (now (bytes .entry)) (now (lens .entry))) source expected «hours_base»)) ⌝ }
+    ensures { λ code. ⌜ ChecksTxInNumbers (now (ids .entry)) (now (bytes .entry)) (now (lens .entry)) source expected «hours_base» code (now (values .exit)) ⌝ }
 {
     let c = check_tx_rows(ids, bytes, lens, source, expected, hours_base);
     told_checked(c, values)

@@ -1,9 +1,8 @@
 // The frame builder: made, set, and asked for the next frame.
 ghost use mathlib.Core.Path.{_≡_};
-ghost use Rattle.builder.specs.Builder.{withSequence, withPriority, withDestination};
 ghost use Rattle.builder.specs.Next.{ofNext};
-ghost use Rattle.builder.specs.Frames.{turnOf, started};
-ghost use Rattle.numbers.specs.Frames.{builderFrom, builderNumbers, madeWith, heldAfter, madeNumbers, placeNumbers, NextLeft, stepAfter, placeLaid, turnStep, nextWith, turnWith};
+ghost use Rattle.builder.specs.Frames.{turnOf};
+ghost use Rattle.ffi.specs.Frames.{NewBuilderLeft, sequenceSet, prioritySet, destinationSet, NextFrameLeft, startedPlace, TurnLeft};
 use builder::FastPacketBuilder;
 use builder::Item;
 use builder::Next;
@@ -30,8 +29,7 @@ pub extern "C" fn hf_builder_new(
     sequence_id: u8,
     builder: &mut [u64; 6],
 ) -> u8
-    ensures { λ r. ⌜ (r ≡ heldAfter (madeWith pgn «source_address» destination (now (payload .entry)) (now (pgns .entry)) «sequence_id»))
-        × (now (builder .exit) ≡ madeNumbers (madeWith pgn «source_address» destination (now (payload .entry)) (now (pgns .entry)) «sequence_id»)) ⌝ }
+    ensures { λ r. ⌜ NewBuilderLeft pgn «source_address» destination (now (payload .entry)) (now (pgns .entry)) «sequence_id» r (now (builder .exit)) ⌝ }
 {
     let to = destination_from(destination as u64);
     let made = FastPacketBuilder::new(pgn, source_address, to, payload, pgns, sequence_id);
@@ -40,7 +38,7 @@ pub extern "C" fn hf_builder_new(
 
 #[no_mangle]
 pub extern "C" fn hf_builder_with_sequence_id(builder: &mut [u64; 6], sequence_id: u8)
-    ensures { λ _. ⌜ now (builder .exit) ≡ builderNumbers (withSequence (builderFrom (now (builder .entry))) «sequence_id») ⌝ }
+    ensures { λ _. ⌜ now (builder .exit) ≡ sequenceSet (now (builder .entry)) «sequence_id» ⌝ }
 {
     let b = builder_from(builder);
     *builder = builder_numbers(b.with_sequence_id(sequence_id));
@@ -48,7 +46,7 @@ pub extern "C" fn hf_builder_with_sequence_id(builder: &mut [u64; 6], sequence_i
 
 #[no_mangle]
 pub extern "C" fn hf_builder_with_priority(builder: &mut [u64; 6], priority: u8)
-    ensures { λ _. ⌜ now (builder .exit) ≡ builderNumbers (withPriority (builderFrom (now (builder .entry))) priority) ⌝ }
+    ensures { λ _. ⌜ now (builder .exit) ≡ prioritySet (now (builder .entry)) priority ⌝ }
 {
     let b = builder_from(builder);
     *builder = builder_numbers(b.with_priority(priority));
@@ -56,7 +54,7 @@ pub extern "C" fn hf_builder_with_priority(builder: &mut [u64; 6], priority: u8)
 
 #[no_mangle]
 pub extern "C" fn hf_builder_to_destination(builder: &mut [u64; 6], destination: u8)
-    ensures { λ _. ⌜ now (builder .exit) ≡ builderNumbers (withDestination (builderFrom (now (builder .entry))) destination) ⌝ }
+    ensures { λ _. ⌜ now (builder .exit) ≡ destinationSet (now (builder .entry)) destination ⌝ }
 {
     let b = builder_from(builder);
     *builder = builder_numbers(b.to_destination(destination));
@@ -64,7 +62,7 @@ pub extern "C" fn hf_builder_to_destination(builder: &mut [u64; 6], destination:
 
 // ---- the next frame, at any frame index and bytes sent
 
-// 0 for a frame, 256 for End, or a refusal's number.
+// 0 for a frame, 100 for End, or a refusal's number.
 #[no_mangle]
 pub extern "C" fn hf_next_frame(
     builder: &[u64; 6],
@@ -75,8 +73,8 @@ pub extern "C" fn hf_next_frame(
     frame: &mut [u64; 3],
     after: &mut [u64; 2],
 ) -> u32
-    ensures { λ r. ⌜ NextLeft (nextWith (now (builder .entry)) «frame_index» «bytes_sent» (now (payload .entry))) r (now («data» .exit)) (now (frame .exit))
-        × (now (after .exit) ≡ stepAfter (nextWith (now (builder .entry)) «frame_index» «bytes_sent» (now (payload .entry)))) ⌝ }
+    ensures { λ r. ⌜ NextFrameLeft (now (builder .entry)) «frame_index» «bytes_sent» (now (payload .entry))
+        r (record { bytes = now («data» .exit); numbers = now (frame .exit); place = now (after .exit) }) ⌝ }
 {
     let b = builder_from(builder);
     let next = b.next_frame(frame_index, bytes_sent, payload);
@@ -89,7 +87,7 @@ pub extern "C" fn hf_next_frame(
 // The place before the first frame.
 #[no_mangle]
 pub extern "C" fn hf_builder_build(builder: &[u64; 6], place: &mut [u64; 2])
-    ensures { λ _. ⌜ now (place .exit) ≡ placeNumbers (started (builderFrom (now (builder .entry)))) ⌝ }
+    ensures { λ _. ⌜ now (place .exit) ≡ startedPlace (now (builder .entry)) ⌝ }
 {
     let b = builder_from(builder);
     *place = place_numbers(b.build());
@@ -97,7 +95,7 @@ pub extern "C" fn hf_builder_build(builder: &[u64; 6], place: &mut [u64; 2])
 
 // The step that an item is.
 fn step_in(item: Item) -> Next
-    ensures { λ r. ⌜ ofNext r ≡ turnStep (turnOf item) ⌝ }
+    ensures { λ r. ⌜ ofNext r ≡ turnOf item .answer ⌝ }
 {
     let t = item.iterator;
     let f = item.frame;
@@ -119,8 +117,8 @@ pub extern "C" fn hf_frame_iterator_next(
     data: &mut [u8; 8],
     frame: &mut [u64; 3],
 ) -> u32
-    ensures { λ r. ⌜ NextLeft (turnWith (now (builder .entry)) (now (place .entry)) (now (payload .entry))) r (now («data» .exit)) (now (frame .exit))
-        × (now (place .exit) ≡ placeLaid (now (place .entry)) (turnWith (now (builder .entry)) (now (place .entry)) (now (payload .entry)))) ⌝ }
+    ensures { λ r. ⌜ TurnLeft (now (builder .entry)) (now (payload .entry)) (now (place .entry))
+        r (record { bytes = now («data» .exit); numbers = now (frame .exit); place = now (place .exit) }) ⌝ }
 {
     let t = iterator_from(builder, place);
     let next = step_in(t.next(payload));

@@ -1,9 +1,7 @@
 // Identifiers, read and built.
 ghost use mathlib.Core.Path.{_≡_};
-ghost use Rattle.can_id.specs.Layout.{priorityOf, pgnOf, destinationOf, sourceOf};
-ghost use Rattle.can_id.specs.Build.{buildOf};
-ghost use Rattle.numbers.specs.Numbers.{addressOf, codeOf, valueOf};
-ghost use Rattle.ffi.specs.Ids.{readParts, partsOf, setPriority, setDestination, setOf, bothOf};
+ghost use Rattle.can_id.specs.Layout.{priorityOf, pgnOf, sourceOf};
+ghost use Rattle.ffi.specs.Ids.{readDestination, readParts, setPriority, setDestination, bothOf, PartsBuilt, SetBuilt, BothBuilt};
 use can_id::CanId;
 use can_id::CanIdBuilder;
 use numbers::answered;
@@ -27,7 +25,7 @@ pub extern "C" fn hf_can_id_pgn(id: u32) -> u32
 // 256 where there is none.
 #[no_mangle]
 pub extern "C" fn hf_can_id_destination(id: u32) -> u16
-    ensures { λ r. ⌜ r ≡ addressOf (destinationOf id) ⌝ }
+    ensures { λ r. ⌜ r ≡ readDestination id ⌝ }
 {
     number_of(CanId(id).destination())
 }
@@ -62,8 +60,7 @@ pub extern "C" fn hf_can_id_build(
     destination: u16,
     value: &mut u32,
 ) -> u32
-    ensures { λ r. ⌜ (r ≡ codeOf (buildOf (partsOf priority pgn «source_address» destination)))
-        × (now (value .exit) ≡ valueOf (buildOf (partsOf priority pgn «source_address» destination))) ⌝ }
+    ensures { λ r. ⌜ PartsBuilt priority pgn «source_address» destination r (now (value .exit)) ⌝ }
 {
     let b = CanIdBuilder {
         priority: priority,
@@ -101,8 +98,7 @@ pub extern "C" fn hf_can_id_build_with(
     destination: u16,
     value: &mut u32,
 ) -> u32
-    ensures { λ r. ⌜ (r ≡ codeOf (buildOf (setOf pgn «source_address» priority destination)))
-        × (now (value .exit) ≡ valueOf (buildOf (setOf pgn «source_address» priority destination))) ⌝ }
+    ensures { λ r. ⌜ SetBuilt pgn «source_address» priority destination r (now (value .exit)) ⌝ }
 {
     let b = set_destination(
         set_priority(CanId::builder(pgn, source_address), priority),
@@ -128,8 +124,7 @@ pub extern "C" fn hf_can_id_build_to(
     destination: u8,
     value: &mut u32,
 ) -> u32
-    ensures { λ r. ⌜ (r ≡ codeOf (buildOf (bothOf pgn «source_address» priority destination)))
-        × (now (value .exit) ≡ valueOf (buildOf (bothOf pgn «source_address» priority destination))) ⌝ }
+    ensures { λ r. ⌜ BothBuilt pgn «source_address» priority destination r (now (value .exit)) ⌝ }
 {
     let b = both_set(pgn, source_address, priority, destination);
     answered(b.build(), value)

@@ -1,10 +1,9 @@
-// The receive call: a pool as its size, 64 numbers for the heads of its slots and their bytes, the counters as five numbers.
+// The receive call: a pool as its size, eight numbers for each head of its slots and their bytes, the counters as five numbers.
 ghost use mathlib.Core.Path.{_≡_};
-ghost use Rattle.assembler.specs.Making.{freshPool, newPool};
 ghost use Rattle.fast_packet.specs.FastPacket.{listedIn};
-ghost use Rattle.numbers.specs.Pool.{heardOf, CallLeft, MadeAs, plainly};
-ghost use Rattle.ffi.specs.Calls.{calledWith, calledWithLength};
-use assembler::HeardWithLength;
+ghost use Rattle.ffi.specs.Calls.{NewPoolLeft, DefaultPoolLeft, FrameLeft, FrameWithLengthLeft};
+use assembler::Arrival;
+use assembler::ArrivalWithLength;
 use assembler::MadePool;
 use assembler::POOL_BYTES;
 use assembler::Pool;
@@ -13,11 +12,11 @@ use assembler::process_frame_through;
 use assembler::process_frame_with_length_through;
 use assembler::receive;
 use fast_packet::MAX_FAST_PACKET_PAYLOAD;
+use numbers::HEAD_NUMBERS;
 use numbers::counters_from;
 use numbers::leave;
 use numbers::leave_made;
 use numbers::pool_from;
-use session::Heard;
 
 #[no_mangle]
 pub extern "C" fn hf_handles(pgns: &[u32], pgn: u32) -> bool
@@ -30,11 +29,12 @@ pub extern "C" fn hf_handles(pgns: &[u32], pgn: u32) -> bool
 #[no_mangle]
 pub extern "C" fn hf_pool_new(
     wanted: usize,
-    heads: &mut [u64; 64],
+    heads: &mut [u64; HEAD_NUMBERS],
     bytes: &mut [u8; POOL_BYTES],
     size: &mut usize,
 ) -> u32
-    ensures { λ code. ⌜ MadeAs (newPool wanted) (now (heads .entry)) (now (bytes .entry)) code (now (heads .exit)) (now (bytes .exit)) (now (size .exit)) ⌝ }
+    ensures { λ code. ⌜ NewPoolLeft wanted (record { heads = now (heads .entry); bytes = now (bytes .entry); size = now (size .entry) })
+        code (record { heads = now (heads .exit); bytes = now (bytes .exit); size = now (size .exit) }) ⌝ }
 {
     leave_made(Pool::new(wanted), heads, bytes, size)
 }
@@ -42,11 +42,12 @@ pub extern "C" fn hf_pool_new(
 // The pool of the default size; returns 0.
 #[no_mangle]
 pub extern "C" fn hf_pool_default(
-    heads: &mut [u64; 64],
+    heads: &mut [u64; HEAD_NUMBERS],
     bytes: &mut [u8; POOL_BYTES],
     size: &mut usize,
 ) -> u32
-    ensures { λ code. ⌜ MadeAs (plainly (freshPool 4)) (now (heads .entry)) (now (bytes .entry)) code (now (heads .exit)) (now (bytes .exit)) (now (size .exit)) ⌝ }
+    ensures { λ code. ⌜ DefaultPoolLeft (record { heads = now (heads .entry); bytes = now (bytes .entry); size = now (size .entry) })
+        code (record { heads = now (heads .exit); bytes = now (bytes .exit); size = now (size .exit) }) ⌝ }
 {
     let pool = Pool::default();
     let made = MadePool {
@@ -56,11 +57,11 @@ pub extern "C" fn hf_pool_default(
     leave_made(made, heads, bytes, size)
 }
 
-// A refusal's number, 256 Ignored, 257 FragmentConsumed or 258 MessageComplete.
+// A refusal's number, 101 Ignored, 102 FragmentConsumed or 103 MessageComplete.
 #[no_mangle]
 pub extern "C" fn hf_process_frame(
     size: usize,
-    heads: &mut [u64; 64],
+    heads: &mut [u64; HEAD_NUMBERS],
     bytes: &mut [u8; POOL_BYTES],
     counters: &mut [u32; 5],
     pgns: &[u32],
@@ -71,20 +72,20 @@ pub extern "C" fn hf_process_frame(
     payload: &mut [u8; MAX_FAST_PACKET_PAYLOAD],
     length: &mut usize,
 ) -> u32
-    ensures { λ code. ⌜ CallLeft
-        (calledWith size (now (heads .entry)) (now (bytes .entry)) (now (counters .entry)) (now (pgns .entry)) (heardOf «now_ms» pgn «source_address» (now («data» .entry))))
-        (now (heads .entry)) (now (payload .entry)) code (now (heads .exit)) (now (bytes .exit)) (now (counters .exit)) (now (payload .exit)) (now (length .exit)) ⌝ }
+    ensures { λ code. ⌜ FrameLeft size (now (pgns .entry)) (record { «now_ms» = «now_ms»; pgn = pgn; «source_address» = «source_address»; «data» = now («data» .entry) })
+        (record { heads = now (heads .entry); bytes = now (bytes .entry); counters = now (counters .entry); payload = now (payload .entry); length = now (length .entry) })
+        code (record { heads = now (heads .exit); bytes = now (bytes .exit); counters = now (counters .exit); payload = now (payload .exit); length = now (length .exit) }) ⌝ }
 {
     let p = pool_from(size, heads, bytes);
     let c = counters_from(counters);
     let d = *data;
-    let heard = Heard {
+    let arrival = Arrival {
         now_ms: now_ms,
         pgn: pgn,
         source_address: source_address,
         data: d,
     };
-    let r = process_frame_through(p, c, pgns, heard);
+    let r = process_frame_through(p, c, pgns, arrival);
     leave(r, heads, bytes, counters, payload, length)
 }
 
@@ -92,7 +93,7 @@ pub extern "C" fn hf_process_frame(
 #[no_mangle]
 pub extern "C" fn hf_receive(
     size: usize,
-    heads: &mut [u64; 64],
+    heads: &mut [u64; HEAD_NUMBERS],
     bytes: &mut [u8; POOL_BYTES],
     counters: &mut [u32; 5],
     pgns: &[u32],
@@ -103,20 +104,20 @@ pub extern "C" fn hf_receive(
     payload: &mut [u8; MAX_FAST_PACKET_PAYLOAD],
     length: &mut usize,
 ) -> u32
-    ensures { λ code. ⌜ CallLeft
-        (calledWith size (now (heads .entry)) (now (bytes .entry)) (now (counters .entry)) (now (pgns .entry)) (heardOf «now_ms» pgn «source_address» (now («data» .entry))))
-        (now (heads .entry)) (now (payload .entry)) code (now (heads .exit)) (now (bytes .exit)) (now (counters .exit)) (now (payload .exit)) (now (length .exit)) ⌝ }
+    ensures { λ code. ⌜ FrameLeft size (now (pgns .entry)) (record { «now_ms» = «now_ms»; pgn = pgn; «source_address» = «source_address»; «data» = now («data» .entry) })
+        (record { heads = now (heads .entry); bytes = now (bytes .entry); counters = now (counters .entry); payload = now (payload .entry); length = now (length .entry) })
+        code (record { heads = now (heads .exit); bytes = now (bytes .exit); counters = now (counters .exit); payload = now (payload .exit); length = now (length .exit) }) ⌝ }
 {
     let p = pool_from(size, heads, bytes);
     let c = counters_from(counters);
     let d = *data;
-    let heard = Heard {
+    let arrival = Arrival {
         now_ms: now_ms,
         pgn: pgn,
         source_address: source_address,
         data: d,
     };
-    let r = receive(p, c, pgns, heard);
+    let r = receive(p, c, pgns, arrival);
     leave(r, heads, bytes, counters, payload, length)
 }
 
@@ -124,7 +125,7 @@ pub extern "C" fn hf_receive(
 #[no_mangle]
 pub extern "C" fn hf_process_frame_with_length(
     size: usize,
-    heads: &mut [u64; 64],
+    heads: &mut [u64; HEAD_NUMBERS],
     bytes: &mut [u8; POOL_BYTES],
     counters: &mut [u32; 5],
     pgns: &[u32],
@@ -136,21 +137,21 @@ pub extern "C" fn hf_process_frame_with_length(
     payload: &mut [u8; MAX_FAST_PACKET_PAYLOAD],
     length: &mut usize,
 ) -> u32
-    ensures { λ code. ⌜ CallLeft
-        (calledWithLength size (now (heads .entry)) (now (bytes .entry)) (now (counters .entry)) (now (pgns .entry)) (heardOf «now_ms» pgn «source_address» (now («data» .entry))) «frame_length»)
-        (now (heads .entry)) (now (payload .entry)) code (now (heads .exit)) (now (bytes .exit)) (now (counters .exit)) (now (payload .exit)) (now (length .exit)) ⌝ }
+    ensures { λ code. ⌜ FrameWithLengthLeft size (now (pgns .entry)) (record { arrival = record { «now_ms» = «now_ms»; pgn = pgn; «source_address» = «source_address»; «data» = now («data» .entry) }; length = «frame_length» })
+        (record { heads = now (heads .entry); bytes = now (bytes .entry); counters = now (counters .entry); payload = now (payload .entry); length = now (length .entry) })
+        code (record { heads = now (heads .exit); bytes = now (bytes .exit); counters = now (counters .exit); payload = now (payload .exit); length = now (length .exit) }) ⌝ }
 {
     let p = pool_from(size, heads, bytes);
     let c = counters_from(counters);
     let d = *data;
-    let heard = Heard {
+    let arrival = Arrival {
         now_ms: now_ms,
         pgn: pgn,
         source_address: source_address,
         data: d,
     };
-    let x = HeardWithLength {
-        heard: heard,
+    let x = ArrivalWithLength {
+        arrival: arrival,
         length: frame_length,
     };
     let r = process_frame_with_length_through(p, c, pgns, x);

@@ -1,14 +1,19 @@
 -- Heads and pools from numbers, and heads laid on numbers. Assumes nothing.
-use Prim.Native.Nat.{ℕ, _+_, _*_, _%_}
+use Prim.Native.Nat.{ℕ, _+_, _*_, _%_, _<_}
 use mathlib.Core.Bool.{Bool}
-use mathlib.Core.List.{List}
+use mathlib.Core.List.{List, [], _∷_}
 use mathlib.Core.Path.{_≡_, refl, sym, ap, _∙_}
-use lib.ListN.{getD, set}
+use lib.ListN.{getD, set, take, length}
+use lib.Seq.{sets, take-suc, take-suc-set, take-all, length-take-le}
 use native.Mathlib.Numerals.{add-one}
+use native.Mathlib.Omega.{arith}
+use Rattle.base.specs.Pick.{pick}
+use Rattle.session.specs.Rules.{poolLimit}
 use Rattle.session.specs.Heads.{freshHead}
 use Rattle.session.specs.declared.Head.{Head}
-use Rattle.numbers.specs.Numbers.{isSet, flagOn, byteOn, wordOn}
-use Rattle.numbers.specs.Pool.{headAt, headsFrom, putFlag, putByte, putWord, keyLaid, sizesLaid, headLaid, laid, poolFrom}
+use Rattle.numbers.specs.Numbers.{isSet, laidOn}
+use Rattle.numbers.specs.Pool.{headAt, headOver, headsTo, headsFrom, laidTo, laidOver, poolFrom}
+use Rattle.numbers.proofs.Sets.{sets-snoc}
 
 -- ---- a head and a pool read field by field
 pub head-by : (n : List ℕ) (at : ℕ) {b c d e w f g h : ℕ}
@@ -22,38 +27,47 @@ pub pool-by : (size : ℕ) (heads bytes : List ℕ) {h : List Head} → h ≡ he
 unfolding poolFrom
 pool-by size heads bytes h = rw h refl
 
--- ---- a number laid
-pub flag-put : (n : List ℕ) (i : ℕ) (x : Bool) {y : ℕ} → y ≡ flagOn (getD n i 0) x → set n i y ≡ putFlag n i x
-unfolding putFlag
-flag-put n i x e = ap (set n i) e
+-- ---- heads read one after the other
+pub read-turn : (n : List ℕ) (k : ℕ) (hs : List Head) (h : Head) → take k hs ≡ headsTo k n → k < length hs → h ≡ headAt n (8 * k) → take (k + 1) (set hs k h) ≡ headsTo (k + 1) n
+unfolding headsTo
+read-turn n k hs h e l f = rw (add-one k, take-suc-set hs k h l, e, f)
 
-pub byte-put : (n : List ℕ) (i : ℕ) (x : ℕ) {y : ℕ} → y ≡ byteOn (getD n i 0) x → set n i y ≡ putByte n i x
-unfolding putByte
-byte-put n i x e = ap (set n i) e
+pub read-done : (n : List ℕ) (k : ℕ) (hs : List Head) → k ≡ poolLimit → length hs ≡ poolLimit → take k hs ≡ headsTo k n → hs ≡ headsFrom n
+unfolding headsFrom
+read-done n k hs e l t = sym (take-all k hs (omega (arith, e, l))) ∙ t ∙ ap (λ (j : ℕ). headsTo j n) e
 
-pub word-put : (n : List ℕ) (i : ℕ) (x : ℕ) {y : ℕ} → y ≡ wordOn (getD n i 0) x → set n i y ≡ putWord n i x
-unfolding putWord
-word-put n i x e = ap (set n i) e
+-- ---- a head's numbers, one by one
+pub over-by : (n : List ℕ) (at : ℕ) (h : Head) {a b c d e : ℕ}
+    → a ≡ laidOn (getD n at 0) (pick (isSet (getD n at 0)) 1 0) (pick (h .«in_progress») 1 0) → b ≡ laidOn (getD n (at + 1) 0) (getD n (at + 1) 0 % 0x100) (h .«source_address»)
+    → c ≡ laidOn (getD n (at + 2) 0) (getD n (at + 2) 0 % 0x100) (h .«sequence_id») → d ≡ laidOn (getD n (at + 3) 0) (getD n (at + 3) 0 % 0x100) (h .«last_frame_index»)
+    → e ≡ laidOn (getD n (at + 4) 0) (getD n (at + 4) 0 % 0x1_0000_0000) (h .pgn)
+    → a ∷ b ∷ c ∷ d ∷ e ∷ h .«expected_size» ∷ h .«current_size» ∷ h .«last_seen_ms» ∷ [] ≡ headOver n at h
+unfolding headOver
+over-by n at h a b c d e = rw (a, b, c, d, e) refl
 
--- ---- a head laid number by number
-pub key-laid : (n : List ℕ) (at : ℕ) (h : Head) {a b c d r : List ℕ}
-    → a ≡ putFlag n at (h .«in_progress») → b ≡ putByte a (at + 1) (h .«source_address») → c ≡ putByte b (at + 2) (h .«sequence_id») → d ≡ putByte c (at + 3) (h .«last_frame_index»)
-    → r ≡ putWord d (at + 4) (h .pgn) → r ≡ keyLaid n at h
-unfolding keyLaid
-key-laid n at h A B C D R = rw (R, D, C, B, A) refl
+-- ---- and laid
+module _ (n₀ : List ℕ) (at : ℕ) (row : List ℕ) (k : ℕ) {n : List ℕ} (e : n ≡ sets n₀ at (take k row)) where
+  pub put-turn : k < length row → set n (at + k) (getD row k 0) ≡ sets n₀ at (take (k + 1) row)
+  put-turn l =
+      let there : length (take k row) ≡ k = length-take-le k row (omega arith) in
+      ap (λ (m : List ℕ). set m (at + k) (getD row k 0)) e
+      ∙ ap (λ (j : ℕ). set (sets n₀ at (take k row)) (at + j) (getD row k 0)) (sym there)
+      ∙ sym (sets-snoc (take k row) n₀ at (getD row k 0))
+      ∙ ap (sets n₀ at) (sym (take-suc row k 0 l) ∙ ap (λ (j : ℕ). take j row) (sym (add-one k)))
 
-pub head-laid : (n : List ℕ) (at : ℕ) (h : Head) {a r : List ℕ} → a ≡ keyLaid n at h → r ≡ sizesLaid a at h → r ≡ headLaid n at h
-unfolding headLaid
-head-laid n at h A R = rw (R, A) refl
+  pub put-done : {r : List ℕ} → k ≡ length row → row ≡ r → n ≡ sets n₀ at r
+  put-done l f = e ∙ ap (sets n₀ at) (take-all k row (omega (arith, l)) ∙ f)
 
 -- ---- heads laid one after the other
-pub laid-none : (heads : List Head) (n : List ℕ) → n ≡ laid 0 heads n
-unfolding laid
+pub laid-none : (heads : List Head) (n : List ℕ) → n ≡ laidTo 0 n heads
+unfolding laidTo
 laid-none heads n = refl
 
-pub laid-turn : (heads : List Head) (k : ℕ) (n₀ : List ℕ) {n m : List ℕ} → n ≡ laid k heads n₀ → m ≡ headLaid n (8 * k) (getD heads k freshHead) → m ≡ laid (k + 1) heads n₀
-unfolding laid
-laid-turn heads k n₀ e f = f ∙ ap (λ (x : List ℕ). headLaid x (8 * k) (getD heads k freshHead)) e ∙ ap (λ (j : ℕ). laid j heads n₀) (sym (add-one k))
+pub laid-turn : (heads : List Head) (k : ℕ) (n₀ : List ℕ) {n m : List ℕ} → n ≡ laidTo k n₀ heads → m ≡ sets n (8 * k) (headOver n (8 * k) (getD heads k freshHead)) → m ≡ laidTo (k + 1) n₀ heads
+unfolding laidTo
+laid-turn heads k n₀ e f =
+    f ∙ ap (λ (x : List ℕ). sets x (8 * k) (headOver x (8 * k) (getD heads k freshHead))) e ∙ ap (λ (j : ℕ). laidTo j n₀ heads) (sym (add-one k))
 
-pub laid-done : (heads : List Head) (k : ℕ) (n₀ : List ℕ) {n : List ℕ} → k ≡ 8 → n ≡ laid k heads n₀ → n ≡ laid 8 heads n₀
-laid-done heads k n₀ h e = e ∙ ap (λ (j : ℕ). laid j heads n₀) h
+pub laid-done : (heads : List Head) (k : ℕ) (n₀ : List ℕ) {n : List ℕ} → k ≡ poolLimit → n ≡ laidTo k n₀ heads → n ≡ laidOver n₀ heads
+unfolding laidOver
+laid-done heads k n₀ h e = e ∙ ap (λ (j : ℕ). laidTo j n₀ heads) h

@@ -1,58 +1,42 @@
 -- Two outcomes that satisfy a function's contract are equal. Assumes nothing.
 use Prim.Native.Nat.{ℕ}
-use mathlib.Core.Bool.{Bool}
-use mathlib.Core.Path.{_≡_}
+use mathlib.Core.Path.{_≡_, ap, _∙_}
 use Rattle.base.specs.Answer.{Answer}
-use Rattle.base.specs.Pick.{pick}
 use Rattle.base.proofs.Cases.{determined}
-use Rattle.can_id.specs.Build.{errorNumber, errorCarries}
-use Rattle.can_id.specs.declared.CanIdBuildError.{CanIdBuildError}
+use Rattle.can_id.specs.declared.Built.{Built}
 use Rattle.can_id.specs.declared.Destination.{Destination}
-use Rattle.numbers.specs.Numbers.{flagOn, byteOn, wordOn, toAddress, addressOf, codeOf, valueOf, carriesOf}
+use Rattle.numbers.specs.Numbers.{toAddress, addressOf, codeOf, valueOf, BuiltLeft}
 use mathlib.Core.List.{List}
-use Rattle.builder.specs.Next.{Step}
 use Rattle.builder.specs.declared.FastPacketBuilder.{FastPacketBuilder}
 use Rattle.builder.specs.declared.FrameIterator.{FrameIterator}
 use Rattle.builder.specs.declared.MadeBuilder.{MadeBuilder}
-use Rattle.numbers.specs.Frames.{builderFrom, builderNumbers, heldAfter, madeNumbers, iteratorFrom, placeNumbers, NextLeft, stepAfter, placeLaid}
-use Rattle.numbers.specs.Fives.{fiveOf}
+use Rattle.builder.specs.declared.Next.{Next}
+use Rattle.numbers.specs.Frames.{builderFrom, builderNumbers, BuilderLeft, iteratorFrom, placeNumbers, NextLeft, afterNext, placeOn}
+use Rattle.splitter.specs.Split.{ofSplit}
+use Rattle.splitter.specs.declared.Split.{Split}
+use Rattle.oracle.specs.Numbers.{ofReassembled, ofChecked}
+use Rattle.oracle.specs.declared.Reassembled.{Reassembled}
+use Rattle.oracle.specs.declared.Checked.{Checked}
+use Rattle.numbers.specs.Fives.{ToldInFive}
 use Rattle.session.specs.declared.Counters.{Counters}
 use Rattle.session.specs.declared.Head.{Head}
 use Rattle.assembler.specs.declared.MadePool.{MadePool}
 use Rattle.assembler.specs.declared.Pool.{Pool}
 use Rattle.assembler.specs.declared.Received.{Received}
-use Rattle.numbers.specs.Pool.{laid, poolFrom, countersFrom, counterNumbers, CallLeft, MadeAs}
+use Rattle.numbers.specs.Pool.{laidOver, poolFrom, countersFrom, counterNumbers, CallMemory, CallLeft, PoolMemory, PoolLeft}
 
 -- ---- numbers
 
 module _ (r s : ℕ) where
-  pub flag-unique : (x : Bool) → r ≡ pick x 1 0 → s ≡ pick x 1 0 → r ≡ s
-  flag-unique x = determined
-
-  pub flag-on-unique : (old : ℕ) (x : Bool) → r ≡ flagOn old x → s ≡ flagOn old x → r ≡ s
-  flag-on-unique old x = determined
-
-  pub byte-on-unique : (number x : ℕ) → r ≡ byteOn number x → s ≡ byteOn number x → r ≡ s
-  byte-on-unique number x = determined
-
-  pub word-on-unique : (old x : ℕ) → r ≡ wordOn old x → s ≡ wordOn old x → r ≡ s
-  word-on-unique old x = determined
-
   pub number-of-unique : (d : Destination) → r ≡ addressOf d → s ≡ addressOf d → r ≡ s
   number-of-unique d = determined
-
-  pub refusal-unique : (e : CanIdBuildError) → r ≡ errorNumber e → s ≡ errorNumber e → r ≡ s
-  refusal-unique e = determined
-
-  pub carried-unique : (e : CanIdBuildError) → r ≡ carriesOf (errorCarries e) → s ≡ carriesOf (errorCarries e) → r ≡ s
-  carried-unique e = determined
 
 pub destination-from-unique : (n : ℕ) (r s : Destination) → r ≡ toAddress n → s ≡ toAddress n → r ≡ s
 destination-from-unique n r s = determined
 
--- `a` is the answer of what was built: what is returned and what is lent out
-pub answered-unique : (a : Answer ℕ) (r s v w : ℕ) → (r ≡ codeOf a) × (v ≡ valueOf a) → (s ≡ codeOf a) × (w ≡ valueOf a) → (r ≡ s) × (v ≡ w)
-answered-unique a r s v w p q = (determined (p .0) (q .0), determined (p .1) (q .1))
+-- what is returned and what is lent out
+pub answered-unique : (b : Built) (r s v w : ℕ) → BuiltLeft b r v → BuiltLeft b s w → (r ≡ s) × (v ≡ w)
+answered-unique b r s v w p q = (determined (p .told) (q .told), determined (p .given) (q .given))
 
 -- ---- the frame builder
 
@@ -62,8 +46,9 @@ builder-from-unique n r s = determined
 pub builder-numbers-unique : (b : FastPacketBuilder) (r s : List ℕ) → r ≡ builderNumbers b → s ≡ builderNumbers b → r ≡ s
 builder-numbers-unique b r s = determined
 
-pub lay-made-unique : (m : MadeBuilder) (r s : ℕ) (v w : List ℕ) → (r ≡ heldAfter m) × (v ≡ madeNumbers m) → (s ≡ heldAfter m) × (w ≡ madeNumbers m) → (r ≡ s) × (v ≡ w)
-lay-made-unique m r s v w p q = (determined (p .0) (q .0), determined (p .1) (q .1))
+-- what is returned and what is lent out
+pub lay-made-unique : (m : MadeBuilder) (r s : ℕ) (v w : List ℕ) → BuilderLeft m r v → BuilderLeft m s w → (r ≡ s) × (v ≡ w)
+lay-made-unique m r s v w p q = (determined (p .told) (q .told), determined (p .made) (q .made))
 
 pub iterator-from-unique : (n place : List ℕ) (r s : FrameIterator) → r ≡ iteratorFrom n place → s ≡ iteratorFrom n place → r ≡ s
 iterator-from-unique n place r s = determined
@@ -72,27 +57,31 @@ pub place-numbers-unique : (t : FrameIterator) (r s : List ℕ) → r ≡ placeN
 place-numbers-unique t r s = determined
 
 -- what is returned, the frame's bytes, and its numbers
-pub told-unique : (t : Step) (r s : ℕ) (v w p q : List ℕ) → NextLeft t r v p → NextLeft t s w q → (r ≡ s) × (v ≡ w) × (p ≡ q)
-told-unique t r s v w p q h k = (determined (h .told) (k .told), determined (h .filled) (k .filled), determined (h .named) (k .named))
+pub told-unique : (n : Next) (r s : ℕ) (v w p q : List ℕ) → NextLeft n r v p → NextLeft n s w q → (r ≡ s) × (v ≡ w) × (p ≡ q)
+told-unique n r s v w p q h k = (determined (h .told) (k .told), determined (h .filled) (k .filled), determined (h .named) (k .named))
 
-pub after-numbers-unique : (t : Step) (r s : List ℕ) → r ≡ stepAfter t → s ≡ stepAfter t → r ≡ s
-after-numbers-unique t r s = determined
+pub after-numbers-unique : (n : Next) (r s : List ℕ) → r ≡ afterNext n → s ≡ afterNext n → r ≡ s
+after-numbers-unique n r s = determined
 
-pub go-on-unique : (place : List ℕ) (t : Step) (r s : List ℕ) → r ≡ placeLaid place t → s ≡ placeLaid place t → r ≡ s
-go-on-unique place t r s = determined
+pub go-on-unique : (place : List ℕ) (n : Next) (r s : List ℕ) → r ≡ placeOn place n → s ≡ placeOn place n → r ≡ s
+go-on-unique place n r s = determined
 
 -- ---- the bench's answers
 
--- `a` is `ofReassembled` or `ofChecked` of the answer: what is returned and the five numbers
-pub told-answer-unique : (a : Answer ℕ) (r s : ℕ) (v w : List ℕ) → (r ≡ codeOf a) × (v ≡ fiveOf a) → (s ≡ codeOf a) × (w ≡ fiveOf a) → (r ≡ s) × (v ≡ w)
-told-answer-unique a r s v w p q = (determined (p .0) (q .0), determined (p .1) (q .1))
+five-unique : (a : Answer ℕ) {r s : ℕ} {v w : List ℕ} → ToldInFive a r v → ToldInFive a s w → (r ≡ s) × (v ≡ w)
+five-unique a p q = (determined (p .told) (q .told), determined (p .carried) (q .carried))
 
--- `a` is `ofSplit` of the answer
-pub split-number-unique : (a : Answer ℕ) (r s : ℕ) → r ≡ codeOf a → s ≡ codeOf a → r ≡ s
-split-number-unique a r s = determined
+pub told-reassembled-unique : (x : Reassembled) {r s : ℕ} {v w : List ℕ} → ToldInFive (ofReassembled x) r v → ToldInFive (ofReassembled x) s w → (r ≡ s) × (v ≡ w)
+told-reassembled-unique x = five-unique (ofReassembled x)
 
-pub split-count-unique : (a : Answer ℕ) (r s : ℕ) → r ≡ valueOf a → s ≡ valueOf a → r ≡ s
-split-count-unique a r s = determined
+pub told-checked-unique : (x : Checked) {r s : ℕ} {v w : List ℕ} → ToldInFive (ofChecked x) r v → ToldInFive (ofChecked x) s w → (r ≡ s) × (v ≡ w)
+told-checked-unique x = five-unique (ofChecked x)
+
+pub split-number-unique : (x : Split) (r s : ℕ) → r ≡ codeOf (ofSplit x) → s ≡ codeOf (ofSplit x) → r ≡ s
+split-number-unique x r s = determined
+
+pub split-count-unique : (x : Split) (r s : ℕ) → r ≡ valueOf (ofSplit x) → s ≡ valueOf (ofSplit x) → r ≡ s
+split-count-unique x r s = determined
 
 -- ---- pools and counters
 
@@ -105,18 +94,31 @@ counters-from-unique n r s = determined
 pub counter-numbers-unique : (c : Counters) (r s : List ℕ) → r ≡ counterNumbers c → s ≡ counterNumbers c → r ≡ s
 counter-numbers-unique c r s = determined
 
-pub put-heads-unique : (heads : List Head) (old r s : List ℕ) → r ≡ laid 8 heads old → s ≡ laid 8 heads old → r ≡ s
+pub put-heads-unique : (heads : List Head) (old r s : List ℕ) → r ≡ laidOver old heads → s ≡ laidOver old heads → r ≡ s
 put-heads-unique heads old r s = determined
 
--- what is returned, the heads, the bytes, the counters, the payload and the length
-pub leave-unique : (r : Received) (old was : List ℕ) (a b : ℕ) (h i j k c d p q : List ℕ) (l m : ℕ)
-    → CallLeft r old was a h j c p l → CallLeft r old was b i k d q m
-    → (a ≡ b) × (h ≡ i) × (j ≡ k) × (c ≡ d) × (p ≡ q) × (l ≡ m)
-leave-unique r old was a b h i j k c d p q l m x y =
-    (determined (x .told) (y .told), determined (x .kept) (y .kept), determined (x .stored) (y .stored), determined (x .counted) (y .counted), determined (x .delivered) (y .delivered), determined (x .measured) (y .measured))
+-- lent memory whose parts are equal is equal
+pub calls-same : (a b : CallMemory) → a .heads ≡ b .heads → a .bytes ≡ b .bytes → a .counters ≡ b .counters → a .payload ≡ b .payload → a .length ≡ b .length → a ≡ b
+calls-same a b h y c p l =
+    ap (λ (x : List ℕ). record { heads = x; bytes = a .bytes; counters = a .counters; payload = a .payload; length = a .length }) h
+    ∙ ap (λ (x : List ℕ). record { heads = b .heads; bytes = x; counters = a .counters; payload = a .payload; length = a .length }) y
+    ∙ ap (λ (x : List ℕ). record { heads = b .heads; bytes = b .bytes; counters = x; payload = a .payload; length = a .length }) c
+    ∙ ap (λ (x : List ℕ). record { heads = b .heads; bytes = b .bytes; counters = b .counters; payload = x; length = a .length }) p
+    ∙ ap (λ (x : ℕ). record { heads = b .heads; bytes = b .bytes; counters = b .counters; payload = b .payload; length = x }) l
 
--- what is returned, the heads, the bytes and the size
-pub leave-made-unique : (n : MadePool) (old was : List ℕ) (a b : ℕ) (h i j k : List ℕ) (l m : ℕ)
-    → MadeAs n old was a h j l → MadeAs n old was b i k m → (a ≡ b) × (h ≡ i) × (j ≡ k) × (l ≡ m)
-leave-made-unique n old was a b h i j k l m x y =
-    (determined (x .told) (y .told), determined (x .kept) (y .kept), determined (x .stored) (y .stored), determined (x .sized) (y .sized))
+pub pools-same : (a b : PoolMemory) → a .heads ≡ b .heads → a .bytes ≡ b .bytes → a .size ≡ b .size → a ≡ b
+pools-same a b h y l =
+    ap (λ (x : List ℕ). record { heads = x; bytes = a .bytes; size = a .size }) h
+    ∙ ap (λ (x : List ℕ). record { heads = b .heads; bytes = x; size = a .size }) y
+    ∙ ap (λ (x : ℕ). record { heads = b .heads; bytes = b .bytes; size = x }) l
+
+-- what is returned, and all that was lent
+pub leave-unique : (r : Received) (before : CallMemory) (a b : ℕ) (p q : CallMemory) → CallLeft r before a p → CallLeft r before b q → (a ≡ b) × (p ≡ q)
+leave-unique r before a b p q x y = (
+  determined (x .told) (y .told),
+  calls-same p q (determined (x .kept) (y .kept)) (determined (x .stored) (y .stored)) (determined (x .counted) (y .counted)) (determined (x .delivered) (y .delivered)) (determined (x .measured) (y .measured)),
+)
+
+pub leave-made-unique : (m : MadePool) (before : PoolMemory) (a b : ℕ) (p q : PoolMemory) → PoolLeft m before a p → PoolLeft m before b q → (a ≡ b) × (p ≡ q)
+leave-made-unique m before a b p q x y =
+    (determined (x .told) (y .told), pools-same p q (determined (x .kept) (y .kept)) (determined (x .stored) (y .stored)) (determined (x .sized) (y .sized)))

@@ -1,10 +1,13 @@
 -- The numbers that stand for what C does not have.
-use Prim.Native.Nat.{ℕ, _%_}
+use Prim.Native.Nat.{ℕ}
 use mathlib.Core.List.{List, [], _∷_}
 use mathlib.Core.Bool.{Bool, not}
+use mathlib.Core.Path.{_≡_}
 use lib.Dec.{ltb, eqb}
 use Rattle.base.specs.Answer.{Answer, gives, refuses}
 use Rattle.base.specs.Pick.{pick}
+use Rattle.can_id.specs.Build.{ofBuilt}
+use Rattle.can_id.specs.declared.Built.{Built}
 use Rattle.can_id.specs.declared.Destination.{Destination}
 use Rattle.can_id.specs.declared.Destination.the-variants.{Nobody, To}
 
@@ -15,16 +18,6 @@ isSet n = not (eqb n 0)
 -- A number is written only where the field that is read from it has changed: over `old`, from which `read` was read.
 unfoldable pub laidOn : ℕ → ℕ → ℕ → ℕ
 laidOn old read new = pick (eqb read new) old new
-
--- a flag, a byte and a 32-bit word over a number
-unfoldable pub flagOn : ℕ → Bool → ℕ
-flagOn old x = laidOn old (pick (isSet old) 1 0) (pick x 1 0)
-
-unfoldable pub byteOn : ℕ → ℕ → ℕ
-byteOn old x = laidOn old (old % 0x100) x
-
-unfoldable pub wordOn : ℕ → ℕ → ℕ
-wordOn old x = laidOn old (old % 0x1_0000_0000) x
 
 -- a destination is an address below 256, and from 256 on there is none
 unfoldable pub toAddress : ℕ → Destination
@@ -48,3 +41,12 @@ carriesOf (x ∷ l) = x
 abbrev pub valueOf : Answer ℕ → ℕ
 valueOf (gives x) = x
 valueOf (refuses n l) = carriesOf l
+
+-- what such a call leaves: the number returned, and the number lent out
+pub record Answered (a : Answer ℕ) (code value : ℕ) : Type 0 where
+  pub told : code ≡ codeOf a
+  pub given : value ≡ valueOf a
+
+-- of what building an identifier gave
+abbrev pub BuiltLeft : Built → ℕ → ℕ → Type 0
+BuiltLeft b code value = Answered (ofBuilt b) code value

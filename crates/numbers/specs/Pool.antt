@@ -1,21 +1,22 @@
 -- A pool, the counters and an answer of the receive call, as numbers and bytes.
 use Prim.Native.Nat.{ℕ, zero, suc, _+_, _*_, _%_}
-use mathlib.Core.Bool.{Bool}
-use mathlib.Core.List.{List, [], _∷_}
+use mathlib.Core.List.{List, [], _∷_, _++_}
 use mathlib.Core.Path.{_≡_}
 use lib.Dec.{eqb}
-use lib.ListN.{getD, set, replicate}
+use lib.ListN.{getD, replicate}
+use lib.Seq.{sets}
 use Rattle.base.specs.Pick.{pick}
+use Rattle.session.specs.Rules.{poolLimit}
 use Rattle.session.specs.Heads.{freshHead}
+use Rattle.session.specs.Kinds.{kindNumber}
 use Rattle.session.specs.declared.Head.{Head}
-use Rattle.session.specs.declared.Heard.{Heard}
 use Rattle.session.specs.declared.Counters.{Counters}
 use Rattle.session.specs.declared.Kind.{Kind}
 use Rattle.session.specs.declared.Kind.the-variants.{Refused, Ignored, FragmentConsumed, MessageComplete}
 use Rattle.assembler.specs.declared.Pool.{Pool}
 use Rattle.assembler.specs.declared.MadePool.{MadePool}
 use Rattle.assembler.specs.declared.Received.{Received}
-use Rattle.numbers.specs.Numbers.{isSet, flagOn, byteOn, wordOn}
+use Rattle.numbers.specs.Numbers.{isSet, laidOn}
 
 -- a head is eight numbers, each read in the width of its field
 unfoldable pub headAt : List ℕ → ℕ → Head
@@ -31,41 +32,37 @@ headAt n at =
       «last_seen_ms» = getD n (at + 7) 0;
     }
 
--- a field laid over the number that it was read from, by the rule of `laidOn`
-unfoldable pub putFlag : List ℕ → ℕ → Bool → List ℕ
-putFlag n i x = set n i (flagOn (getD n i 0) x)
+-- a head's eight numbers over those from `at` on, by the rule of `laidOn`; the sizes and the time are as wide as their numbers
+unfoldable pub headOver : List ℕ → ℕ → Head → List ℕ
+headOver n at h =
+    laidOn (getD n at 0) (pick (isSet (getD n at 0)) 1 0) (pick (h .«in_progress») 1 0) ∷
+    laidOn (getD n (at + 1) 0) (getD n (at + 1) 0 % 0x100) (h .«source_address») ∷
+    laidOn (getD n (at + 2) 0) (getD n (at + 2) 0 % 0x100) (h .«sequence_id») ∷
+    laidOn (getD n (at + 3) 0) (getD n (at + 3) 0 % 0x100) (h .«last_frame_index») ∷
+    laidOn (getD n (at + 4) 0) (getD n (at + 4) 0 % 0x1_0000_0000) (h .pgn) ∷
+    h .«expected_size» ∷
+    h .«current_size» ∷
+    h .«last_seen_ms» ∷
+    []
 
-unfoldable pub putByte : List ℕ → ℕ → ℕ → List ℕ
-putByte n i x = set n i (byteOn (getD n i 0) x)
+-- k heads of numbers: head j stands at 8 * j
+unfoldable pub headsTo : ℕ → List ℕ → List Head
+headsTo zero n = []
+headsTo (suc k) n = headsTo k n ++ (headAt n (8 * k) ∷ [])
 
-unfoldable pub putWord : List ℕ → ℕ → ℕ → List ℕ
-putWord n i x = set n i (wordOn (getD n i 0) x)
+-- and k heads laid back over numbers
+unfoldable pub laidTo : ℕ → List ℕ → List Head → List ℕ
+laidTo zero n heads = n
+laidTo (suc k) n heads = sets (laidTo k n heads) (8 * k) (headOver (laidTo k n heads) (8 * k) (getD heads k freshHead))
 
--- a head laid back: first flag, source, sequence, index and PGN
-unfoldable pub keyLaid : List ℕ → ℕ → Head → List ℕ
-keyLaid n at h =
-    putWord (putByte (putByte (putByte (putFlag n at (h .«in_progress»))
-    (at + 1) (h .«source_address»))
-    (at + 2) (h .«sequence_id»))
-    (at + 3) (h .«last_frame_index»))
-    (at + 4) (h .pgn)
-
--- then the sizes and the time, which are as wide as their numbers
-unfoldable pub sizesLaid : List ℕ → ℕ → Head → List ℕ
-sizesLaid n at h = set (set (set n (at + 5) (h .«expected_size»)) (at + 6) (h .«current_size»)) (at + 7) (h .«last_seen_ms»)
-
-unfoldable pub headLaid : List ℕ → ℕ → Head → List ℕ
-headLaid n at h = sizesLaid (keyLaid n at h) at h
-
--- eight heads are 64: head k stands at 8 * k
+-- all heads of a pool
 unfoldable pub headsFrom : List ℕ → List Head
-headsFrom n = headAt n 0 ∷ headAt n 8 ∷ headAt n 16 ∷ headAt n 24 ∷ headAt n 32 ∷ headAt n 40 ∷ headAt n 48 ∷ headAt n 56 ∷ []
+headsFrom n = headsTo poolLimit n
 
-unfoldable pub laid : ℕ → List Head → List ℕ → List ℕ
-laid zero heads n = n
-laid (suc k) heads n = headLaid (laid k heads n) (8 * k) (getD heads k freshHead)
+unfoldable pub laidOver : List ℕ → List Head → List ℕ
+laidOver n heads = laidTo poolLimit n heads
 
--- a pool is a size, 64 numbers and the bytes of its slots
+-- a pool is a size, eight numbers for each head and the bytes of its slots
 unfoldable pub poolFrom : ℕ → List ℕ → List ℕ → Pool
 poolFrom size heads bytes = record { size = size; heads = headsFrom heads; bytes = bytes }
 
@@ -83,43 +80,43 @@ countersFrom n =
 unfoldable pub counterNumbers : Counters → List ℕ
 counterNumbers c = c .«expired_sessions» ∷ c .«pool_exhausted» ∷ c .«rejected_frames» ∷ c .«lost_fragments» ∷ c .«unknown_pgn» ∷ []
 
-abbrev pub heardOf : ℕ → ℕ → ℕ → List ℕ → Heard
-heardOf time pgn source bytes = record { «now_ms» = time; pgn = pgn; «source_address» = source; «data» = bytes }
-
--- an answer's number: a refusal's own, 256 Ignored, 257 FragmentConsumed, 258 MessageComplete
-abbrev pub kindCode : Kind → ℕ
-kindCode (Refused n) = n
-kindCode Ignored = 256
-kindCode FragmentConsumed = 257
-kindCode MessageComplete = 258
-
 -- a message is written over the lent payload, and any other answer leaves it as it was
-abbrev pub deliveredOn : Kind → List ℕ → List ℕ → List ℕ
-deliveredOn (Refused n) message old = old
-deliveredOn Ignored message old = old
-deliveredOn FragmentConsumed message old = old
-deliveredOn MessageComplete message old = message
+abbrev pub deliveredOn : List ℕ → Kind → List ℕ → List ℕ
+deliveredOn old (Refused n) message = old
+deliveredOn old Ignored message = old
+deliveredOn old FragmentConsumed message = old
+deliveredOn old MessageComplete message = message
 
--- what an answer leaves: what is returned, and the lent heads, bytes, counters, payload and length; heads and payload were `old` and `was`
-pub record CallLeft (r : Received) (old was : List ℕ) (code : ℕ) (heads bytes counters payload : List ℕ) (len : ℕ) : Type 0 where
-  pub told : code ≡ kindCode (r .kind)
-  pub kept : heads ≡ laid 8 (r .pool .heads) old
-  pub stored : bytes ≡ r .pool .bytes
-  pub counted : counters ≡ counterNumbers (r .counters)
-  pub delivered : payload ≡ deliveredOn (r .kind) (r .payload) was
-  pub measured : len ≡ r .length
+-- the memory that a caller lends to a receive call
+pub record CallMemory : Type 0 where
+  pub heads : List ℕ
+  pub bytes : List ℕ
+  pub counters : List ℕ
+  pub payload : List ℕ
+  pub length : ℕ
 
--- a fresh pool is laid on 64 zeros
+-- what an answer leaves: what is returned, and that memory, from what it was before
+pub record CallLeft (r : Received) (before : CallMemory) (code : ℕ) (after : CallMemory) : Type 0 where
+  pub told : code ≡ kindNumber (r .kind)
+  pub kept : after .heads ≡ laidOver (before .heads) (r .pool .heads)
+  pub stored : after .bytes ≡ r .pool .bytes
+  pub counted : after .counters ≡ counterNumbers (r .counters)
+  pub delivered : after .payload ≡ deliveredOn (before .payload) (r .kind) (r .payload)
+  pub measured : after .length ≡ r .length
+
+-- the memory that a caller lends for a pool to be made in
+pub record PoolMemory : Type 0 where
+  pub heads : List ℕ
+  pub bytes : List ℕ
+  pub size : ℕ
+
+-- a fresh pool is laid on zeros
 unfoldable pub blankHeads : List ℕ
-blankHeads = replicate 64 0
+blankHeads = replicate (8 * poolLimit) 0
 
--- what making a pool leaves: without a refusal its heads and bytes, and with one what was there
-pub record MadeAs (m : MadePool) (old was : List ℕ) (code : ℕ) (heads bytes : List ℕ) (size : ℕ) : Type 0 where
+-- what making a pool leaves: without a refusal its heads and bytes, and with one what was there; and its size
+pub record PoolLeft (m : MadePool) (before : PoolMemory) (code : ℕ) (after : PoolMemory) : Type 0 where
   pub told : code ≡ m .refused
-  pub kept : heads ≡ pick (eqb (m .refused) 0) (laid 8 (m .pool .heads) blankHeads) old
-  pub stored : bytes ≡ pick (eqb (m .refused) 0) (m .pool .bytes) was
-  pub sized : size ≡ m .pool .size
-
--- a pool made without a refusal
-abbrev pub plainly : Pool → MadePool
-plainly p = record { refused = 0; pool = p }
+  pub kept : after .heads ≡ pick (eqb (m .refused) 0) (laidOver blankHeads (m .pool .heads)) (before .heads)
+  pub stored : after .bytes ≡ pick (eqb (m .refused) 0) (m .pool .bytes) (before .bytes)
+  pub sized : after .size ≡ m .pool .size

@@ -1,12 +1,10 @@
 // The answers of the bench as numbers: what is returned, and five numbers lent out.
 ghost use mathlib.Core.Path.{_≡_};
 ghost use mathlib.Core.List.{[], _∷_};
-ghost use Rattle.oracle.specs.Numbers.{ofReassembled};
-ghost use Rattle.oracle.specs.FaultNumbers.{faultNumber, faultValues};
-ghost use Rattle.oracle.specs.Numbers.{ofChecked};
+ghost use Rattle.oracle.specs.Numbers.{ofReassembled, faultNumber, faultValues, ofChecked};
 ghost use Rattle.splitter.specs.Split.{ofSplit};
 ghost use Rattle.numbers.specs.Numbers.{codeOf, valueOf};
-ghost use Rattle.numbers.specs.Fives.{five, fiveOf};
+ghost use Rattle.numbers.specs.Fives.{five, ToldInFive};
 use oracle::Checked;
 use oracle::Fault;
 use oracle::Reassembled;
@@ -80,7 +78,7 @@ fn told_fault(fault: Fault, values: &mut [u64; 5]) -> u32
 }
 
 pub fn told_reassembled(r: Reassembled, values: &mut [u64; 5]) -> u32
-    ensures { λ code. ⌜ (code ≡ codeOf (ofReassembled r)) × (now (values .exit) ≡ fiveOf (ofReassembled r)) ⌝ }
+    ensures { λ code. ⌜ ToldInFive (ofReassembled r) code (now (values .exit)) ⌝ }
 {
     match r {
         Reassembled::Messages(n) => {
@@ -128,7 +126,7 @@ fn told_number(number: u32, n: usize, values: &mut [u64; 5]) -> u32
 }
 
 pub fn told_checked(c: Checked, values: &mut [u64; 5]) -> u32
-    ensures { λ code. ⌜ (code ≡ codeOf (ofChecked c)) × (now (values .exit) ≡ fiveOf (ofChecked c)) ⌝ }
+    ensures { λ code. ⌜ ToldInFive (ofChecked c) code (now (values .exit)) ⌝ }
 {
     match c {
         Checked::Good => told_number(0, 0, values),

@@ -1,14 +1,14 @@
 // The frame builder, its iterator and its answers, as numbers.
 ghost use mathlib.Core.Path.{_≡_};
 ghost use mathlib.Core.List.{[], _∷_};
-ghost use Rattle.builder.specs.Next.{ofNextKind, ofNext};
-ghost use Rattle.numbers.specs.Frames.{builderFrom, builderNumbers, heldAfter, madeNumbers, iteratorFrom, placeNumbers, nextCode, kindCarries, NextLeft, stepAfter, placeLaid};
-use crate::byte_on;
-use crate::carried;
-use crate::destination_from;
-use crate::flag;
-use crate::number_of;
-use crate::refusal;
+ghost use Rattle.builder.specs.Next.{ofNextKind};
+ghost use Rattle.numbers.specs.Frames.{builderFrom, builderNumbers, BuilderLeft, iteratorFrom, placeNumbers, nextCode, kindCarries, NextLeft, afterNext, placeOn};
+use crate::numbers::byte_on;
+use crate::numbers::carried;
+use crate::numbers::destination_from;
+use crate::numbers::flag;
+use crate::numbers::number_of;
+use crate::numbers::refusal;
 use builder::FastPacketBuilder;
 use builder::FrameIterator;
 use builder::MadeBuilder;
@@ -46,7 +46,7 @@ pub fn builder_numbers(b: FastPacketBuilder) -> [u64; 6]
 }
 
 pub fn lay_made(made: MadeBuilder, builder: &mut [u64; 6]) -> u8
-    ensures { λ r. ⌜ (r ≡ heldAfter made) × (now (builder .exit) ≡ madeNumbers made) ⌝ }
+    ensures { λ r. ⌜ BuilderLeft made r (now (builder .exit)) ⌝ }
 {
     let b = made.builder;
     *builder = builder_numbers(b);
@@ -55,12 +55,15 @@ pub fn lay_made(made: MadeBuilder, builder: &mut [u64; 6]) -> u8
 
 // ---- an answer as numbers
 
+// The number of End, in the list of the kinds of answers.
+const END: u32 = 100;
+
 fn kind_number(kind: NextKind) -> u32
     ensures { λ r. ⌜ r ≡ nextCode (ofNextKind kind) ⌝ }
 {
     match kind {
         NextKind::Frame => 0,
-        NextKind::End => 256,
+        NextKind::End => END,
         NextKind::Refused(error) => refusal(error),
     }
 }
@@ -86,7 +89,7 @@ fn frame_numbers(frame: CanFrame, kind: NextKind) -> [u64; 3]
 }
 
 pub fn told(next: Next, data: &mut [u8; 8], frame: &mut [u64; 3]) -> u32
-    ensures { λ r. ⌜ NextLeft (ofNext next) r (now («data» .exit)) (now (frame .exit)) ⌝ }
+    ensures { λ r. ⌜ NextLeft next r (now («data» .exit)) (now (frame .exit)) ⌝ }
 {
     let f = next.frame;
     let kind = next.kind;
@@ -97,7 +100,7 @@ pub fn told(next: Next, data: &mut [u8; 8], frame: &mut [u64; 3]) -> u32
 }
 
 pub fn after_numbers(next: Next) -> [u64; 2]
-    ensures { λ r. ⌜ r ≡ stepAfter (ofNext next) ⌝ }
+    ensures { λ r. ⌜ r ≡ afterNext next ⌝ }
 {
     [next.frame_index as u64, next.bytes_sent as u64]
 }
@@ -123,7 +126,7 @@ pub fn place_numbers(t: FrameIterator) -> [u64; 2]
 
 // A place goes on; its frame index is written only where it changes.
 pub fn go_on(place: &mut [u64; 2], next: Next)
-    ensures { λ _. ⌜ now (place .exit) ≡ placeLaid (now (place .entry)) (ofNext next) ⌝ }
+    ensures { λ _. ⌜ now (place .exit) ≡ placeOn (now (place .entry)) next ⌝ }
 {
     *place = [byte_on(place[0], next.frame_index), next.bytes_sent as u64];
 }

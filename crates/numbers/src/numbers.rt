@@ -1,13 +1,14 @@
 // Numbers for what C does not have: a destination that may be missing, and a refusal.
 ghost use mathlib.Core.Path.{_≡_};
+ghost use Prim.Native.Nat.{_%_};
 ghost use Rattle.base.specs.Pick.{pick};
-ghost use Rattle.can_id.specs.Build.{ofBuilt, errorNumber, errorCarries};
-ghost use Rattle.numbers.specs.Numbers.{flagOn, byteOn, wordOn, toAddress, addressOf, codeOf, valueOf, carriesOf};
+ghost use Rattle.can_id.specs.Build.{errorNumber, errorCarries};
+ghost use Rattle.numbers.specs.Numbers.{isSet, laidOn, toAddress, addressOf, carriesOf, BuiltLeft};
 use can_id::Built;
 use can_id::CanIdBuildError;
 use can_id::Destination;
 
-pub fn flag(x: bool) -> u64
+pub(crate) fn flag(x: bool) -> u64
     ensures { λ r. ⌜ r ≡ pick x 1 0 ⌝ }
 {
     if x {
@@ -18,8 +19,8 @@ pub fn flag(x: bool) -> u64
 
 // ---- a number to be written over the one that was read: that one itself, where the field that was read from it is still right
 
-pub fn flag_on(old: u64, x: bool) -> u64
-    ensures { λ r. ⌜ r ≡ flagOn old x ⌝ }
+pub(crate) fn flag_on(old: u64, x: bool) -> u64
+    ensures { λ r. ⌜ r ≡ laidOn old (pick (isSet old) 1 0) (pick x 1 0) ⌝ }
 {
     if flag(old != 0) == flag(x) {
         return old;
@@ -27,8 +28,8 @@ pub fn flag_on(old: u64, x: bool) -> u64
     flag(x)
 }
 
-pub fn byte_on(number: u64, x: u8) -> u64
-    ensures { λ r. ⌜ r ≡ byteOn number x ⌝ }
+pub(crate) fn byte_on(number: u64, x: u8) -> u64
+    ensures { λ r. ⌜ r ≡ laidOn number (number % 0x100) x ⌝ }
 {
     let new = x as u64;
     if (number % 0x100) as u8 == x {
@@ -37,8 +38,8 @@ pub fn byte_on(number: u64, x: u8) -> u64
     new
 }
 
-pub fn word_on(old: u64, x: u32) -> u64
-    ensures { λ r. ⌜ r ≡ wordOn old x ⌝ }
+pub(crate) fn word_on(old: u64, x: u32) -> u64
+    ensures { λ r. ⌜ r ≡ laidOn old (old % 0x1_0000_0000) x ⌝ }
 {
     if (old % 0x1_0000_0000) as u32 == x {
         return old;
@@ -66,7 +67,7 @@ pub fn number_of(destination: Destination) -> u16
     }
 }
 
-pub fn refusal(error: CanIdBuildError) -> u32
+pub(crate) fn refusal(error: CanIdBuildError) -> u32
     ensures { λ r. ⌜ r ≡ errorNumber error ⌝ }
 {
     match error {
@@ -79,7 +80,7 @@ pub fn refusal(error: CanIdBuildError) -> u32
     }
 }
 
-pub fn carried(error: CanIdBuildError) -> u32
+pub(crate) fn carried(error: CanIdBuildError) -> u32
     ensures { λ r. ⌜ r ≡ carriesOf (errorCarries error) ⌝ }
 {
     match error {
@@ -94,7 +95,7 @@ pub fn carried(error: CanIdBuildError) -> u32
 
 // The refusal's number or 0; in `value` the identifier, or what the refusal carries.
 pub fn answered(built: Built, value: &mut u32) -> u32
-    ensures { λ r. ⌜ (r ≡ codeOf (ofBuilt built)) × (now (value .exit) ≡ valueOf (ofBuilt built)) ⌝ }
+    ensures { λ r. ⌜ BuiltLeft built r (now (value .exit)) ⌝ }
 {
     match built {
         Built::Id(id) => {

@@ -1,46 +1,56 @@
-// A pool as its size, 64 numbers for the heads of its slots and their bytes; the counters as five numbers; and what an answer leaves in them.
+// A pool as its size, eight numbers for each head of its slots and their bytes; the counters as five numbers; and what an answer leaves in them.
 ghost use mathlib.Core.Path.{_≡_};
-ghost use Prim.Native.Nat.{_<_, _%_};
+ghost use Prim.Native.Nat.{_+_, _*_, _<_, _≤_, _%_};
 ghost use lib.ListN.{getD};
-ghost use Rattle.numbers.specs.Pool.{headAt, putFlag, putByte, putWord, keyLaid, sizesLaid, headLaid, headsFrom, laid, poolFrom, countersFrom, counterNumbers, kindCode, deliveredOn, CallLeft, blankHeads, MadeAs};
-use crate::byte_on;
-use crate::flag_on;
-use crate::word_on;
+ghost use lib.Seq.{sets};
+ghost use Rattle.session.specs.Rules.{poolLimit};
+ghost use Rattle.session.specs.Kinds.{kindNumber};
+ghost use Rattle.numbers.specs.Pool.{headAt, headOver, headsFrom, laidOver, poolFrom, countersFrom, counterNumbers, deliveredOn, CallLeft, blankHeads, PoolLeft};
+use crate::numbers::byte_on;
+use crate::numbers::flag_on;
+use crate::numbers::word_on;
 use assembler::MadePool;
 use assembler::POOL_BYTES;
 use assembler::Pool;
 use assembler::Received;
 use fast_packet::MAX_FAST_PACKET_PAYLOAD;
 use session::Counters;
+use session::FRAGMENT_CONSUMED;
 use session::Head;
+use session::IGNORED;
 use session::Kind;
+use session::MESSAGE_COMPLETE;
 use session::POOL_LIMIT;
+use session::fresh_head;
+
+// Eight numbers for each head.
+pub const HEAD_NUMBERS: usize = 8 * POOL_LIMIT;
 
 // ---- heads as numbers
 
-fn number_at(n: &[u64; 64], i: usize) -> u64
-    requires { ⌜ i < 64 ⌝ }
+fn number_at(n: &[u64; HEAD_NUMBERS], i: usize) -> u64
+    requires { ⌜ i < 8 * poolLimit ⌝ }
     ensures { λ r. ⌜ r ≡ getD (now (n .entry)) i 0 ⌝ }
 {
     n[i]
 }
 
-fn byte_at(n: &[u64; 64], i: usize) -> u8
-    requires { ⌜ i < 64 ⌝ }
+fn byte_at(n: &[u64; HEAD_NUMBERS], i: usize) -> u8
+    requires { ⌜ i < 8 * poolLimit ⌝ }
     ensures { λ r. ⌜ r ≡ getD (now (n .entry)) i 0 % 0x100 ⌝ }
 {
     (n[i] % 0x100) as u8
 }
 
-fn word_at(n: &[u64; 64], i: usize) -> u32
-    requires { ⌜ i < 64 ⌝ }
+fn word_at(n: &[u64; HEAD_NUMBERS], i: usize) -> u32
+    requires { ⌜ i < 8 * poolLimit ⌝ }
     ensures { λ r. ⌜ r ≡ getD (now (n .entry)) i 0 % 0x1_0000_0000 ⌝ }
 {
     (n[i] % 0x1_0000_0000) as u32
 }
 
-fn head_at(n: &[u64; 64], at: usize) -> Head
-    requires { ⌜ at < 57 ⌝ }
+fn head_at(n: &[u64; HEAD_NUMBERS], at: usize) -> Head
+    requires { ⌜ at + 8 ≤ 8 * poolLimit ⌝ }
     ensures { λ r. ⌜ r ≡ headAt (now (n .entry)) at ⌝ }
 {
     Head {
@@ -55,72 +65,49 @@ fn head_at(n: &[u64; 64], at: usize) -> Head
     }
 }
 
-fn heads_from(n: &[u64; 64]) -> [Head; POOL_LIMIT]
+fn heads_from(n: &[u64; HEAD_NUMBERS]) -> [Head; POOL_LIMIT]
     ensures { λ r. ⌜ r ≡ headsFrom (now (n .entry)) ⌝ }
 {
+    let h = fresh_head();
+    let mut heads = [h; POOL_LIMIT];
+    let mut k: usize = 0;
+    while k < POOL_LIMIT {
+        heads[k] = head_at(n, 8 * k);
+        k += 1;
+    }
+    heads
+}
+
+fn head_over(n: &[u64; HEAD_NUMBERS], at: usize, h: Head) -> [u64; 8]
+    requires { ⌜ at + 8 ≤ 8 * poolLimit ⌝ }
+    ensures { λ r. ⌜ r ≡ headOver (now (n .entry)) at h ⌝ }
+{
     [
-        head_at(n, 0),
-        head_at(n, 8),
-        head_at(n, 16),
-        head_at(n, 24),
-        head_at(n, 32),
-        head_at(n, 40),
-        head_at(n, 48),
-        head_at(n, 56),
+        flag_on(n[at], h.in_progress),
+        byte_on(n[at + 1], h.source_address),
+        byte_on(n[at + 2], h.sequence_id),
+        byte_on(n[at + 3], h.last_frame_index),
+        word_on(n[at + 4], h.pgn),
+        h.expected_size as u64,
+        h.current_size as u64,
+        h.last_seen_ms,
     ]
 }
 
-fn put_flag(n: &mut [u64; 64], i: usize, x: bool)
-    requires { ⌜ i < 64 ⌝ }
-    ensures { λ _. ⌜ now (n .exit) ≡ putFlag (now (n .entry)) i x ⌝ }
+fn put_head(n: &mut [u64; HEAD_NUMBERS], at: usize, h: Head)
+    requires { ⌜ at + 8 ≤ 8 * poolLimit ⌝ }
+    ensures { λ _. ⌜ now (n .exit) ≡ sets (now (n .entry)) at (headOver (now (n .entry)) at h) ⌝ }
 {
-    n[i] = flag_on(n[i], x);
+    let numbers = head_over(n, at, h);
+    let mut k: usize = 0;
+    while k < 8 {
+        n[at + k] = numbers[k];
+        k += 1;
+    }
 }
 
-fn put_byte(n: &mut [u64; 64], i: usize, x: u8)
-    requires { ⌜ i < 64 ⌝ }
-    ensures { λ _. ⌜ now (n .exit) ≡ putByte (now (n .entry)) i x ⌝ }
-{
-    n[i] = byte_on(n[i], x);
-}
-
-fn put_word(n: &mut [u64; 64], i: usize, x: u32)
-    requires { ⌜ i < 64 ⌝ }
-    ensures { λ _. ⌜ now (n .exit) ≡ putWord (now (n .entry)) i x ⌝ }
-{
-    n[i] = word_on(n[i], x);
-}
-
-fn put_key(n: &mut [u64; 64], at: usize, h: Head)
-    requires { ⌜ at < 57 ⌝ }
-    ensures { λ _. ⌜ now (n .exit) ≡ keyLaid (now (n .entry)) at h ⌝ }
-{
-    put_flag(n, at, h.in_progress);
-    put_byte(n, at + 1, h.source_address);
-    put_byte(n, at + 2, h.sequence_id);
-    put_byte(n, at + 3, h.last_frame_index);
-    put_word(n, at + 4, h.pgn);
-}
-
-fn put_sizes(n: &mut [u64; 64], at: usize, h: Head)
-    requires { ⌜ at < 57 ⌝ }
-    ensures { λ _. ⌜ now (n .exit) ≡ sizesLaid (now (n .entry)) at h ⌝ }
-{
-    n[at + 5] = h.expected_size as u64;
-    n[at + 6] = h.current_size as u64;
-    n[at + 7] = h.last_seen_ms;
-}
-
-fn put_head(n: &mut [u64; 64], at: usize, h: Head)
-    requires { ⌜ at < 57 ⌝ }
-    ensures { λ _. ⌜ now (n .exit) ≡ headLaid (now (n .entry)) at h ⌝ }
-{
-    put_key(n, at, h);
-    put_sizes(n, at, h);
-}
-
-pub fn put_heads(n: &mut [u64; 64], heads: [Head; POOL_LIMIT])
-    ensures { λ r. ⌜ now (n .exit) ≡ laid 8 heads (now (n .entry)) ⌝ }
+pub fn put_heads(n: &mut [u64; HEAD_NUMBERS], heads: [Head; POOL_LIMIT])
+    ensures { λ r. ⌜ now (n .exit) ≡ laidOver (now (n .entry)) heads ⌝ }
 {
     let mut k = 0;
     while k < POOL_LIMIT {
@@ -132,7 +119,7 @@ pub fn put_heads(n: &mut [u64; 64], heads: [Head; POOL_LIMIT])
 
 // ---- a pool, counters and a frame from numbers
 
-pub fn pool_from(size: usize, heads: &[u64; 64], bytes: &[u8; POOL_BYTES]) -> Pool
+pub fn pool_from(size: usize, heads: &[u64; HEAD_NUMBERS], bytes: &[u8; POOL_BYTES]) -> Pool
     ensures { λ r. ⌜ r ≡ poolFrom size (now (heads .entry)) (now (bytes .entry)) ⌝ }
 {
     let h = heads_from(heads);
@@ -169,13 +156,13 @@ pub fn counter_numbers(c: Counters) -> [u32; 5]
 }
 
 fn kind_code(kind: Kind) -> u32
-    ensures { λ r. ⌜ r ≡ kindCode kind ⌝ }
+    ensures { λ r. ⌜ r ≡ kindNumber kind ⌝ }
 {
     match kind {
         Kind::Refused(number) => number as u32,
-        Kind::Ignored => 256,
-        Kind::FragmentConsumed => 257,
-        Kind::MessageComplete => 258,
+        Kind::Ignored => IGNORED as u32,
+        Kind::FragmentConsumed => FRAGMENT_CONSUMED as u32,
+        Kind::MessageComplete => MESSAGE_COMPLETE as u32,
     }
 }
 
@@ -185,7 +172,7 @@ fn deliver(
     message: [u8; MAX_FAST_PACKET_PAYLOAD],
     payload: &mut [u8; MAX_FAST_PACKET_PAYLOAD],
 )
-    ensures { λ _. ⌜ now (payload .exit) ≡ deliveredOn kind message (now (payload .entry)) ⌝ }
+    ensures { λ _. ⌜ now (payload .exit) ≡ deliveredOn (now (payload .entry)) kind message ⌝ }
 {
     match kind {
         Kind::MessageComplete => {
@@ -200,13 +187,15 @@ fn deliver(
 // What an answer leaves in the lent memory.
 pub fn leave(
     r: Received,
-    heads: &mut [u64; 64],
+    heads: &mut [u64; HEAD_NUMBERS],
     bytes: &mut [u8; POOL_BYTES],
     counters: &mut [u32; 5],
     payload: &mut [u8; MAX_FAST_PACKET_PAYLOAD],
     length: &mut usize,
 ) -> u32
-    ensures { λ code. ⌜ CallLeft r (now (heads .entry)) (now (payload .entry)) code (now (heads .exit)) (now (bytes .exit)) (now (counters .exit)) (now (payload .exit)) (now (length .exit)) ⌝ }
+    ensures { λ code. ⌜ CallLeft r
+        (record { heads = now (heads .entry); bytes = now (bytes .entry); counters = now (counters .entry); payload = now (payload .entry); length = now (length .entry) })
+        code (record { heads = now (heads .exit); bytes = now (bytes .exit); counters = now (counters .exit); payload = now (payload .exit); length = now (length .exit) }) ⌝ }
 {
     let pool = r.pool;
     let h = pool.heads;
@@ -224,20 +213,21 @@ pub fn leave(
 
 // ---- a pool made
 
-fn fresh_heads(heads: &mut [u64; 64], h: [Head; POOL_LIMIT])
-    ensures { λ _. ⌜ now (heads .exit) ≡ laid 8 h blankHeads ⌝ }
+fn fresh_heads(heads: &mut [u64; HEAD_NUMBERS], h: [Head; POOL_LIMIT])
+    ensures { λ _. ⌜ now (heads .exit) ≡ laidOver blankHeads h ⌝ }
 {
-    *heads = [0; 64];
+    *heads = [0; HEAD_NUMBERS];
     put_heads(heads, h);
 }
 
 pub fn leave_made(
     made: MadePool,
-    heads: &mut [u64; 64],
+    heads: &mut [u64; HEAD_NUMBERS],
     bytes: &mut [u8; POOL_BYTES],
     size: &mut usize,
 ) -> u32
-    ensures { λ code. ⌜ MadeAs made (now (heads .entry)) (now (bytes .entry)) code (now (heads .exit)) (now (bytes .exit)) (now (size .exit)) ⌝ }
+    ensures { λ code. ⌜ PoolLeft made (record { heads = now (heads .entry); bytes = now (bytes .entry); size = now (size .entry) })
+        code (record { heads = now (heads .exit); bytes = now (bytes .exit); size = now (size .exit) }) ⌝ }
 {
     let pool = made.pool;
     *size = pool.size;

@@ -3,7 +3,7 @@
 --     row-tells    the row: where the paper refuses, the code's last state has that refusal; where it gives messages, the code counts and lays those
 --     strict-tells the answer, the list and the arena
 -- Assumes nothing.
-use Prim.Native.Nat.{ℕ, zero, suc, _+_, _-_, _*_, _/_, _<_, _≤_}
+use Prim.Native.Nat.{ℕ, _+_, _-_, _*_, _/_, _<_, _≤_}
 use mathlib.Core.Bool.{Bool, true, false}
 use mathlib.Core.List.{List, [], _∷_, _++_, append-nil, append-assoc}
 use mathlib.Core.Option.{Option, none, some}
@@ -17,13 +17,12 @@ use lib.Seq.{sets, length-take-le, take-all, drop-drop, take-append-add, drop-ap
 use Rattle.base.specs.Answer.{Answer, gives, refuses, counted}
 use Rattle.base.specs.Pick.{pick}
 use Rattle.base.proofs.Cases.{tested, less?, same?, when-eq, when-ne, when-lt, when-ge, when-true, when-false}
-use Rattle.splitter.specs.Frames.{eight, frameBytes}
+use Rattle.splitter.specs.Frames.{frameBytes}
 use Rattle.oracle.specs.Ids.{isOther}
-use Rattle.oracle.specs.Frames.{benchIndex, benchSequence, oddOf, paddingAt, firstThen, laterThen, messageEnd, faultAt}
+use Rattle.oracle.specs.Strict.{benchIndex, benchSequence, oddOf, BenchMessage, Open, FrameOutcome, refused, waits, whole, collectedAt, firstFrame, laterFrame, outcomeOf, before, thenOf, endOf, messagesFrom, messagesOf, payloadsOf, listFrom, roomFor, deliveredTo, arenaWith, listWith, Reassembles}
+use Rattle.oracle.specs.inner.Frames.{paddingAt, firstThen, laterThen, messageEnd, faultAt}
 use Rattle.oracle.proofs.VerdictLaws.{row-passed, row-refused}
-use Rattle.oracle.specs.Strict.{BenchMessage, Open, FrameOutcome, refused, waits, whole, collectedAt, firstFrame, laterFrame, outcomeOf, before, thenOf, endOf, messagesFrom, messagesOf, payloadsOf, listFrom, roomFor, deliveredTo, arenaWith, listWith}
-use Rattle.oracle.specs.FaultNumbers.{faultNumber, faultValues}
-use Rattle.oracle.specs.Numbers.{ofReassembled}
+use Rattle.oracle.specs.Numbers.{faultNumber, faultValues, ofReassembled}
 use Rattle.oracle.specs.inner.Scan.{headerBytes, missingOf, faultOf, skipped, refusedAt, taken, isFaulty, stepOn, scanFrame, scanOf, startOf, Counted, addedOf, rowOf, bytesLaid, rowsLaid, verdictOf, isNone}
 use Rattle.splitter.specs.declared.Frame.{Frame}
 use Rattle.oracle.specs.declared.Scan.{Scan}
@@ -32,7 +31,7 @@ use Rattle.oracle.specs.declared.Fault.the-variants.{Length, Restarted, 
 use Rattle.oracle.specs.declared.faults.Standing.{Standing}
 use Rattle.oracle.specs.declared.faults.Standing.the-variants.{Clear, At}
 use Rattle.oracle.specs.declared.Reassembled.{Reassembled}
-use Rattle.oracle.specs.declared.Reassembled.the-variants.{Messages, Refused, Incomplete, NoRoom}
+use Rattle.oracle.specs.declared.Reassembled.the-variants.{Refused, Incomplete, NoRoom}
 use Rattle.splitter.proofs.FrameLaws.{eight-long}
 use Rattle.oracle.proofs.Grows.{head-low, head-high, added-end}
 
@@ -515,20 +514,17 @@ fresh-counts source pgn e = subst (λ (s : Scan). Counted 0 s) (sym e) (record {
 
 module _ (fs : List Frame) (source pgn : ℕ) (l o : List ℕ) {s st : Scan} {v : Reassembled} {b : Bool}
     (es : s ≡ startOf source pgn) (et : st ≡ scanOf s fs) (ev : v ≡ verdictOf st (length l) (length o)) (eb : b ≡ isNone v) where
-  abbrev pub Promise : List ℕ → List ℕ → Type 0
-  Promise l′ o′ = (ofReassembled v ≡ counted (deliveredTo l o fs source pgn)) × (l′ ≡ listWith (deliveredTo l o fs source pgn) l) × (o′ ≡ arenaWith (deliveredTo l o fs source pgn) o)
-
   told-kept : Kept (startOf source pgn) fs l o v (deliveredTo l o fs source pgn)
   told-kept =
       subst (λ (r : Reassembled). Kept (startOf source pgn) fs l o r (deliveredTo l o fs source pgn))
       (sym (ev ∙ ap (λ (t : Scan). verdictOf t (length l) (length o)) (et ∙ ap (λ (t : Scan). scanOf t fs) es))) (strict-tells fs source pgn l o)
 
-  pub strict-stops : b ≡ true → Promise l o
-  strict-stops e = (told-kept .answer, told-kept .none-list (sym eb ∙ e), told-kept .none-arena (sym eb ∙ e))
+  pub strict-stops : b ≡ true → Reassembles fs source pgn l o v l o
+  strict-stops e = record { answer = told-kept .answer; listed = told-kept .none-list (sym eb ∙ e); laid = told-kept .none-arena (sym eb ∙ e) }
 
-  pub strict-goes-on : {l′ o′ : List ℕ} → b ≡ false → l′ ≡ sets l (3 * s .messages) (rowsLaid s fs) → o′ ≡ sets o (s .total) (bytesLaid s fs) → Promise l′ o′
-  strict-goes-on e el eo = (
-    told-kept .answer,
-    el ∙ ap (λ (t : Scan). sets l (3 * t .messages) (rowsLaid t fs)) es ∙ told-kept .some-list (sym eb ∙ e),
-    eo ∙ ap (λ (t : Scan). sets o (t .total) (bytesLaid t fs)) es ∙ told-kept .some-arena (sym eb ∙ e),
-  )
+  pub strict-goes-on : {l′ o′ : List ℕ} → b ≡ false → l′ ≡ sets l (3 * s .messages) (rowsLaid s fs) → o′ ≡ sets o (s .total) (bytesLaid s fs) → Reassembles fs source pgn l o v l′ o′
+  strict-goes-on e el eo = record {
+    answer = told-kept .answer;
+    listed = el ∙ ap (λ (t : Scan). sets l (3 * t .messages) (rowsLaid t fs)) es ∙ told-kept .some-list (sym eb ∙ e);
+    laid = eo ∙ ap (λ (t : Scan). sets o (t .total) (bytesLaid t fs)) es ∙ told-kept .some-arena (sym eb ∙ e);
+  }

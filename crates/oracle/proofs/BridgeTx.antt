@@ -1,45 +1,39 @@
 -- What the transmit check's code knows after some frames tells what specs/Check says of them.
 --     claims-tell   the claim        bad-tells   the first bad message        check-tells   the answer
 -- Assumes nothing.
-use Prim.Native.Nat.{ℕ, zero, suc, _+_, _-_, _*_, _%_, _<_, _≤_}
+use Prim.Native.Nat.{ℕ, _+_, _-_, _%_, _<_, _≤_}
 use mathlib.Core.Bool.{Bool, true, false}
-use mathlib.Core.List.{List, [], _∷_, _++_, append-nil, append-assoc}
+use mathlib.Core.List.{List, [], _∷_, _++_}
 use mathlib.Core.Option.{Option, none, some}
 use mathlib.Core.Path.{_≡_, refl, sym, ap, _∙_, subst}
 use native.Mathlib.Nat.{zero-add}
 use native.Mathlib.Omega.{arith}
 use borrow.Author.Needs.{zero≤}
-use borrow.Author.Tests.{lt-ltb, le-ltb, eq-eqb, ne-eqb}
+use borrow.Author.Tests.{eq-eqb, ne-eqb}
 use lib.Dec.{eqb, ltb}
 use lib.ListN.{length, getD, take, drop, length-append, length-take}
-use lib.Seq.{sets, sets-eq, length-sets, length-take-le, take-append-seam, getD-take, take-at}
+use lib.Seq.{sets, sets-eq, length-sets, take-append-seam, getD-take}
 use Rattle.base.specs.Answer.{Answer, gives, refuses}
 use Rattle.base.specs.Pick.{pick}
-use Rattle.base.proofs.Cases.{tested, less?, same?, pick-all, when-eq, when-ne, when-lt, when-ge, when-true, when-false}
-use Rattle.splitter.specs.Frames.{eight, frameBytes}
+use Rattle.base.proofs.Cases.{tested, less?, same?, pick-all, when-ne, when-lt, when-ge, when-true, when-false}
+use Rattle.splitter.specs.Frames.{frameBytes}
 use Rattle.oracle.specs.Ids.{isOther}
-use Rattle.oracle.specs.Claims.{claimAfter}
+use Rattle.oracle.specs.inner.Tx.{claimAfter, messageOf, isBad, bufferOf, badOf, lastOf, isUnclaimed, txOf, txAll, txStart, overOf, faultyOf, ranOf, checkedOf}
 use Rattle.oracle.specs.declared.bench_ids.Claim.{Claim}
 use Rattle.oracle.specs.declared.bench_ids.Claim.the-variants.{Awaited, Made, Missed}
-use Rattle.oracle.specs.Frames.{benchIndex, benchSequence, oddOf}
-use Rattle.oracle.specs.Strict.{BenchMessage, Open, FrameOutcome, refused, waits, whole, collectedAt, firstFrame, laterFrame, outcomeOf, before, thenOf, endOf, messagesFrom, messagesOf}
-use Rattle.oracle.specs.Check.{follows, eachFrom, isClaimed, sentOf, checkTxOf}
-use Rattle.oracle.specs.Messages.{hoursOf, offFrom, messageOf}
-use Rattle.oracle.specs.FaultNumbers.{faultNumber, faultValues}
-use Rattle.oracle.specs.Numbers.{ofReassembled, ofChecked}
-use Rattle.oracle.specs.inner.Scan.{headerBytes, faultOf, skipped, refusedAt, taken, isFaulty, stepOn, scanFrame, scanOf, startOf, Counted, addedOf}
-use Rattle.oracle.specs.inner.Tx.{isBad, bufferOf, badOf, lastOf, isUnclaimed, txOf, txAll, txStart, overOf, faultyOf, ranOf, checkedOf}
+use Rattle.oracle.specs.Strict.{benchSequence, BenchMessage, Open, FrameOutcome, refused, waits, whole, collectedAt, firstFrame, laterFrame, outcomeOf, before, thenOf, endOf, messagesFrom, messagesOf}
+use Rattle.oracle.specs.Check.{follows, eachFrom, isClaimed, sentOf, checkTxOf, ChecksTx, hoursOf, offFrom}
+use Rattle.oracle.specs.Numbers.{ofChecked}
+use Rattle.oracle.specs.inner.Scan.{skipped, taken, isFaulty, stepOn, scanFrame, scanOf, startOf, Counted, addedOf}
 use Rattle.splitter.specs.declared.Frame.{Frame}
 use Rattle.oracle.specs.declared.Scan.{Scan}
 use Rattle.oracle.specs.declared.Tx.{Tx}
-use Rattle.oracle.specs.declared.Fault.{Fault}
-use Rattle.oracle.specs.declared.faults.Standing.{Standing}
-use Rattle.oracle.specs.declared.faults.Standing.the-variants.{Clear, At}
+use Rattle.oracle.specs.declared.faults.Standing.the-variants.{Clear}
 use Rattle.oracle.specs.declared.Checked.{Checked}
 use Rattle.oracle.specs.declared.Checked.the-variants.{Good, NoCount, Over, NoClaim, Faulty, Open as OpenAt, Count, Size, Hours, Pattern, Sequence}
 use Rattle.splitter.proofs.FrameLaws.{eight-long}
 use Rattle.oracle.proofs.Grows.{added-end}
-use Rattle.oracle.proofs.Bridge.{Shows, Knows, had, added, Does, Refuses, Waits, Whole, frame-does, Stops, by-fault, by-end, Done, Tells, row-tells, skips, finds, takes, adds, skip-adds, skip-knows}
+use Rattle.oracle.proofs.Bridge.{Shows, Knows, had, Does, Waits, Whole, frame-does, Stops, by-fault, by-end, Tells, row-tells, skips, takes, adds, skip-adds, skip-knows}
 
 -- ---- what a frame does not change
 source-kept : (s : Scan) (f : Frame) → scanFrame s f .source ≡ s .source
@@ -477,6 +471,6 @@ module _ (fs : List Frame) (source expected base : ℕ) where
 pub fresh-tx : {t : Tx} (source base : ℕ) → t ≡ txStart source base → Counted 0 (t .scan)
 fresh-tx source base e = subst (λ (t : Tx). Counted 0 (t .scan)) (sym e) (record { frames = zero≤; whole = zero≤; bytes = zero≤ })
 
-pub check-told : (fs : List Frame) (source expected base : ℕ) {t u : Tx} {z : Checked} → t ≡ txStart source base → u ≡ txAll t fs → z ≡ checkedOf u expected → ofChecked z ≡ checkTxOf fs source expected base
+pub check-told : (fs : List Frame) (source expected base : ℕ) {t u : Tx} {z : Checked} → t ≡ txStart source base → u ≡ txAll t fs → z ≡ checkedOf u expected → ChecksTx fs source expected base z
 check-told fs source expected base et eu ez =
     ap ofChecked (ez ∙ ap (λ (v : Tx). checkedOf v expected) (eu ∙ ap (λ (v : Tx). txAll v fs) et)) ∙ check-tells fs source expected base

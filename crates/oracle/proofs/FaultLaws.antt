@@ -10,7 +10,8 @@ use lib.ListN.{length, getD, drop, drop-of-length-le}
 use lib.Seq.{drop-cons}
 use Rattle.base.specs.Pick.{pick}
 use Rattle.base.proofs.Cases.{when-eq}
-use Rattle.oracle.specs.Frames.{oddOf, paddingAt, faultThen, messageEnd, faultAt}
+use Rattle.oracle.specs.Strict.{oddOf}
+use Rattle.oracle.specs.inner.Frames.{paddingAt, faultThen, messageEnd, faultAt}
 use Rattle.oracle.specs.declared.faults.Standing.{Standing}
 
 -- ---- the walk for the first odd byte

@@ -1,7 +1,7 @@
 -- The claim after a frame, by what it was before it. Assumes nothing.
 use Prim.Native.Nat.{ℕ}
-use mathlib.Core.Path.{_≡_, refl, sym, ap, _∙_}
-use Rattle.oracle.specs.Claims.{claimAfter}
+use mathlib.Core.Path.{_≡_, sym, ap, _∙_}
+use Rattle.oracle.specs.inner.Tx.{claimAfter}
 use Rattle.oracle.specs.declared.bench_ids.Claim.{Claim}
 use Rattle.oracle.specs.declared.bench_ids.Claim.the-variants.{Awaited, Made, Missed}
 

@@ -1,12 +1,13 @@
 -- Laws of the row that separate slices stand for, in the shape of a loop along it. Assumes nothing.
 use Prim.Native.Nat.{ℕ, suc, _+_, _*_, _-_, _<_, _≤_}
 use mathlib.Core.List.{List, [], _∷_}
-use mathlib.Core.Path.{_≡_, refl, sym, ap, _∙_}
+use mathlib.Core.Path.{_≡_, sym, ap, _∙_}
 use native.Mathlib.Omega.{arith}
-use lib.ListN.{length, getD, drop}
+use lib.ListN.{length}
 use lib.Seq.{sets}
 use Rattle.splitter.specs.Frames.{countIn}
-use Rattle.oracle.specs.Rows.{frameIn, framesIn, rowIn, frameOrNone}
+use Rattle.oracle.specs.Rows.{frameIn, framesIn, rowIn}
+use Rattle.oracle.specs.inner.Frames.{frameOrNone}
 use Rattle.oracle.proofs.SliceLaws.{frame-there}
 use Rattle.oracle.specs.inner.Scan.{scanFrame, scanOf, addedOf, rowOf, bytesLaid, rowsLaid, Counted, Small}
 use Rattle.oracle.specs.inner.Tx.{txOf, txAll}

@@ -1,15 +1,15 @@
 -- Laws of a frame that is read from separate slices. Assumes nothing.
 use Prim.Native.Nat.{ℕ, _+_, _*_, _<_, _≤_}
 use mathlib.Core.List.{List, [], _∷_}
-use mathlib.Core.Path.{_≡_, refl, sym, _∙_}
+use mathlib.Core.Path.{_≡_, refl, sym}
 use native.Mathlib.Nat.{add-zero}
 use native.Mathlib.Omega.{arith}
 use lib.ListN.{length, getD, drop, replicate}
 use lib.Seq.{getD-drop}
 use Rattle.base.proofs.Cases.{when-lt, when-ge}
 use Rattle.splitter.specs.Frames.{eight, countIn}
-use Rattle.splitter.specs.declared.Frame.{Frame}
-use Rattle.oracle.specs.Rows.{frameIn, frameOrNone}
+use Rattle.oracle.specs.Rows.{frameIn}
+use Rattle.oracle.specs.inner.Frames.{frameOrNone}
 
 -- eight bytes, one by one
 pub eight-read : (bytes : List ℕ) (at : ℕ)

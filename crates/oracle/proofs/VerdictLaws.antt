@@ -1,8 +1,8 @@
 -- Laws of the walk along a message's bytes, of the hours that are due and of a whole row, in the shape of the code's tests. Assumes nothing.
 use Prim.Native.Nat.{ℕ, _+_, _-_, _<_, _≤_}
 use mathlib.Core.Bool.{Bool, true, false, not}
-use mathlib.Core.List.{List, [], _∷_}
-use mathlib.Core.Path.{_≡_, refl, sym, ap, _∙_}
+use mathlib.Core.List.{List}
+use mathlib.Core.Path.{_≡_, sym, ap, _∙_}
 use native.Mathlib.Numerals.{add-one}
 use native.Mathlib.Omega.{arith}
 use borrow.Author.Tests.{not-true, not-false, eq-eqb, ne-eqb}
@@ -10,15 +10,15 @@ use lib.Dec.{eqb}
 use lib.ListN.{length, getD, take, drop, length-take, drop-of-length-le}
 use lib.Seq.{drop-cons, getD-take}
 use Rattle.base.specs.Pick.{pick}
-use Rattle.base.proofs.Cases.{same?, when-eq, when-true, when-false}
+use Rattle.base.proofs.Cases.{same?, when-true, when-false}
 use Rattle.oracle.specs.declared.faults.Standing.{Standing}
 use Rattle.oracle.specs.declared.faults.Standing.the-variants.{Clear, At}
 use Rattle.oracle.specs.declared.Fault.{Fault}
 use Rattle.oracle.specs.declared.Checked.{Checked}
 use Rattle.oracle.specs.declared.Reassembled.{Reassembled}
 use Rattle.oracle.specs.declared.Reassembled.the-variants.{Refused}
-use Rattle.oracle.specs.Messages.{wantAt, offFrom}
-use Rattle.oracle.specs.RowVerdict.{passedWith, verdictAt}
+use Rattle.oracle.specs.Check.{wantAt, offFrom}
+use Rattle.oracle.specs.inner.Scan.{passedWith, verdictAt}
 
 -- ---- the walk along the pattern
 module _ (l : List ℕ) (k : ℕ) (n : length l ≡ 223) (e : offFrom k (drop k (take 26 l)) ≡ offFrom 0 (take 26 l)) where

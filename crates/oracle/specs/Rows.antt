@@ -1,9 +1,7 @@
 -- The row of frames that separate number slices stand for.
 use Prim.Native.Nat.{ℕ, zero, suc, _+_, _*_}
 use mathlib.Core.List.{List, [], _∷_}
-use lib.Dec.{ltb}
-use lib.ListN.{length, getD, drop, replicate}
-use Rattle.base.specs.Pick.{pick}
+use lib.ListN.{length, getD, drop}
 use Rattle.splitter.specs.Frames.{eight, countIn}
 use Rattle.splitter.specs.declared.Frame.{Frame}
 
@@ -19,8 +17,3 @@ framesIn ids bytes lens i (suc n) = frameIn ids bytes lens i ∷ framesIn ids by
 -- as many as the shortest slice has
 unfoldable pub rowIn : List ℕ → List ℕ → List ℕ → List Frame
 rowIn ids bytes lens = framesIn ids bytes lens 0 (countIn (length ids) (length bytes) (length lens))
-
--- what is read at place i: frame i of them, or zeros where the row has none there
-unfoldable pub frameOrNone : List ℕ → List ℕ → List ℕ → ℕ → Frame
-frameOrNone ids bytes lens i =
-    pick (ltb i (countIn (length ids) (length bytes) (length lens))) (frameIn ids bytes lens i) (record { id = 0; «data» = replicate 8 0; len = 0 })

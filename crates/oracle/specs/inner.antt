@@ -1,3 +1,4 @@
--- How the code goes about it: what it knows after some frames. Nobody needs to believe these: no public promise names one.
+-- How the code goes about it. Nobody needs to believe these: no public promise names one.
+pub mod Frames
 pub mod Scan
 pub mod Tx

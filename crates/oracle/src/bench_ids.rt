@@ -1,7 +1,7 @@
 // What an identifier tells the bench: whose frame it is, and whether its source has claimed an address. It shares no code with `can_id`.
 ghost use mathlib.Core.Path.{_≡_};
 ghost use Rattle.oracle.specs.Ids.{benchPgn, isOther};
-ghost use Rattle.oracle.specs.Claims.{claimAfter};
+ghost use Rattle.oracle.specs.inner.Tx.{claimAfter};
 ghost use Rattle.oracle.specs.declared.bench_ids.Claim.the-variants.{Awaited};
 use splitter::FRAME_BYTES;
 

@@ -1,7 +1,8 @@
 // Why the bench refuses a frame: it is judged by itself, beside what strict reassembly knows of the open message.
 ghost use mathlib.Core.Path.{_≡_};
 ghost use lib.ListN.{drop};
-ghost use Rattle.oracle.specs.Frames.{oddOf, paddingAt, firstThen, laterThen, faultThen, messageEnd, faultAt};
+ghost use Rattle.oracle.specs.Strict.{oddOf};
+ghost use Rattle.oracle.specs.inner.Frames.{paddingAt, firstThen, laterThen, faultThen, messageEnd, faultAt};
 use crate::Fault;
 use splitter::FILL;
 use splitter::FRAME_BYTES;

@@ -1,6 +1,6 @@
 // A whole row of frames, judged by what is known after the last.
 ghost use mathlib.Core.Path.{_≡_};
-ghost use Rattle.oracle.specs.RowVerdict.{passedWith, verdictAt};
+ghost use Rattle.oracle.specs.inner.Scan.{passedWith, verdictAt};
 use crate::Reassembled;
 use crate::faults::Standing;
 

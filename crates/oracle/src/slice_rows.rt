@@ -3,7 +3,7 @@ ghost use mathlib.Core.Path.{_≡_};
 ghost use Prim.Native.Nat.{_≤_, _+_};
 ghost use lib.ListN.{length, drop};
 ghost use Rattle.splitter.specs.Frames.{eight};
-ghost use Rattle.oracle.specs.Rows.{frameOrNone};
+ghost use Rattle.oracle.specs.inner.Frames.{frameOrNone};
 use splitter::FRAME_BYTES;
 use splitter::Frame;
 use splitter::frame_count;

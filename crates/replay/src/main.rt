@@ -16,7 +16,7 @@ use fast_packet::MAX_FAST_PACKET_PAYLOAD;
 use libc::STDIN_FILENO;
 use libc::STDOUT_FILENO;
 use session::Counters;
-use session::Heard;
+use assembler::Arrival;
 use session::Kind;
 ghost use Prim.Native.Nat.{_<_, _≤_, _+_};
 ghost use lib.ListN.{length};
@@ -171,7 +171,7 @@ fn fresh(size: usize) -> State {
     }
 }
 
-fn heard_in(line: &[u8; 44]) -> Heard {
+fn arrival_in(line: &[u8; 44]) -> Arrival {
     let data = [
         byte(line, 27),
         byte(line, 29),
@@ -182,7 +182,7 @@ fn heard_in(line: &[u8; 44]) -> Heard {
         byte(line, 39),
         byte(line, 41),
     ];
-    Heard {
+    Arrival {
         now_ms: long(line, 1),
         pgn: word(line, 17),
         source_address: byte(line, 25),
@@ -193,7 +193,7 @@ fn heard_in(line: &[u8; 44]) -> Heard {
 fn hear(s: State, line: &[u8; 44]) -> State {
     let pool = s.pool;
     let counters = s.counters;
-    let r = process_frame_through(pool, counters, &[127489, 129029], heard_in(line));
+    let r = process_frame_through(pool, counters, &[127489, 129029], arrival_in(line));
     write_answer(r);
     let after = r.pool;
     let counted = r.counters;

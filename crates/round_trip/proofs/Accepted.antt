@@ -2,17 +2,16 @@
 --     accepted   the theorem
 -- Assumes nothing.
 use Prim.Native.Nat.{ℕ, zero, suc, _+_, _-_, _*_, _/_, _%_, _<_, _≤_}
-use mathlib.Core.Bool.{Bool, true, false}
-use mathlib.Core.List.{List, [], _∷_, _++_, append-assoc}
+use mathlib.Core.Bool.{true, false}
+use mathlib.Core.List.{List, [], _∷_, _++_}
 use mathlib.Core.Option.{Option, none, some}
 use mathlib.Core.Path.{_≡_, refl, sym, ap, _∙_, subst}
-use native.Mathlib.Nat.{not-suc-le-zero, le-of-suc-le-suc}
 use native.Mathlib.Numerals.{add-one}
 use borrow.Author.Needs.{zero≤}
 use native.Mathlib.Omega.{arith}
-use lib.Dec.{eqb, ltb}
-use lib.ListN.{length, getD, take, drop, length-append, length-take, length-drop}
-use lib.Seq.{take-all, take-add, take-take, take-at, drop-at, take-append-seam, drop-append-seam, take-append-le, take-append-add, drop-append-add, length-take-le}
+use lib.Dec.{eqb}
+use lib.ListN.{length, getD, take, drop, length-append, length-take}
+use lib.Seq.{take-all, take-add, take-take, drop-at, take-append-seam, drop-append-seam, take-append-add, drop-append-add, length-take-le}
 use Rattle.base.specs.Answer.{Answer, gives, refuses}
 use Rattle.base.specs.Pick.{pick}
 use Rattle.base.specs.Lists.{fill}
@@ -20,13 +19,11 @@ use Rattle.base.proofs.Fills.{length-fill, take-fill}
 use Rattle.base.proofs.Cases.{tested, less?, same?, when-eq, when-ne, when-lt, when-ge, when-true, when-false}
 use Rattle.splitter.specs.Frames.{eight, frameBytes}
 use Rattle.oracle.specs.Ids.{isOther}
-use Rattle.oracle.specs.Frames.{benchIndex, benchSequence, oddOf}
-use Rattle.oracle.specs.Strict.{BenchMessage, Open, FrameOutcome, refused, waits, whole, collectedAt, firstFrame, laterFrame, outcomeOf, before, thenOf, endOf, messagesFrom, messagesOf}
+use Rattle.oracle.specs.Strict.{benchIndex, benchSequence, oddOf, BenchMessage, Open, FrameOutcome, refused, waits, whole, collectedAt, firstFrame, laterFrame, outcomeOf, before, thenOf, endOf, messagesFrom, messagesOf}
 use Rattle.splitter.specs.Bytes.{splitBytes, splitFrame, countOf}
-use Rattle.splitter.specs.Split.{splitFramesFrom, splitFrames}
+use Rattle.splitter.specs.Split.{splitFramesFrom}
 use Rattle.round_trip.specs.Sent.{own, under, splitAll, AreBytes, AreSplit}
 use Rattle.splitter.specs.declared.Frame.{Frame}
-use Rattle.splitter.proofs.FrameLaws.{eight-long}
 
 -- ---- the frames of a row that are not skipped
 pub owned : (id source pgn : ℕ) (f : Frame) (fs : List Frame) → isOther source pgn (f .id) ≡ false → under id (own source pgn (f ∷ fs)) ≡ record { id = id; «data» = frameBytes f; len = f .len } ∷ under id (own source pgn fs)

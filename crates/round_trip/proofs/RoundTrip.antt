@@ -4,25 +4,23 @@
 --     delivered    and it is delivered where the list and the arena have room
 -- Assumes nothing.
 use Prim.Native.Nat.{ℕ, zero, suc, _+_, _-_, _*_, _/_, _%_, _<_, _≤_}
-use mathlib.Core.Bool.{Bool, true, false}
+use mathlib.Core.Bool.{true, false}
 use mathlib.Core.List.{List, [], _∷_, _++_, append-nil}
 use mathlib.Core.Option.{Option, none, some}
-use mathlib.Core.Path.{_≡_, refl, sym, ap, _∙_, subst}
+use mathlib.Core.Path.{_≡_, refl, sym, ap, _∙_}
 use native.Mathlib.Numerals.{add-one}
 use native.Mathlib.Omega.{arith}
 use borrow.Author.Needs.{zero≤}
-use lib.Dec.{eqb, ltb}
-use lib.ListN.{length, getD, take, drop, length-append, length-take, length-drop, take-append-drop}
+use lib.ListN.{length, getD, take, drop, length-append, length-drop, take-append-drop}
 use lib.Seq.{take-all, take-add, take-append-add, drop-append-add, length-take-le}
-use Rattle.base.specs.Answer.{Answer, gives, refuses}
+use Rattle.base.specs.Answer.{gives}
 use Rattle.base.specs.Pick.{pick}
 use Rattle.base.specs.Lists.{fill}
 use Rattle.base.proofs.Fills.{length-fill, take-fill}
-use Rattle.base.proofs.Cases.{tested, less?, same?, when-eq, when-ne, when-lt, when-ge, when-true, when-false}
-use Rattle.splitter.specs.Frames.{eight, frameBytes}
+use Rattle.base.proofs.Cases.{tested, less?, when-eq, when-ne, when-lt, when-ge, when-true, when-false}
+use Rattle.splitter.specs.Frames.{frameBytes}
 use Rattle.oracle.specs.Ids.{benchSource, benchPgn, isOther}
-use Rattle.oracle.specs.Frames.{benchIndex, benchSequence, oddOf}
-use Rattle.oracle.specs.Strict.{BenchMessage, Open, FrameOutcome, refused, waits, whole, collectedAt, firstFrame, laterFrame, outcomeOf, before, thenOf, endOf, messagesFrom, messagesOf, payloadsOf, roomFor, deliveredTo}
+use Rattle.oracle.specs.Strict.{oddOf, BenchMessage, Open, FrameOutcome, waits, whole, collectedAt, firstFrame, laterFrame, outcomeOf, before, thenOf, endOf, messagesFrom, messagesOf, payloadsOf, roomFor, deliveredTo}
 use Rattle.splitter.specs.Bytes.{splitBytes, splitFrame, countOf}
 use Rattle.splitter.specs.Split.{splitFramesFrom, splitFrames}
 use Rattle.round_trip.specs.Sent.{own, under, splitAll, AreSplit}

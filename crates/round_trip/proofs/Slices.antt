@@ -2,7 +2,7 @@
 --     starts      slices that begin with the numbers of some frames have those frames first
 --     laid-out    the slices that `fast_packet_rows` leaves have the payload's frames first
 -- Assumes nothing.
-use Prim.Native.Nat.{ℕ, zero, suc, _+_, _*_, _/_, _≤_, min}
+use Prim.Native.Nat.{ℕ, zero, suc, _+_, _*_, _≤_}
 use mathlib.Core.List.{List, [], _∷_, _++_}
 use mathlib.Core.Path.{_≡_, refl, sym, ap, _∙_}
 use native.Mathlib.Nat.{zero-add}
@@ -10,15 +10,12 @@ use native.Mathlib.Omega.{arith}
 use lib.ListN.{length, getD, take, drop, length-append}
 use lib.Seq.{sets, sets-eq, length-sets, getD-drop, drop-drop}
 use Rattle.base.specs.Answer.{gives}
-use Rattle.base.specs.Lists.{fill}
-use Rattle.base.proofs.Cases.{pick-all}
-use Rattle.base.proofs.Fills.{length-fill}
 use Rattle.splitter.specs.Frames.{eight, frameBytes, countIn}
-use Rattle.splitter.specs.Bytes.{splitBytes, splitFrame, countOf}
+use Rattle.splitter.specs.Bytes.{splitFrame, countOf}
 use Rattle.splitter.specs.Split.{splitFramesFrom, splitFrames, idsOf, bytesAll, lensOf, idsWith, bytesWith, lensWith}
 use Rattle.splitter.specs.declared.Frame.{Frame}
 use Rattle.splitter.proofs.FrameLaws.{eight-same, eight-long}
-use Rattle.splitter.proofs.SplitLaws.{length-frames}
+use Rattle.splitter.proofs.SplitLaws.{length-frames, bytes-eight}
 use Rattle.oracle.specs.Rows.{frameIn, framesIn, rowIn}
 
 -- each frame has eight bytes
@@ -101,10 +98,6 @@ module _ (fs : List Frame) (es : Eights fs) (ids bytes lens : List ℕ) (room : 
       ∙ rw (ids-laid, bytes-laid, lens-laid) (starts fs es (drop (length (idsOf fs)) ids) (drop (length (bytesAll fs)) bytes) (drop (length (lensOf fs)) lens))
 
 -- ---- the splitter's frames have eight bytes each
-bytes-eight : (sequence : ℕ) (payload : List ℕ) (index : ℕ) → length (splitBytes sequence payload index) ≡ 8
-unfolding splitBytes
-bytes-eight sequence payload index = ap suc (pick-all (λ (l : List ℕ). length l ≡ 7) _ (ap suc (length-fill 6 payload)) (length-fill 7 _))
-
 frames-eight : (id sequence : ℕ) (payload : List ℕ) (index n : ℕ) → Eights (splitFramesFrom id sequence payload index n)
 unfolding splitFrame
 frames-eight id sequence payload index zero = tt

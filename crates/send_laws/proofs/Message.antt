@@ -1,22 +1,21 @@
 -- Asked again and again from the start, a builder gives the frames of its message one by one, and then End. Assumes nothing.
 use Prim.Native.Nat.{ℕ, zero, suc, _+_, _*_, _-_, _%_, _<_, _≤_, min}
-use mathlib.Core.List.{List, _∷_}
+use mathlib.Core.List.{List}
 use mathlib.Core.Path.{_≡_, refl, ap, _∙_}
 use mathlib.Core.Bool.{Bool, true, false, _||_}
 use native.Mathlib.Numerals.{add-one}
 use native.Mathlib.Omega.{arith}
 use borrow.Author.Tests.{lt-ltb, le-ltb, le-leb, lt-leb, ne-eqb, ltb-false}
-use lib.ListN.{length, drop}
+use lib.ListN.{length}
 use lib.Dec.{ltb}
 use Rattle.base.specs.Pick.{pick}
-use Rattle.base.specs.Lists.{fill}
 use Rattle.base.specs.Answer.{gives}
 use Rattle.base.proofs.Cases.{less?}
 use Rattle.can_id.specs.Build.{buildOf}
 use Rattle.can_id.specs.declared.Destination.{Destination}
 use Rattle.fast_packet.specs.FastPacket.{maxPayload, listedIn}
 use Rattle.builder.specs.Builder.{fastOf, newBuilder, idBuilder}
-use Rattle.builder.specs.Laid.{headerOf}
+use Rattle.builder.specs.FrameBytes.{laterBytes}
 use Rattle.builder.specs.Next.{Step, frameOf, nextOf, sentStep, endStep, framedStep, rawStep}
 use Rattle.builder.specs.Frames.{started, nextTurn}
 use Rattle.send_laws.specs.Message.{iteratorOf, placeAfter, answerAt, frameTotal, sentBefore, messageBytes, fastAnswer, rawAnswer, messageAnswer}
@@ -140,7 +139,7 @@ module _ (b : FastPacketBuilder) (id : ℕ) (p : List ℕ) (g : buildOf (idBuild
 
   -- "223 bytes: 32 frames, last index 31"
   pub longest : b .fast ≡ true → length p ≡ maxPayload
-      → (answerAt b p 31 ≡ sentStep (frameOf id (headerOf (b .«sequence_id») 31 ∷ fill 7 (drop 216 p)) 8) 32 maxPayload) × (answerAt b p 32 ≡ endStep 32 maxPayload)
+      → (answerAt b p 31 ≡ sentStep (frameOf id (laterBytes (b .«sequence_id») 31 216 p) 8) 32 maxPayload) × (answerAt b p 32 ≡ endStep 32 maxPayload)
   unfolding fastAnswer pick
   longest f l = (fast-message f 31 ∙ rw l, fast-message f 32 ∙ rw l)
 

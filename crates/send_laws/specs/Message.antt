@@ -1,11 +1,10 @@
 -- A whole message in closed form: how many frames, which bytes the k-th has, and how many bytes are sent before it.
 use Prim.Native.Nat.{ℕ, zero, suc, _+_, _*_, _-_, _/_, min}
-use mathlib.Core.List.{List, _∷_}
-use lib.ListN.{length, drop}
+use mathlib.Core.List.{List}
+use lib.ListN.{length}
 use lib.Dec.{ltb}
 use Rattle.base.specs.Pick.{pick}
-use Rattle.base.specs.Lists.{fill}
-use Rattle.builder.specs.Laid.{headerOf}
+use Rattle.builder.specs.FrameBytes.{firstBytes, laterBytes}
 use Rattle.builder.specs.Next.{Step, frameOf, sentStep, endStep, rawStep}
 use Rattle.builder.specs.Frames.{Turn, started, nextTurn}
 use Rattle.builder.specs.declared.FastPacketBuilder.{FastPacketBuilder}
@@ -33,9 +32,10 @@ frameTotal n = 1 + (n - 6 + 6) / 7
 abbrev pub sentBefore : ℕ → ℕ → ℕ
 sentBefore k n = min (7 * k - 1) n
 
+-- frame k's bytes, by step 6
 abbrev pub messageBytes : ℕ → ℕ → List ℕ → List ℕ
-messageBytes sequence zero p = headerOf sequence 0 ∷ length p ∷ fill 6 p
-messageBytes sequence (suc k) p = headerOf sequence (suc k) ∷ fill 7 (drop (7 * suc k - 1) p)
+messageBytes sequence zero p = firstBytes sequence 0 p
+messageBytes sequence (suc k) p = laterBytes sequence (suc k) (7 * suc k - 1) p
 
 -- ---- the answers: the frames one by one, and then End for good
 unfoldable pub fastAnswer : ℕ → ℕ → List ℕ → ℕ → Step

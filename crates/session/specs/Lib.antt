@@ -2,4 +2,5 @@ pub mod Rules
 pub mod Frames
 pub mod Heads
 pub mod Counting
+pub mod Kinds
 pub mod inner

@@ -81,6 +81,13 @@ pub enum Kind {
     MessageComplete,
 }
 
+// The number of each kind but a refusal, whose own is 1 to 99.
+pub const IGNORED: u8 = 101;
+
+pub const FRAGMENT_CONSUMED: u8 = 102;
+
+pub const MESSAGE_COMPLETE: u8 = 103;
+
 // What one walk over the heads finds: whether any is impossible, and the first place of each kind; POOL_LIMIT stands for none.
 pub struct Found {
     pub bad: bool,

@@ -12,13 +12,11 @@ use Rattle.base.specs.Pick.{pick}
 use Rattle.base.proofs.Fills.{length-fill}
 use Rattle.base.proofs.Cases.{pick-all}
 use mathlib.Core.Bool.{Bool, true, false}
-use Rattle.base.specs.Answer.{Answer, gives, refuses}
+use Rattle.base.specs.Answer.{Answer, gives, refuses, counted}
 use Rattle.splitter.specs.Frames.{frameBytes, countIn}
 use Rattle.splitter.specs.Bytes.{splitBytes, splitFrame, countOf}
 use Rattle.splitter.specs.inner.OneFrame.{toldOf, jobFrame}
-use Rattle.splitter.specs.Split.{splitFramesFrom, splitFrames, splitOf, rowWith, idsOf, bytesAll, lensOf, idsWith, bytesWith, lensWith}
-use Rattle.splitter.specs.Split.{ofSplit}
-use Rattle.base.specs.Answer.{counted}
+use Rattle.splitter.specs.Split.{splitFramesFrom, splitFrames, splitOf, ofSplit, rowWith, idsOf, bytesAll, lensOf, idsWith, bytesWith, lensWith, SplitsInto, splitIn, SplitsIntoSlices}
 use Rattle.splitter.specs.declared.Split.the-variants.{Frames, BadSplit, Short}
 use Rattle.base.proofs.Laying.{sets-append}
 use Rattle.splitter.proofs.FrameLaws.{eight-same, eight-more}
@@ -122,15 +120,18 @@ module _ (id sequence : ℕ) (p : List ℕ) (rows : List Frame) {s : Split} {b :
   abbrev told : Answer (List Frame)
   told = splitOf id sequence p (length rows)
 
-  pub unsplit-stops : b ≡ true → (ofSplit s ≡ counted told) × (rows ≡ rowWith told rows)
+  pub unsplit-stops : b ≡ true → SplitsInto id sequence p rows s rows
   unfolding rowWith
-  unsplit-stops e = (split-told id sequence p (length rows) es eb, split-keeps id sequence p (length rows) es eb rowWith rows (λ k vs. refl) e)
+  unsplit-stops e = record { answer = split-told id sequence p (length rows) es eb; laid = split-keeps id sequence p (length rows) es eb rowWith rows (λ k vs. refl) e }
 
-  pub split-goes-on : {j : Job} {n : ℕ} {rows′ : List Frame} → b ≡ false → IsJobOf id sequence p j → n ≡ countOf (length p) → rows′ ≡ sets rows 0 (jobFrames n j) → (ofSplit s ≡ counted told) × (rows′ ≡ rowWith told rows)
+  pub split-goes-on : {j : Job} {n : ℕ} {rows′ : List Frame} → b ≡ false → IsJobOf id sequence p j → n ≡ countOf (length p) → rows′ ≡ sets rows 0 (jobFrames n j) → SplitsInto id sequence p rows s rows′
   unfolding rowWith
   split-goes-on e made en er =
       let g : told ≡ gives (splitFrames id sequence p) = gave id sequence p (length rows) es eb e .0 in
-      (split-told id sequence p (length rows) es eb, er ∙ ap (sets rows 0) (job-frames id sequence p (length rows) es eb e made en) ∙ sym (ap (λ (x : Answer (List Frame)). rowWith x rows) g))
+      record {
+        answer = split-told id sequence p (length rows) es eb;
+        laid = er ∙ ap (sets rows 0) (job-frames id sequence p (length rows) es eb e made en) ∙ sym (ap (λ (x : Answer (List Frame)). rowWith x rows) g);
+      }
 
 -- into separate slices
 module _ (id sequence : ℕ) (p ids bytes lens : List ℕ) {m : ℕ} (em : m ≡ countIn (length ids) (length bytes) (length lens)) {s : Split} {b : Bool} (es : s ≡ toldOf sequence (length p) m) (eb : b ≡ isUnsplit s) where
@@ -138,19 +139,19 @@ module _ (id sequence : ℕ) (p ids bytes lens : List ℕ) {m : ℕ} (em : m ≡
   space = countIn (length ids) (length bytes) (length lens)
 
   abbrev told′ : Answer (List Frame)
-  told′ = splitOf id sequence p space
+  told′ = splitIn id sequence p ids bytes lens
 
   es′ : s ≡ toldOf sequence (length p) space
   es′ = es ∙ ap (toldOf sequence (length p)) em
 
-  pub rows-stop : b ≡ true → (ofSplit s ≡ counted told′) × (ids ≡ idsWith told′ ids) × (bytes ≡ bytesWith told′ bytes) × (lens ≡ lensWith told′ lens)
+  pub rows-stop : b ≡ true → SplitsIntoSlices id sequence p ids bytes lens s ids bytes lens
   unfolding idsWith bytesWith lensWith
-  rows-stop e = (
-    split-told id sequence p space es′ eb,
-    split-keeps id sequence p space es′ eb idsWith ids (λ k vs. refl) e,
-    split-keeps id sequence p space es′ eb bytesWith bytes (λ k vs. refl) e,
-    split-keeps id sequence p space es′ eb lensWith lens (λ k vs. refl) e,
-  )
+  rows-stop e = record {
+    answer = split-told id sequence p space es′ eb;
+    named = split-keeps id sequence p space es′ eb idsWith ids (λ k vs. refl) e;
+    filled = split-keeps id sequence p space es′ eb bytesWith bytes (λ k vs. refl) e;
+    measured = split-keeps id sequence p space es′ eb lensWith lens (λ k vs. refl) e;
+  }
 
   pub rows-small : b ≡ false → length p ≤ 223
   rows-small = split-small id sequence p space es′ eb
@@ -160,16 +161,17 @@ module _ (id sequence : ℕ) (p ids bytes lens : List ℕ) {m : ℕ} (em : m ≡
 
   pub rows-go-on : {j : Job} {n : ℕ} {ids′ bytes′ lens′ : List ℕ} → b ≡ false → IsJobOf id sequence p j → n ≡ countOf (length p)
       → ids′ ≡ sets ids 0 (idsOf (jobFrames n j)) → bytes′ ≡ sets bytes 0 (bytesAll (jobFrames n j)) → lens′ ≡ sets lens 0 (lensOf (jobFrames n j))
-      → (ofSplit s ≡ counted told′) × (ids′ ≡ idsWith told′ ids) × (bytes′ ≡ bytesWith told′ bytes) × (lens′ ≡ lensWith told′ lens)
+      → SplitsIntoSlices id sequence p ids bytes lens s ids′ bytes′ lens′
   unfolding idsWith bytesWith lensWith
   rows-go-on {j} {n} e made en ei eb′ el =
       let g : told′ ≡ gives (splitFrames id sequence p) = gave id sequence p space es′ eb e .0 in
-      let f : jobFrames n j ≡ splitFrames id sequence p = job-frames id sequence p space es′ eb e made en in (
-        split-told id sequence p space es′ eb,
-        ei ∙ ap (λ (l : List Frame). sets ids 0 (idsOf l)) f ∙ sym (ap (λ (x : Answer (List Frame)). idsWith x ids) g),
-        eb′ ∙ ap (λ (l : List Frame). sets bytes 0 (bytesAll l)) f ∙ sym (ap (λ (x : Answer (List Frame)). bytesWith x bytes) g),
-        el ∙ ap (λ (l : List Frame). sets lens 0 (lensOf l)) f ∙ sym (ap (λ (x : Answer (List Frame)). lensWith x lens) g),
-      )
+      let f : jobFrames n j ≡ splitFrames id sequence p = job-frames id sequence p space es′ eb e made en in
+      record {
+        answer = split-told id sequence p space es′ eb;
+        named = ei ∙ ap (λ (l : List Frame). sets ids 0 (idsOf l)) f ∙ sym (ap (λ (x : Answer (List Frame)). idsWith x ids) g);
+        filled = eb′ ∙ ap (λ (l : List Frame). sets bytes 0 (bytesAll l)) f ∙ sym (ap (λ (x : Answer (List Frame)). bytesWith x bytes) g);
+        measured = el ∙ ap (λ (l : List Frame). sets lens 0 (lensOf l)) f ∙ sym (ap (λ (x : Answer (List Frame)). lensWith x lens) g);
+      }
 
 pub bytes-eight : (sequence : ℕ) (p : List ℕ) (index : ℕ) → length (splitBytes sequence p index) ≡ 8
 unfolding splitBytes

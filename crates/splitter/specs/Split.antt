@@ -1,12 +1,13 @@
 -- The splitter, as document 01 has it under "The bench": a payload is laid out by step 6 of "Building frames", index from 0.
 use Prim.Native.Nat.{ℕ, zero, suc}
 use mathlib.Core.List.{List, [], _∷_, _++_}
+use mathlib.Core.Path.{_≡_}
 use lib.ListN.{length}
 use lib.Seq.{sets}
 use lib.Dec.{eqb, ltb}
-use Rattle.base.specs.Answer.{Answer, gives, refuses}
+use Rattle.base.specs.Answer.{Answer, gives, refuses, counted}
 use Rattle.base.specs.Pick.{pick}
-use Rattle.splitter.specs.Frames.{frameBytes}
+use Rattle.splitter.specs.Frames.{frameBytes, countIn}
 use Rattle.splitter.specs.declared.Frame.{Frame}
 use Rattle.splitter.specs.Bytes.{splitFrame, countOf}
 use Rattle.splitter.specs.declared.Split.{Split}
@@ -41,6 +42,11 @@ unfoldable pub rowWith : Answer (List Frame) → List Frame → List Frame
 rowWith (gives fs) row = sets row 0 fs
 rowWith (refuses k vs) row = row
 
+-- what `fast_packet_frames` promises: "Its answer is the number of frames", and what the lent row becomes
+pub record SplitsInto (id sequence : ℕ) (payload : List ℕ) (row : List Frame) (r : Split) (row′ : List Frame) : Type 0 where
+  pub answer : ofSplit r ≡ counted (splitOf id sequence payload (length row))
+  pub laid : row′ ≡ rowWith (splitOf id sequence payload (length row)) row
+
 -- ---- the same in separate slices: identifiers, eight bytes a frame, lengths
 unfoldable pub idsOf : List Frame → List ℕ
 idsOf [] = []
@@ -65,3 +71,14 @@ bytesWith (refuses k vs) bytes = bytes
 unfoldable pub lensWith : Answer (List Frame) → List ℕ → List ℕ
 lensWith (gives fs) lens = sets lens 0 (lensOf fs)
 lensWith (refuses k vs) lens = lens
+
+-- the frames, where the slices have room for them: the row is as long as the shortest allows
+abbrev pub splitIn : ℕ → ℕ → List ℕ → List ℕ → List ℕ → List ℕ → Answer (List Frame)
+splitIn id sequence payload ids bytes lens = splitOf id sequence payload (countIn (length ids) (length bytes) (length lens))
+
+-- what `fast_packet_rows` promises: the answer, and what each lent slice becomes
+pub record SplitsIntoSlices (id sequence : ℕ) (payload ids bytes lens : List ℕ) (r : Split) (ids′ bytes′ lens′ : List ℕ) : Type 0 where
+  pub answer : ofSplit r ≡ counted (splitIn id sequence payload ids bytes lens)
+  pub named : ids′ ≡ idsWith (splitIn id sequence payload ids bytes lens) ids
+  pub filled : bytes′ ≡ bytesWith (splitIn id sequence payload ids bytes lens) bytes
+  pub measured : lens′ ≡ lensWith (splitIn id sequence payload ids bytes lens) lens

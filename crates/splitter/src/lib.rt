@@ -3,10 +3,9 @@ ghost use mathlib.Core.Path.{_≡_};
 ghost use Prim.Native.Nat.{_≤_, _+_};
 ghost use lib.ListN.{length};
 ghost use lib.Seq.{sets};
-ghost use Rattle.base.specs.Answer.{counted};
 ghost use Rattle.splitter.specs.Frames.{countIn};
 ghost use Rattle.splitter.specs.Bytes.{countOf};
-ghost use Rattle.splitter.specs.Split.{splitOf, ofSplit, rowWith, idsOf, bytesAll, lensOf, idsWith, bytesWith, lensWith};
+ghost use Rattle.splitter.specs.Split.{SplitsInto, idsOf, bytesAll, lensOf, SplitsIntoSlices};
 ghost use Rattle.splitter.specs.inner.Job.{isUnsplit, IsJobOf, afterOne, jobEnd, jobFrames};
 
 mod bench_frames;
@@ -98,8 +97,7 @@ fn lay(row: &mut [Frame], start: Job, n: usize) -> Job
 
 // Splits a payload into Fast Packet frames of an identifier, in the lent row.
 pub fn fast_packet_frames(id: u32, sequence: u8, payload: &[u8], row: &mut [Frame]) -> Split
-    ensures { λ r. ⌜ (ofSplit r ≡ counted (splitOf id sequence (now (payload .entry)) (length (now (row .entry)))))
-        × (now (row .exit) ≡ rowWith (splitOf id sequence (now (payload .entry)) (length (now (row .entry)))) (now (row .entry))) ⌝ }
+    ensures { λ r. ⌜ SplitsInto id sequence (now (payload .entry)) (now (row .entry)) r (now (row .exit)) ⌝ }
 {
     let s = split_of(sequence, payload.len(), row.len());
     if unsplit(s) {
@@ -152,10 +150,8 @@ pub fn fast_packet_rows(
     bytes: &mut [u8],
     lens: &mut [usize],
 ) -> Split
-    ensures { λ r. ⌜ (ofSplit r ≡ counted (splitOf id sequence (now (payload .entry)) (countIn (length (now (ids .entry))) (length (now (bytes .entry))) (length (now (lens .entry))))))
-        × (now (ids .exit) ≡ idsWith (splitOf id sequence (now (payload .entry)) (countIn (length (now (ids .entry))) (length (now (bytes .entry))) (length (now (lens .entry))))) (now (ids .entry)))
-        × (now (bytes .exit) ≡ bytesWith (splitOf id sequence (now (payload .entry)) (countIn (length (now (ids .entry))) (length (now (bytes .entry))) (length (now (lens .entry))))) (now (bytes .entry)))
-        × (now (lens .exit) ≡ lensWith (splitOf id sequence (now (payload .entry)) (countIn (length (now (ids .entry))) (length (now (bytes .entry))) (length (now (lens .entry))))) (now (lens .entry))) ⌝ }
+    ensures { λ r. ⌜ SplitsIntoSlices id sequence (now (payload .entry)) (now (ids .entry)) (now (bytes .entry)) (now (lens .entry))
+        r (now (ids .exit)) (now (bytes .exit)) (now (lens .exit)) ⌝ }
 {
     let s = split_of(
         sequence,

@@ -1,14 +1,14 @@
 -- What the code knows after some frames of a row: no bytes, only counts. Nobody needs to believe this: `proofs/Bridge` shows that it tells what specs/Strict says.
-use Prim.Native.Nat.{ℕ, _+_, _-_, _*_, _/_, _%_, _≤_, min}
+use Prim.Native.Nat.{ℕ, _+_, _-_, _*_, _/_, _≤_}
 use mathlib.Core.Bool.{Bool, true, false}
 use mathlib.Core.List.{List, [], _∷_, _++_}
-use lib.ListN.{length, getD, take, drop}
+use lib.ListN.{getD, take, drop}
 use lib.Dec.{eqb, ltb}
 use Rattle.base.specs.Pick.{pick}
 use Rattle.splitter.specs.Frames.{frameBytes}
 use Rattle.oracle.specs.Ids.{isOther}
-use Rattle.oracle.specs.Frames.{benchIndex, benchSequence, faultAt}
-use Rattle.oracle.specs.RowVerdict.{verdictAt}
+use Rattle.oracle.specs.Strict.{benchIndex, benchSequence}
+use Rattle.oracle.specs.inner.Frames.{faultAt}
 use Rattle.splitter.specs.declared.Frame.{Frame}
 use Rattle.oracle.specs.declared.Scan.{Scan}
 use Rattle.oracle.specs.declared.Reassembled.{Reassembled}
@@ -100,7 +100,20 @@ abbrev pub rowsLaid : Scan → List Frame → List ℕ
 rowsLaid s [] = []
 rowsLaid s (f ∷ fs) = rowOf s f ++ rowsLaid (scanFrame s f) fs
 
--- ---- the answer
+-- ---- the answer, from the counts after the last frame
+-- of a row of which no frame is refused
+abbrev pub passedWith : ℕ → ℕ → ℕ → ℕ → ℕ → ℕ → Reassembled
+passedWith missing announced messages total numbers space =
+    pick (ltb 0 missing) (Incomplete announced)
+    (pick (ltb (numbers / 3) messages) NoRoom
+    (pick (ltb space total) NoRoom
+    (Messages messages)))
+
+-- a refusal of a frame stands
+unfoldable pub verdictAt : Standing → ℕ → ℕ → ℕ → ℕ → ℕ → ℕ → Reassembled
+verdictAt (At why) missing announced messages total numbers space = Refused why
+verdictAt Clear missing announced messages total numbers space = passedWith missing announced messages total numbers space
+
 abbrev pub verdictOf : Scan → ℕ → ℕ → Reassembled
 verdictOf s numbers space = verdictAt (s .fault) (s .missing) (s .announced) (s .messages) (s .total) numbers space
 

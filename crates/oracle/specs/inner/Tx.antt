@@ -1,15 +1,15 @@
 -- What the transmit check's code knows after some frames. Nobody needs to believe this: `proofs/BridgeTx` shows that it tells what specs/Check says.
-use Prim.Native.Nat.{ℕ, zero, suc, _+_, _-_, _*_, _/_, _%_}
+use Prim.Native.Nat.{ℕ, _+_, _-_, _%_}
 use mathlib.Core.Bool.{Bool, true, false}
 use mathlib.Core.List.{List, [], _∷_}
-use lib.ListN.{length, getD, take, drop, replicate}
+use lib.ListN.{take, replicate}
 use lib.Seq.{sets}
 use lib.Dec.{eqb, ltb}
 use Rattle.base.specs.Pick.{pick}
-use Rattle.oracle.specs.Claims.{claimAfter}
+use Rattle.oracle.specs.Ids.{isOther}
+use Rattle.oracle.specs.Check.{hoursOf, offFrom}
 use Rattle.oracle.specs.declared.bench_ids.Claim.{Claim}
 use Rattle.oracle.specs.declared.bench_ids.Claim.the-variants.{Awaited, Made, Missed}
-use Rattle.oracle.specs.Messages.{messageOf}
 use Rattle.oracle.specs.inner.Scan.{scanFrame, addedOf, startOf, isFaulty}
 use Rattle.splitter.specs.declared.Frame.{Frame}
 use Rattle.oracle.specs.declared.Scan.{Scan}
@@ -36,6 +36,28 @@ abbrev pub isUnclaimed : Claim → Bool
 isUnclaimed Awaited = true
 isUnclaimed Made = false
 isUnclaimed Missed = true
+
+-- ---- the claim after one frame more: the first of a claim and a message decides, and what is decided stays
+unfoldable pub claimAfter : Claim → ℕ → ℕ → ℕ → Claim
+claimAfter Awaited source id len =
+    pick (isOther source 127489 id)
+    (pick (isOther source 60928 id) Awaited
+    (pick (eqb len 8) Made Awaited))
+    Missed
+claimAfter Made source id len = Made
+claimAfter Missed source id len = Missed
+
+-- ---- what is wrong with message i, whose first bytes are `bs`, after one of the sequence `last`; message 0 has none before it
+unfoldable pub messageOf : ℕ → ℕ → ℕ → ℕ → ℕ → List ℕ → Checked
+messageOf base i last sequence size bs =
+    pick (eqb size 26)
+    (pick (eqb (hoursOf bs) (base + i))
+    (pick (offFrom 0 (take 26 bs)) (Pattern i)
+    (pick (eqb i 0) Good
+    (pick (eqb sequence ((last % 8 + 1) % 8)) Good
+    (Sequence i))))
+    (Hours i))
+    (Size i)
 
 -- ---- one frame
 -- the bytes of the open message, collected

@@ -1,7 +1,7 @@
 -- `fast_packet_frames` meets its contract: the answer, a branch that returns, and the frames laid in the lent row.
 -- Assumes nothing.
 use Prim.Native.Nat.{ℕ}
-use mathlib.Core.Path.{_≡_, refl}
+use mathlib.Core.Path.{refl}
 use mathlib.Core.List.{List, [], _∷_}
 use lib.ListN.{length}
 use mir.Syntax.{Ty, named, erased, imm, mut, w8, w32, w64, tyInt, tyBool, tyRef, field}
@@ -26,10 +26,7 @@ use borrow.Kind.ShrSlice.{pShrS, spares-sslice}
 use borrow.Kind.MutSlice.{pMutS, fix-len}
 use Rattle.walk.proofs.Walk as walk
 use Rattle.walk.proofs.Walk.{Bench, bench, result, ty, mirOf, whole-of, next, gone, returns, skips, branch, sets as assigns, copies, calls, lends, slices, begins, ends, forgets, comes-back, yields, room, empty, scalar, number, same}
-use Rattle.base.specs.Answer.{Answer}
-use Rattle.splitter.specs.Split.{splitOf, rowWith}
-use Rattle.splitter.specs.Split.{ofSplit}
-use Rattle.base.specs.Answer.{counted}
+use Rattle.splitter.specs.Split.{SplitsInto}
 use Rattle.splitter.specs.declared.Frame.{Frame}
 use Rattle.splitter.proofs.SplitTypes.{job, split}
 use Rattle.splitter.proofs.Types.{frame}
@@ -83,9 +80,7 @@ abbrev xs : List Ty
 xs = mirOf split ∷ mirOf job ∷ word ∷ mirOf job ∷ word ∷ word ∷ tyBool ∷ τe ∷ sliceTy τe ∷ []
 
 abbrev Post : Out 2 ps r
-Post κs a z e =
-    let told : Answer (List Frame) = splitOf (a .0) (a .1 .0) (a .1 .1 .0 .now) (length (a .1 .1 .1 .0 .now)) in
-    (ofSplit z ≡ counted told) × (e .1 .1 .1 .0 .now ≡ rowWith told (a .1 .1 .1 .0 .now))
+Post κs a z e = SplitsInto (a .0) (a .1 .0) (a .1 .1 .0 .now) (a .1 .1 .1 .0 .now) z (e .1 .1 .1 .0 .now)
 
 -- the rows after the branch
 abbrev Γ₁ : (κs : Lfts 2) → Shares 2 → Cx

@@ -1,5 +1,5 @@
 -- `new_job` meets its contract: after i turns the first i bytes are the payload's. Assumes nothing.
-use Prim.Native.Nat.{_≤_, _-_, _<_}
+use Prim.Native.Nat.{_≤_, _-_}
 use mathlib.Core.Path.{_≡_}
 use borrow.Author.Needs.{needs}
 use lib.ListN.{length, take}

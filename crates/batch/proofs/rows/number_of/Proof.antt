@@ -1,7 +1,7 @@
 -- `rows::number_of` meets its contract. Assumes nothing.
 use borrow.Author.Needs.{needs}
 use mathlib.Core.Path.{refl}
-use Rattle.batch.specs.Rows.{kindNumber}
+use Rattle.session.specs.Kinds.{kindNumber}
 use Rattle.batch.proofs.rows.number_of.Statement.{statement}
 use Rattle.batch.proofs.rows.number_of.Tie as tie
 
@@ -19,7 +19,7 @@ returns-3 c = rw (c .enum-told3 .given .1)
 
 returns-4 : tie.Need-returns-4
 unfolding kindNumber
-returns-4 c = rw (c .enum-told4 .given .1)
+returns-4 c = rw (c .before .kind .given .1)
 
 pub number-of-spec : {M : Type 1} → statement M
 number-of-spec =

@@ -1,6 +1,6 @@
 -- `hf_process_frames` meets its contract: it passes on what its calls say. Assumes nothing.
 use borrow.Author.Needs.{needs}
-use Rattle.ffi.proofs.Laws.{batch-same, batch-left}
+use Rattle.ffi.proofs.Laws.{batch-left}
 use Rattle.ffi.proofs.batches.hf_process_frames.Statement.{statement}
 use Rattle.ffi.proofs.batches.hf_process_frames.Tie as tie
 
@@ -15,4 +15,4 @@ hf-process-frames-spec =
     (λ c. search needs)
     (λ c. search needs)
     (λ c. search needs)
-    (λ c. batch-left (c .before .before .before .before .before .before .before .before .before .before .before .process-frames .ensures) (batch-same _ _ _ _ _ _ _ _ _ (c .before .before .before .before .before .before .before .before .before .before .before .before .before .before .before .before .before .pool-from .ensures) (c .before .before .before .before .before .before .before .before .before .before .before .before .before .before .before .counters-from .ensures)) (c .leave-batch .ensures)))
+    (λ c. batch-left _ _ _ _ (c .before .before .before .before .before .before .before .before .before .before .before .before .before .before .before .before .before .pool-from .ensures) (c .before .before .before .before .before .before .before .before .before .before .before .before .before .before .before .counters-from .ensures) (c .before .before .before .before .before .before .before .before .before .before .before .process-frames .ensures) (c .leave-batch .ensures)))

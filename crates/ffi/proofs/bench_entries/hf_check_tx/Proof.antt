@@ -1,8 +1,6 @@
 -- `hf_check_tx` meets its contract: it passes on what its calls say. Assumes nothing.
 use borrow.Author.Needs.{needs}
-use mathlib.Core.Path.{ap, _∙_}
-use Rattle.numbers.specs.Numbers.{codeOf}
-use Rattle.numbers.specs.Fives.{fiveOf}
+use Rattle.ffi.proofs.BenchLaws.{told-so}
 use Rattle.ffi.proofs.bench_entries.hf_check_tx.Statement.{statement}
 use Rattle.ffi.proofs.bench_entries.hf_check_tx.Tie as tie
 
@@ -12,4 +10,4 @@ hf-check-tx-spec =
     (tie.spec
     (λ c κs. search needs)
     (λ c κs. search needs)
-    (λ c. (c .told-checked .ensures .0 ∙ ap codeOf (c .before .before .check-tx-rows .ensures), c .told-checked .ensures .1 ∙ ap fiveOf (c .before .before .check-tx-rows .ensures))))
+    (λ c. told-so (c .before .before .check-tx-rows .ensures) (c .told-checked .ensures)))

@@ -2,12 +2,10 @@
 use borrow.Author.Needs.{needs}
 use mathlib.Core.Path.{ap, _∙_}
 use Rattle.numbers.specs.Numbers.{codeOf, valueOf}
-use Rattle.ffi.specs.BenchEntries.{splitIn}
 use Rattle.ffi.proofs.bench_entries.hf_fast_packet_frames.Statement.{statement}
 use Rattle.ffi.proofs.bench_entries.hf_fast_packet_frames.Tie as tie
 
 pub hf-fast-packet-frames-spec : {M : Type 1} → statement M
-unfolding splitIn
 hf-fast-packet-frames-spec =
     tie.close
     (tie.spec
@@ -17,4 +15,10 @@ hf-fast-packet-frames-spec =
     (λ c. search needs)
     (λ c. search needs)
     (λ c. search needs)
-    (λ c. record { told = (c .split-number .ensures) ∙ ap codeOf (c .before .before .before .before .before .before .before .before .fast-packet-rows .ensures .0); given = (c .before .split-count .ensures) ∙ ap valueOf (c .before .before .before .before .before .before .before .before .fast-packet-rows .ensures .0); named = (c .before .before .before .before .before .before .before .before .fast-packet-rows .ensures .1); filled = (c .before .before .before .before .before .before .before .before .fast-packet-rows .ensures .2); measured = (c .before .before .before .before .before .before .before .before .fast-packet-rows .ensures .3) }))
+    (λ c. record {
+      told = c .split-number .ensures ∙ ap codeOf (c .before .before .before .before .before .before .before .before .fast-packet-rows .ensures .answer);
+      named = c .before .before .before .before .before .before .before .before .fast-packet-rows .ensures .named;
+      filled = c .before .before .before .before .before .before .before .before .fast-packet-rows .ensures .filled;
+      measured = c .before .before .before .before .before .before .before .before .fast-packet-rows .ensures .measured;
+      given = c .before .split-count .ensures ∙ ap valueOf (c .before .before .before .before .before .before .before .before .fast-packet-rows .ensures .answer);
+    }))

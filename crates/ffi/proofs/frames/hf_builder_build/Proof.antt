@@ -1,8 +1,6 @@
 -- `hf_builder_build` meets its contract: it passes on what its calls say. Assumes nothing.
 use borrow.Author.Needs.{needs}
-use mathlib.Core.Path.{ap, _∙_}
-use Rattle.builder.specs.Frames.{started}
-use Rattle.numbers.specs.Frames.{placeNumbers}
+use Rattle.ffi.proofs.Laws.{started-at}
 use Rattle.ffi.proofs.frames.hf_builder_build.Statement.{statement}
 use Rattle.ffi.proofs.frames.hf_builder_build.Tie as tie
 
@@ -13,4 +11,4 @@ hf-builder-build-spec =
     (λ c κs. search needs)
     (λ c κs. search needs)
     (λ c κs. search needs)
-    (λ c. (c .place-numbers .ensures) ∙ ap placeNumbers ((c .before .build .ensures) ∙ ap started (c .before .before .builder-from .ensures))))
+    (λ c. started-at _ (c .before .before .builder-from .ensures) (c .before .build .ensures) (c .place-numbers .ensures)))

@@ -1,6 +1,6 @@
 -- `hf_frame_iterator_next` meets its contract: it passes on what its calls say. Assumes nothing.
 use borrow.Author.Needs.{needs}
-use Rattle.ffi.proofs.Laws.{told-by, turn-by, place-by}
+use Rattle.ffi.proofs.Laws.{turn-left}
 use Rattle.ffi.proofs.frames.hf_frame_iterator_next.Statement.{statement}
 use Rattle.ffi.proofs.frames.hf_frame_iterator_next.Tie as tie
 
@@ -13,4 +13,4 @@ hf-frame-iterator-next-spec =
     (λ c κs. search needs)
     (λ c κs. search needs)
     (λ c κs. search needs)
-    (λ c. let e = turn-by _ _ _ (c .before .before .before .before .before .before .before .iterator-from .ensures) (c .before .before .before .before .before .before .next .ensures) (c .before .before .before .before .before .step-in .ensures) in (told-by (c .told .ensures) e, place-by _ (c .before .before .before .go-on .ensures) e)))
+    (λ c. turn-left _ _ _ (c .before .before .before .before .before .before .before .iterator-from .ensures) (c .before .before .before .before .before .before .next .ensures) (c .before .before .before .before .before .step-in .ensures) (c .told .ensures) (c .before .before .before .go-on .ensures)))

@@ -1,12 +1,9 @@
 -- `step_in` meets its contract: part by part. Assumes nothing.
-use borrow.Author.Needs.{needs}
 use mathlib.Core.Path.{refl}
-use Rattle.numbers.specs.Frames.{turnStep}
 use Rattle.ffi.proofs.frames.step_in.Statement.{statement}
 use Rattle.ffi.proofs.frames.step_in.Tie as tie
 
 pub step-in-spec : {M : Type 1} → statement M
-unfolding turnStep
 step-in-spec =
     tie.close
     (tie.spec

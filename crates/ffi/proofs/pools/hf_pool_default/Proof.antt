@@ -1,8 +1,6 @@
 -- `hf_pool_default` meets its contract: it passes on what its calls say. Assumes nothing.
 use borrow.Author.Needs.{needs}
-use mathlib.Core.Path.{ap}
-use Rattle.ffi.proofs.Laws.{made-by}
-use Rattle.numbers.specs.Pool.{plainly}
+use Rattle.ffi.proofs.Laws.{made-by, default-by}
 use Rattle.ffi.proofs.pools.hf_pool_default.Statement.{statement}
 use Rattle.ffi.proofs.pools.hf_pool_default.Tie as tie
 
@@ -12,4 +10,4 @@ hf-pool-default-spec =
     (tie.spec
     (λ c κs. search needs)
     (λ c κs. search needs)
-    (λ c. made-by (c .leave-made .ensures) (ap plainly (c .before .before .before .before .default .ensures))))
+    (λ c. made-by (c .leave-made .ensures) (default-by (c .before .before .before .before .default .ensures))))

@@ -1,6 +1,6 @@
 -- `hf_process_frame_with_length` meets its contract: it passes on what its calls say. Assumes nothing.
 use borrow.Author.Needs.{needs}
-use Rattle.ffi.proofs.Laws.{left-by, called-with-length-by}
+use Rattle.ffi.proofs.Laws.{left-by, received-with-length-by}
 use Rattle.ffi.proofs.pools.hf_process_frame_with_length.Statement.{statement}
 use Rattle.ffi.proofs.pools.hf_process_frame_with_length.Tie as tie
 
@@ -12,4 +12,4 @@ hf-process-frame-with-length-spec =
     (λ c κs. search needs)
     (λ c κs. search needs)
     (λ c κs. search needs)
-    (λ c. left-by (c .leave .ensures) (called-with-length-by _ _ _ _ _ _ (c .before .before .before .before .before .before .before .before .before .before .pool-from .ensures) (c .before .before .before .before .before .before .before .before .counters-from .ensures) _ (c .before .before .before .before .before .before .process-frame-with-length-through .ensures))))
+    (λ c. left-by (c .leave .ensures) (received-with-length-by _ _ _ (c .before .before .before .before .before .before .before .before .before .before .pool-from .ensures) (c .before .before .before .before .before .before .before .before .counters-from .ensures) _ (c .before .before .before .before .before .before .process-frame-with-length-through .ensures))))

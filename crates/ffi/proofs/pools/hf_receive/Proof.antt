@@ -1,6 +1,6 @@
 -- `hf_receive` meets its contract: it passes on what its calls say. Assumes nothing.
 use borrow.Author.Needs.{needs}
-use Rattle.ffi.proofs.Laws.{left-by, called-by}
+use Rattle.ffi.proofs.Laws.{left-by, received-by}
 use Rattle.ffi.proofs.pools.hf_receive.Statement.{statement}
 use Rattle.ffi.proofs.pools.hf_receive.Tie as tie
 
@@ -12,4 +12,4 @@ hf-receive-spec =
     (λ c κs. search needs)
     (λ c κs. search needs)
     (λ c κs. search needs)
-    (λ c. left-by (c .leave .ensures) (called-by _ _ _ _ _ _ (c .before .before .before .before .before .before .before .before .before .before .pool-from .ensures) (c .before .before .before .before .before .before .before .before .counters-from .ensures) (c .before .before .before .before .before .before .receive .ensures))))
+    (λ c. left-by (c .leave .ensures) (received-by _ _ _ (c .before .before .before .before .before .before .before .before .before .before .pool-from .ensures) (c .before .before .before .before .before .before .before .before .counters-from .ensures) _ (c .before .before .before .before .before .before .receive .ensures))))

@@ -1,7 +1,7 @@
 -- `told_fault` meets its contract: case by case. Assumes nothing.
 use borrow.Author.Needs.{needs}
 use mathlib.Core.Path.{refl}
-use Rattle.oracle.specs.FaultNumbers.{faultNumber, faultValues}
+use Rattle.oracle.specs.Numbers.{faultNumber, faultValues}
 use Rattle.oracle.specs.declared.Fault.{Fault}
 use Rattle.numbers.specs.Fives.{five}
 use Rattle.numbers.proofs.BenchCases.{case-by}

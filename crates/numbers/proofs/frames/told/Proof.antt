@@ -1,12 +1,10 @@
 -- `told` meets its contract: each number as its call says. Assumes nothing.
 use borrow.Author.Needs.{needs}
 use mathlib.Core.Path.{refl}
-use Rattle.numbers.specs.Frames.{stepNumber, stepBytes, stepFrame}
 use Rattle.numbers.proofs.frames.told.Statement.{statement}
 use Rattle.numbers.proofs.frames.told.Tie as tie
 
 pub told-spec : {M : Type 1} → statement M
-unfolding stepNumber stepBytes stepFrame
 told-spec =
     tie.close
     (tie.spec

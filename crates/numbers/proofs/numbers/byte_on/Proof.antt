@@ -1,12 +1,12 @@
 -- `byte_on` meets its contract: the test picks the case. Assumes nothing.
 use borrow.Author.Needs.{needs}
 use Rattle.base.proofs.Cases.{cases}
-use Rattle.numbers.specs.Numbers.{laidOn, byteOn}
+use Rattle.numbers.specs.Numbers.{laidOn}
 use Rattle.numbers.proofs.numbers.byte_on.Statement.{statement}
 use Rattle.numbers.proofs.numbers.byte_on.Tie as tie
 
 pub byte-on-spec : {M : Type 1} → statement M
-unfolding laidOn byteOn
+unfolding laidOn
 byte-on-spec =
     tie.close
     (tie.spec

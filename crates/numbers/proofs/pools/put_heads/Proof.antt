@@ -3,17 +3,18 @@ use borrow.Author.Needs.{needs}
 use Prim.Native.Nat.{_≤_, _-_}
 use mathlib.Core.Path.{_≡_}
 use native.Mathlib.Omega.{arith}
+use Rattle.session.specs.Rules.{poolLimit}
 use Rattle.session.specs.Heads.{freshHead}
-use Rattle.numbers.specs.Pool.{laid}
+use Rattle.numbers.specs.Pool.{laidTo}
 use Rattle.numbers.proofs.PoolLaws.{laid-none, laid-turn, laid-done}
 use Rattle.numbers.proofs.pools.put_heads.Statement.{statement}
 use Rattle.numbers.proofs.pools.put_heads.Tie as tie
 
 abbrev Inv-loop : tie.InvT-loop
-Inv-loop n₀ heads k₀ n k = (k ≤ 8) × (n ≡ laid k heads n₀)
+Inv-loop n₀ heads k₀ n k = (k ≤ poolLimit) × (n ≡ laidTo k n₀ heads)
 
 abbrev μ-loop : tie.MeasureT-loop
-μ-loop n₀ heads k₀ n k = 8 - k
+μ-loop n₀ heads k₀ n k = poolLimit - k
 
 loop-again : tie.Need-loop-again Inv-loop μ-loop
 unfolding freshHead

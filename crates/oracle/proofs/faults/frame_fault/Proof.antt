@@ -2,7 +2,7 @@
 use borrow.Author.Needs.{needs}
 use Rattle.base.proofs.Cases.{cases}
 use Rattle.oracle.proofs.FaultLaws.{fault-then}
-use Rattle.oracle.specs.Frames.{faultAt}
+use Rattle.oracle.specs.inner.Frames.{faultAt}
 use Rattle.oracle.proofs.faults.frame_fault.Statement.{statement}
 use Rattle.oracle.proofs.faults.frame_fault.Tie as tie
 

@@ -1,9 +1,9 @@
 -- `odd_byte` meets its contract: what is left to look at has the same first odd byte. Assumes nothing.
-use Prim.Native.Nat.{_≤_, _-_}
+use Prim.Native.Nat.{_-_}
 use mathlib.Core.Path.{_≡_}
 use borrow.Author.Needs.{needs}
 use lib.ListN.{length, drop}
-use Rattle.oracle.specs.Frames.{oddOf}
+use Rattle.oracle.specs.Strict.{oddOf}
 use Rattle.oracle.proofs.FaultLaws.{oddness}
 use Rattle.oracle.proofs.faults.odd_byte.Statement.{statement}
 use Rattle.oracle.proofs.faults.odd_byte.Tie as tie

@@ -1,7 +1,7 @@
 -- `hours` meets its contract: the facts on each way out pick the law of that case. Assumes nothing.
 use borrow.Author.Needs.{needs}
 use Rattle.base.proofs.Cases.{cases, said}
-use Rattle.oracle.specs.Messages.{hoursOf}
+use Rattle.oracle.specs.Check.{hoursOf}
 use Rattle.oracle.proofs.messages.hours.Statement.{statement}
 use Rattle.oracle.proofs.messages.hours.Tie as tie
 

@@ -2,7 +2,7 @@
 use borrow.Author.Needs.{needs}
 use Rattle.base.proofs.Cases.{cases, said}
 use Rattle.oracle.proofs.VerdictLaws.{dues}
-use Rattle.oracle.specs.Messages.{messageOf}
+use Rattle.oracle.specs.inner.Tx.{messageOf}
 use Rattle.oracle.proofs.messages.message_fault.Statement.{statement}
 use Rattle.oracle.proofs.messages.message_fault.Tie as tie
 

@@ -1,9 +1,9 @@
 -- `off_pattern` meets its contract: what is left to look at decides. Assumes nothing.
-use Prim.Native.Nat.{_≤_, _-_}
+use Prim.Native.Nat.{_-_}
 use mathlib.Core.Path.{_≡_}
 use borrow.Author.Needs.{needs}
 use lib.ListN.{length, drop, take}
-use Rattle.oracle.specs.Messages.{offFrom}
+use Rattle.oracle.specs.Check.{offFrom}
 use Rattle.oracle.proofs.VerdictLaws.{offness}
 use Rattle.oracle.proofs.messages.off_pattern.Statement.{statement}
 use Rattle.oracle.proofs.messages.off_pattern.Tie as tie

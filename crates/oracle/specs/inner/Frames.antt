@@ -1,25 +1,24 @@
--- Why strict reassembly refuses a frame, as document 01 has it under "The bench": the tests in the document's order. A refusal at frame n carries n.
+-- One frame, as the code reads it and judges it. Nobody needs to believe this: `proofs/Bridge` shows that it tells what specs/Strict says, `proofs/RowLaws` that
+-- what is read is the row of specs/Rows.
 use Prim.Native.Nat.{ℕ, _+_, _/_, _%_}
-use mathlib.Core.List.{List, [], _∷_}
-use lib.ListN.{getD, drop}
+use mathlib.Core.List.{List}
+use lib.ListN.{length, getD, drop, replicate}
 use lib.Dec.{eqb, ltb}
 use Rattle.base.specs.Pick.{pick}
+use Rattle.splitter.specs.Frames.{countIn}
+use Rattle.oracle.specs.Rows.{frameIn}
+use Rattle.oracle.specs.Strict.{oddOf}
+use Rattle.splitter.specs.declared.Frame.{Frame}
 use Rattle.oracle.specs.declared.Fault.the-variants.{Length, Restarted, Announced, Stray, Order, Padding}
 use Rattle.oracle.specs.declared.faults.Standing.{Standing}
 use Rattle.oracle.specs.declared.faults.Standing.the-variants.{Clear, At}
 
--- "Index .. (low 5 bits of byte 0; sequence is the top 3)"
-abbrev pub benchIndex : List ℕ → ℕ
-benchIndex bs = getD bs 0 0 % 32
+-- what is read at place i: frame i of them, or zeros where the row has none there
+unfoldable pub frameOrNone : List ℕ → List ℕ → List ℕ → ℕ → Frame
+frameOrNone ids bytes lens i =
+    pick (ltb i (countIn (length ids) (length bytes) (length lens))) (frameIn ids bytes lens i) (record { id = 0; «data» = replicate 8 0; len = 0 })
 
-abbrev pub benchSequence : List ℕ → ℕ
-benchSequence bs = getD bs 0 0 / 32
-
--- the first byte that is not 0xFF; 0xFF if there is none
-unfoldable pub oddOf : List ℕ → ℕ
-oddOf [] = 255
-oddOf (b ∷ bs) = pick (eqb b 255) (oddOf bs) b
-
+-- ---- why it is refused, if it is: the tests in the document's order, of what is known of the open message by numbers
 -- "those after it must all be 0xFF (25, first bad byte)"
 abbrev pub paddingAt : ℕ → ℕ → Standing
 paddingAt n odd = pick (eqb odd 255) Clear (At (Padding n odd))
