@@ -1,10 +1,10 @@
 // Receiving: a pool of one slot, and refusal 1.
 use crate::say;
+use assembler::Arrival;
 use assembler::Pool;
 use assembler::Received;
 use assembler::receive;
 use session::Counters;
-use assembler::Arrival;
 use session::Kind;
 
 const PGN: u32 = 127489;

@@ -1,11 +1,11 @@
 // Engine hours reassembled: an old half message, a full pool, a clock set back.
 use crate::engine;
 use crate::say;
+use assembler::Arrival;
 use assembler::Pool;
 use assembler::Received;
 use assembler::receive;
 use session::Counters;
-use assembler::Arrival;
 use session::Kind;
 
 struct Gateway {

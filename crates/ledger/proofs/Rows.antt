@@ -13,6 +13,7 @@ use Rattle.base.specs.Answer.{gives, refuses}
 use Rattle.base.specs.Pick.{pick}
 use Rattle.session.specs.declared.Heard.{Heard}
 use Rattle.session.specs.declared.Counters.{Counters}
+use Rattle.session.specs.Kinds.{kindNumber}
 use Rattle.session.specs.Rules.{Rules, base}
 use Rattle.assembler.specs.declared.Pool.{Pool}
 use Rattle.assembler.specs.declared.Received.{Received}
@@ -24,7 +25,7 @@ use Rattle.assembler.specs.Promises.{rulesOf}
 use Rattle.batch.specs.declared.Batch.{Batch}
 use Rattle.batch.specs.Lengths.{tooShort}
 use Rattle.batch.specs.Rows as rows
-use Rattle.batch.specs.Rows.{Rows, frameInRows, kindNumber, took, answerIn, runOf, over, leaves, refusedBy, batchOf, BatchLeft, Batches}
+use Rattle.batch.specs.Rows.{Rows, frameInRows, took, answerIn, runOf, over, leaves, refusedBy, batchOf, BatchLeft, Batches}
 use Rattle.batch.specs.Calls.{callEach, joined}
 use Rattle.batch.proofs.Continues.{as-far}
 use Rattle.batch.proofs.Promised.{batched-by}

@@ -78,8 +78,9 @@ unfoldable pub callsOf : List ℕ → Rows → ℕ → ℕ → List Call
 callsOf list w zero i = []
 callsOf list w (suc n) i = call list (frameInRows w i) ∷ callsOf list w n (suc i)
 
+-- the kind of answer that has this number
 unfoldable pub kindOfNumber : ℕ → Kind
-kindOfNumber n = pick (eqb n 0) Ignored (pick (eqb n 1) FragmentConsumed (pick (eqb n 2) MessageComplete (Refused 1)))
+kindOfNumber n = pick (eqb n 101) Ignored (pick (eqb n 102) FragmentConsumed (pick (eqb n 103) MessageComplete (Refused n)))
 
 -- what a batch says of n frames in its rows, after what was said before: of each a kind and a length, and the messages end to end in the arena
 unfoldable pub saidInRows : ℕ → List ℕ → List ℕ → List ℕ → List Saying → List Saying

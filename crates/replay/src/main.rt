@@ -4,6 +4,7 @@
 //   B: the next frame of a builder: PGN (8), source (2), destination (4, 0100 for none), priority (2), sequence (2), fast (2), frame index (2), bytes
 //     sent (4), payload length (4), dots; byte i of the payload is (7 i + 1) modulo 256.
 // The file stdout that this is held to was written by the original: host/diff/src/bin/replay_list.rs makes both.
+use assembler::Arrival;
 use assembler::Pool;
 use assembler::Received;
 use assembler::process_frame_through;
@@ -16,7 +17,6 @@ use fast_packet::MAX_FAST_PACKET_PAYLOAD;
 use libc::STDIN_FILENO;
 use libc::STDOUT_FILENO;
 use session::Counters;
-use assembler::Arrival;
 use session::Kind;
 ghost use Prim.Native.Nat.{_<_, _≤_, _+_};
 ghost use lib.ListN.{length};
