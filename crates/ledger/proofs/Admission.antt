@@ -9,7 +9,8 @@ use native.Mathlib.Omega.{arith}
 use lib.ListN.{getD}
 use lib.Dec.{eqb, ltb, leb}
 use borrow.Author.Tests.{leb-false, leb-true, ltb-false, ltb-true, le-leb, lt-leb, ne-eqb}
-use Rattle.base.specs.Lists.{nextPlace, here, orElse, firstAt, any, total}
+use Rattle.base.specs.Pick.{pick}
+use Rattle.base.specs.Lists.{nextPlace, here, orElse, firstAt, any}
 use Rattle.base.proofs.First.{Test, test, passes, fails}
 use Rattle.fast_packet.specs.FastPacket.{maxPayload}
 use Rattle.session.specs.declared.Head.{Head}
@@ -20,9 +21,8 @@ use Rattle.assembler.specs.Call.{Call, listed, isOpener}
 use Rattle.assembler.specs.Slots.{Slot, within, onHead, chosen}
 use Rattle.assembler.specs.Runs.{World}
 use Rattle.assembler.specs.View.{headOf}
-use Rattle.ledger.specs.Ledger.{Message, Place, idle, holds, late, itsTurn, full, grown, liveHeld, takenBy, CallAccount}
-use Rattle.ledger.specs.Ledger.{nothingMoved, endLate, openingAt, tellOpen, tellShort, tellSized, tellFull, tellTurn, tellHeld, tellContinue, tellIndex, tellListed, tellOne, Ledger, numbered, nextEvent}
-use Rattle.ledger.specs.Ledger.{Opened, NoSlot, columnNumber, post, posts, posted, one, asNumber, onlyIf, weighs}
+use Rattle.ledger.specs.Ledger.{Message, Place, idle, holds, heldIn, late, itsTurn, full, grown, liveHeld, takenBy, Told, nothingMoved, opensIn, continuesIn, given, tellOne, Ledger, numbered, nextDeed}
+use Rattle.ledger.specs.Ledger.{NoSlot, Stray, Restarting, Reclaiming, deedNumber, isOneOf, opens, openingAt}
 use Rattle.ledger.specs.Demand3.{hasRoom, Admitted}
 use Rattle.ledger.specs.Runs.{seenOf}
 use Rattle.ledger.proofs.Match.{chosen-same}
@@ -88,69 +88,77 @@ unfolding chosen
 found-chosen R c ss =
     simp (found-or, found-first) (any-three (onHead (hasKey R (c .heard))) (onHead (isFreeOfSource R (c .heard))) (onHead (isFree R (c .heard))) (onHead (hasRoom R c)) (room-same R c) ss)
 
--- ---- what each branch posts
+-- ---- what each branch does
 
--- one posting in the column, or none
-record Posts (n : ℕ) (e : CallAccount) (o r : Bool) : Type 0 where
-  opens : posted Opened one n e ≡ asNumber o
-  refuses : posted NoSlot one n e ≡ asNumber r
+record Admits (t : Told) (o r : Bool) : Type 0 where
+  opening : opens (t .deed) ≡ o
+  refusing : isOneOf (NoSlot ∷ []) (t .deed) ≡ r
+
+admits-pick : (b : Bool) {t u : Told} {o r o′ r′ : Bool} → Admits t o r → Admits u o′ r′ → Admits (pick b t u) (pick b o o′) (pick b r r′)
+unfolding pick
+admits-pick true h g = h
+admits-pick false h g = g
+
+-- a call that neither opens nor is refused
+abbrev Neither : Told → Type 0
+Neither t = Admits t false false
+
+neither-pick : (b : Bool) {t u : Told} → Neither t → Neither u → Neither (pick b t u)
+unfolding pick
+neither-pick true h g = h
+neither-pick false h g = g
 
 module _ (R : Rules) (n : ℕ) (ps : List Place) (c : Call) where
-  posts-late : (b : Bool) (m : Message) → Posts n (endLate b m) true false
-  unfolding endLate posted total weighs posts post onlyIf columnNumber one asNumber
-  posts-late true m = record { opens = refl; refuses = refl }
-  posts-late false m = record { opens = refl; refuses = refl }
+  admits-late : (b : Bool) (o : Option Message) (qs : List Place) → Admits (record { deed = pick b Reclaiming Restarting; message = o; places = qs }) true false
+  unfolding pick opens isOneOf any deedNumber
+  admits-late true o qs = record { opening = refl; refusing = refl }
+  admits-late false o qs = record { opening = refl; refusing = refl }
 
-  posts-opening : (p : Place) → Posts n (openingAt (late R c) p) true false
-  unfolding openingAt posted total weighs posts post onlyIf columnNumber one asNumber
-  posts-opening (idle from) = record { opens = refl; refuses = refl }
-  posts-opening (holds m) = posts-late (late R c m) m
+  admits-opening : (p : Place) (o : Option Message) (qs : List Place) → Admits (record { deed = openingAt (late R c) p; message = o; places = qs }) true false
+  unfolding openingAt
+  admits-opening (idle kept) o qs = unfold opens isOneOf any deedNumber in record { opening = refl; refusing = refl }
+  admits-opening (holds m) o qs = admits-late (late R c m) o qs
 
-  posts-open : (o : Option ℕ) → Posts n (tellOpen R n ps c o .event) (found o) (not (found o))
-  unfolding tellOpen nothingMoved found posted total weighs posts post onlyIf columnNumber one asNumber
-  posts-open none = record { opens = refl; refuses = refl }
-  posts-open (some i) = posts-opening (getD ps i (idle 0))
+  admits-open : (o : Option ℕ) → Admits (given o (nothingMoved NoSlot ps) (opensIn R n ps c)) (found o) (not (found o))
+  unfolding given opensIn nothingMoved found
+  admits-open none = unfold opens isOneOf any deedNumber in record { opening = refl; refusing = refl }
+  admits-open (some i) = admits-opening (getD ps i (idle 0)) _ _
 
-  posts-full : (b : Bool) (i : ℕ) (m : Message) → Posts n (tellFull b ps i m .event) false false
-  unfolding tellFull posted total weighs posts post onlyIf columnNumber one asNumber
-  posts-full true i m = record { opens = refl; refuses = refl }
-  posts-full false i m = record { opens = refl; refuses = refl }
+  neither-own : (i : ℕ) (m : Message) → Neither (continuesIn ps c i m)
+  unfolding continuesIn opens isOneOf any deedNumber
+  neither-own i m =
+      neither-pick (itsTurn c m) (neither-pick (full (grown m c)) (record { opening = refl; refusing = refl }) (record { opening = refl; refusing = refl })) (record { opening = refl; refusing = refl })
 
-  posts-turn : (b : Bool) (i : ℕ) (m : Message) → Posts n (tellTurn b ps c i m .event) false false
-  unfolding tellTurn posted total weighs posts post onlyIf columnNumber one asNumber
-  posts-turn true i m = posts-full (full (grown m c)) i (grown m c)
-  posts-turn false i m = record { opens = refl; refuses = refl }
+  neither-held : (i : ℕ) (o : Option Message) → Neither (given o (nothingMoved Stray ps) (continuesIn ps c i))
+  unfolding given nothingMoved
+  neither-held i none = unfold opens isOneOf any deedNumber in record { opening = refl; refusing = refl }
+  neither-held i (some m) = neither-own i m
 
-  posts-held : (i : ℕ) (p : Place) → Posts n (tellHeld ps c i p .event) false false
-  unfolding tellHeld nothingMoved posted total weighs posts post onlyIf columnNumber one asNumber
-  posts-held i (idle from) = record { opens = refl; refuses = refl }
-  posts-held i (holds m) = posts-turn (itsTurn c m) i m
-
-  posts-continue : (o : Option ℕ) → Posts n (tellContinue ps c o .event) false false
-  unfolding tellContinue nothingMoved posted total weighs posts post onlyIf columnNumber one asNumber
-  posts-continue none = record { opens = refl; refuses = refl }
-  posts-continue (some i) = posts-held i (getD ps i (idle 0))
+  neither-continue : (o : Option ℕ) → Neither (given o (nothingMoved Stray ps) (λ i. given (heldIn (getD ps i (idle 0))) (nothingMoved Stray ps) (continuesIn ps c i)))
+  unfolding given nothingMoved
+  neither-continue none = unfold opens isOneOf any deedNumber in record { opening = refl; refusing = refl }
+  neither-continue (some i) = neither-held i (heldIn (getD ps i (idle 0)))
 
   -- by the tests that a call goes through: listed, index 0, a bad size, a size up to 6
-  posts-short : (b : Bool) → Posts n (tellShort b R n ps c .event) (not b && found (takenBy R c ps)) (not b && not (found (takenBy R c ps)))
-  unfolding tellShort nothingMoved posted total weighs posts post onlyIf columnNumber one asNumber
-  posts-short true = record { opens = refl; refuses = refl }
-  posts-short false = posts-open (takenBy R c ps)
+  admits-one : Admits (tellOne R n ps c)
+      (pick (listed c) (pick (eqb (indexOf (c .heard)) 0) (pick (badSize (c .heard)) false (pick (leb (sizeOf (c .heard)) 6) false (found (takenBy R c ps)))) false) false)
+      (pick (listed c) (pick (eqb (indexOf (c .heard)) 0) (pick (badSize (c .heard)) false (pick (leb (sizeOf (c .heard)) 6) false (not (found (takenBy R c ps))))) false) false)
+  unfolding tellOne nothingMoved opens isOneOf any deedNumber
+  admits-one =
+      admits-pick (listed c)
+      (admits-pick (eqb (indexOf (c .heard)) 0)
+      (admits-pick (badSize (c .heard)) (record { opening = refl; refusing = refl })
+      (admits-pick (leb (sizeOf (c .heard)) 6) (record { opening = refl; refusing = refl }) (admits-open (takenBy R c ps))))
+      (neither-continue (firstAt (liveHeld R c) ps)))
+      (record { opening = refl; refusing = refl })
 
-  posts-sized : (b s : Bool) → leb (sizeOf (c .heard)) 6 ≡ s → Posts n (tellSized b R n ps c .event) ((not b && not s) && found (takenBy R c ps)) ((not b && not s) && not (found (takenBy R c ps)))
-  unfolding tellSized nothingMoved posted total weighs posts post onlyIf columnNumber one asNumber
-  posts-sized true s e = record { opens = refl; refuses = refl }
-  posts-sized false s e = rw e (posts-short s)
-
-  posts-index : (b s : Bool) → (not (badSize (c .heard)) && not (leb (sizeOf (c .heard)) 6)) ≡ s → Posts n (tellIndex b R n ps c .event) ((b && s) && found (takenBy R c ps)) ((b && s) && not (found (takenBy R c ps)))
-  unfolding tellIndex
-  posts-index true s e = rw (← e) (posts-sized (badSize (c .heard)) (leb (sizeOf (c .heard)) 6) refl)
-  posts-index false s e = posts-continue (firstAt (liveHeld R c) ps)
-
-  posts-listed : (b s : Bool) → (eqb (indexOf (c .heard)) 0 && (not (badSize (c .heard)) && not (leb (sizeOf (c .heard)) 6))) ≡ s → Posts n (tellListed b R n ps c .event) ((b && s) && found (takenBy R c ps)) ((b && s) && not (found (takenBy R c ps)))
-  unfolding tellListed nothingMoved posted total weighs posts post onlyIf columnNumber one asNumber
-  posts-listed true s e = rw (← e) (posts-index (eqb (indexOf (c .heard)) 0) _ refl)
-  posts-listed false s e = record { opens = refl; refuses = refl }
+picks : (a b x y z : Bool) → pick a (pick b (pick x false (pick y false z)) false) false ≡ ((a && (b && (not x && not y))) && z)
+unfolding pick
+picks true true true y z = refl
+picks true true false true z = refl
+picks true true false false z = refl
+picks true false x y z = refl
+picks false b x y z = refl
 
 -- the tests on a size, as two bounds
 pub size-tests : (c : Call) → (not (badSize (c .heard)) && not (leb (sizeOf (c .heard)) 6)) ≡ (leb 7 (sizeOf (c .heard)) && leb (sizeOf (c .heard)) maxPayload)
@@ -186,7 +194,11 @@ module _ (R : Rules) (w : World) (L : Ledger) (c : Call) (h : Follows R w L) whe
   room = ap found (chosen-same R c (h .shows)) ∙ found-chosen R c (within (w .pool)) ∙ any-heads (hasRoom R c) (within (w .pool))
 
   pub admitted : Admitted R (seenOf w) L c
-  unfolding nextEvent tellOne seenOf
+  unfolding nextDeed seenOf
   admitted =
-      let p = posts-listed R (numbered L) (L .places) c (listed c) _ refl in
-      record { opens = p .opens ∙ rw (opener-tests c, room); refuses = p .refuses ∙ rw (opener-tests c, room) }
+      let p = admits-one R (numbered L) (L .places) c in
+      let tests = picks (listed c) (eqb (indexOf (c .heard)) 0) (badSize (c .heard)) (leb (sizeOf (c .heard)) 6) in
+      record {
+        opening = p .opening ∙ tests (found (takenBy R c (L .places))) ∙ rw (opener-tests c, room);
+        refusing = p .refusing ∙ tests (not (found (takenBy R c (L .places)))) ∙ rw (opener-tests c, room);
+      }

@@ -1,58 +1,98 @@
--- Demand 3, proved: of the public call at document 01's own rules, and at every test for silence and for the key; and of the steps at every limit too.
+-- Demand 3, proved: of every run of the public calls, mixed in any order, at document 01's own rules; of the receive call at every test for silence and for the
+-- key; and of the steps at every limit too.
 -- Assumes nothing.
-use mathlib.Core.List.{List}
-use mathlib.Core.Path.{_≡_, refl, ap, _∙_}
+use mathlib.Core.List.{List, [], _∷_, _++_}
+use mathlib.Core.Path.{_≡_, refl, sym, ap, _∙_}
 use Prim.Native.Nat.{ℕ, _≤_}
-use lib.ListN.{length}
-use Rattle.session.specs.Rules.{Rules, poolLimit, base}
-use Rattle.session.specs.Counting.{most}
+use lib.ListN.{length, replicate}
+use Rattle.session.specs.declared.Heard.{Heard}
 use Rattle.session.specs.declared.Counters.{Counters}
-use Rattle.assembler.specs.Call.{Call}
+use Rattle.session.specs.Rules.{Rules, base}
+use Rattle.session.specs.Counting.{most}
+use Rattle.assembler.specs.declared.Pool.{Pool}
+use Rattle.assembler.specs.declared.Processed.{Processed}
+use Rattle.assembler.specs.declared.Received.{Received}
+use Rattle.assembler.specs.Call.{Call, CallOk}
 use Rattle.assembler.specs.Slots.{freshSlots}
 use Rattle.assembler.specs.Step.{step}
 use Rattle.assembler.specs.Runs.{freshWorld, callAll}
-use Rattle.assembler.specs.declared.Received.{Received}
-use Rattle.assembler.specs.declared.Processed.{Processed}
-use Rattle.assembler.specs.View.{receiveOf}
-use Rattle.assembler.specs.Forms.{receivedOf}
+use Rattle.assembler.specs.View.{slotsOf, receiveOf}
+use Rattle.assembler.specs.Promises.{rulesOf, ReceivesHeard, ProcessesHeard}
+use Rattle.assembler.proofs.Promised.{received-by, processed-by}
+use Rattle.assembler.proofs.ByCalls.{filled-ok}
 use Rattle.ledger.specs.Ledger.{ledgerOf}
-use Rattle.ledger.specs.Demand3.{Demand3, AllOk, Agreed, Admitted}
-use Rattle.ledger.specs.Runs.{State, newState, afterCall, receives, seenIn, received, Promised, Ran, stop, on, stepped}
+use Rattle.ledger.specs.Demand3.{Demand3, AllOk, none, more, Closes}
+use Rattle.ledger.specs.Runs.{Empty, State, start, sourcesOf, seenIn, call, sayingOf, afterCall, afterLent, Called, received, receivedWithLength, processed, processedWithLength, batched, Ran, stop, on, receives, seenAfter, stepped}
 use Rattle.ledger.proofs.Run.{begun, follows, agreed}
 use Rattle.ledger.proofs.Admission.{admitted}
+use Rattle.ledger.proofs.Start.{empty-follows, empty-sized, fresh-follows}
 use Rattle.ledger.proofs.Received.{same-seen, run-same}
+use Rattle.ledger.proofs.Rows.{Taken, batch-taken}
 
 -- of the steps: every limit, every pool size up to it, every test for silence, every test for the key
-pub demand-3-steps : (R : Rules) (n : ℕ) → n ≤ R .limit → Demand3 R n (stepped (step R) R n)
-unfolding Demand3 stepped most freshWorld freshSlots begun
+pub demand-3-steps : (R : Rules) (n : ℕ) → n ≤ R .limit → Demand3 R (replicate n 0) (stepped (step R) R n)
+unfolding Demand3 stepped most freshWorld begun
 demand-3-steps R n h cs oks l =
-    let f = follows R (R .limit) n h h oks l in
-    (agreed R n cs (callAll (step R) (begun (R .limit) n) cs) f, λ c. admitted R (callAll (step R) (begun (R .limit) n) cs) (ledgerOf R n cs) c f)
+    let f = follows R (freshSlots R n) (replicate n 0) (fresh-follows R n h) oks l in
+    record {
+      agreed = agreed R (replicate n 0) cs (callAll (step R) (begun (freshSlots R n)) cs) f;
+      admitted = λ c. admitted R (callAll (step R) (begun (freshSlots R n)) cs) (ledgerOf R (replicate n 0) cs) c f;
+    }
 
--- of the public call, whose pool has room for `poolLimit` slots
-pub demand-3-rules : (R : Rules) (n : ℕ) → n ≤ R .limit → n ≤ poolLimit → Demand3 R n (received (receiveOf R) n)
-unfolding Demand3 received most
-demand-3-rules R n h g cs oks l =
-    let f = follows R poolLimit n h g oks l in
-    let e = same-seen (receives (receiveOf R) (newState n) cs) (callAll (step R) (begun poolLimit n) cs) (run-same R n h g oks l) in
-    rw e (agreed R n cs (callAll (step R) (begun poolLimit n) cs) f, λ c. admitted R (callAll (step R) (begun poolLimit n) cs) (ledgerOf R n cs) c f)
+-- of the receive call, from any empty pool
+pub demand-3-rules : (R : Rules) (p : Pool) → Empty p → p .size ≤ R .limit → Demand3 R (sourcesOf p) (seenAfter (receiveOf R) p)
+unfolding Demand3 seenAfter most
+demand-3-rules R p e h cs oks l =
+    let start-follows = empty-follows R p e h in
+    let f = follows R (slotsOf p) (sourcesOf p) start-follows oks l in
+    let same = same-seen (receives (receiveOf R) (start p) cs) (callAll (step R) (begun (slotsOf p)) cs) (run-same R p (empty-sized p e) start-follows oks l) in
+    rw same
+    (record {
+      agreed = agreed R (sourcesOf p) cs (callAll (step R) (begun (slotsOf p)) cs) f;
+      admitted = λ c. admitted R (callAll (step R) (begun (slotsOf p)) cs) (ledgerOf R (sourcesOf p) cs) c f;
+    })
 
--- at document 01's own rules: up to 4,294,967,295 calls from a new pool of 0 to 8 slots with zero counters agree with their ledger
-pub demand-3 : (n : ℕ) → n ≤ poolLimit → Demand3 base n (received (receiveOf base) n)
-unfolding base
-demand-3 n h = demand-3-rules base n h h
+-- ---- a run of the public calls is a run of the receive call
 
--- ---- the same of `process_frame`, to which the counters are lent
+taken-one : (z : State) (pgns : List ℕ) (f : Heard) (r : Received) → CallOk (call pgns f) → ReceivesHeard pgns f (z .pool) (z .counters) r → Taken z (afterCall z r) (call pgns f ∷ [])
+unfolding receives rulesOf
+taken-one z pgns f r ok h = record { is = ap (afterCall z) (received-by pgns f (z .pool) (z .counters) h); oks = more ok none }
 
-promised-is : (R : Rules) (c : Call) (z : State) (a : Processed) (k : Counters) → Promised R c z a k → receivedOf a k ≡ receiveOf R (c .pgns) (c .heard) (z .pool) (z .counters)
-promised-is R c z a k p = rw (p .0, p .1)
+taken-lent : (z : State) (pgns : List ℕ) (f : Heard) (r : Processed) (after : Counters) → CallOk (call pgns f) → ProcessesHeard pgns f (z .pool) (z .counters) r after → Taken z (afterLent z r after) (call pgns f ∷ [])
+unfolding receives rulesOf afterLent afterCall sayingOf
+taken-lent z pgns f r after ok h =
+    let e = processed-by pgns f (z .pool) (z .counters) h in
+    record { is = rw (e .0, e .1); oks = more ok none }
 
-ran-is : (R : Rules) {z y : State} {cs : List Call} → Ran R z cs y → y ≡ receives (receiveOf R) z cs
+taken : {z x : State} {cs : List Call} → Called z cs x → Taken z x cs
+taken {z} (received pgns a {r} ok h) = taken-one z pgns _ r ok h
+taken {z} (receivedWithLength pgns x {r} ok h) = taken-one z pgns _ r (filled-ok pgns x ok) h
+taken {z} (processed pgns a {r} {after} ok h) = taken-lent z pgns _ r after ok h
+taken {z} (processedWithLength pgns x {r} {after} ok h) = taken-lent z pgns _ r after (filled-ok pgns x ok) h
+taken {z} (batched small h) = batch-taken z small h
+
+ok-both : {cs ds : List Call} → AllOk cs → AllOk ds → AllOk (cs ++ ds)
+ok-both none h = h
+ok-both (more ok g) h = more ok (ok-both g h)
+
+pub receives-append : (f : List ℕ → Heard → Pool → Counters → Received) (z : State) (cs ds : List Call) → receives f z (cs ++ ds) ≡ receives f (receives f z cs) ds
 unfolding receives
-ran-is R stop = refl
-ran-is R (on {z} {y} {c} {cs} {a} {k} p r) = ran-is R r ∙ ap (λ (x : Received). receives (receiveOf R) (afterCall z x) cs) (promised-is R c z a k p)
+receives-append f z [] ds = refl
+receives-append f z (c ∷ cs) ds = receives-append f (afterCall z (f (c .pgns) (c .heard) (z .pool) (z .counters))) cs ds
 
--- wherever calls that keep the promise of `process_frame` come to from a new pool and zero counters, what is seen there agrees with the ledger
-pub demand-3-process-frame : (n : ℕ) → n ≤ poolLimit → {cs : List Call} {y : State} → Ran base (newState n) cs y → AllOk base cs → length cs ≤ 4294967295
-    → Agreed (seenIn y) (ledgerOf base n cs) × ((c : Call) → Admitted base (seenIn y) (ledgerOf base n cs) c)
-demand-3-process-frame n h {cs} r oks l = rw (ran-is base r) (unfold Demand3 received in demand-3 n h cs oks l)
+pub ran-taken : {z y : State} {cs : List Call} → Ran z cs y → Taken z y cs
+ran-taken stop = record { is = unfold receives in refl; oks = none }
+ran-taken (on {z} {x} {y} {cs} {ds} c r) =
+    let one = taken c in
+    let rest = ran-taken r in
+    record {
+      is = rest .is ∙ ap (λ (u : State). receives (receiveOf base) u ds) (one .is) ∙ sym (receives-append (receiveOf base) z cs ds);
+      oks = ok-both (one .oks) (rest .oks);
+    }
+
+-- Demand 3: wherever up to 4,294,967,295 frames come to by public calls that keep their promises, from an empty pool and zero counters, what is seen there agrees
+-- with the ledger of those frames, and the next call is admitted as it should be
+pub demand-3 : (p : Pool) → Empty p → {cs : List Call} {y : State} → Ran (start p) cs y → length cs ≤ 4294967295 → Closes base (seenIn y) (ledgerOf base (sourcesOf p) cs)
+demand-3 p e {cs} r l =
+    let t = ran-taken r in
+    rw (t .is) (unfold Demand3 seenAfter in demand-3-rules base p e (unfold base in e .size) cs (t .oks) l)

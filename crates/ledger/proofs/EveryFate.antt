@@ -1,8 +1,9 @@
--- Nothing is vacuous: one run of the public call in which every fate and every other event occurs, told by its ledger, by computation.
+-- Nothing is vacuous: one run of the receive call in which every fate and every other deed occurs, told by its ledger, by computation.
 -- Assumes nothing.
 use mathlib.Core.List.{List, [], _∷_}
 use mathlib.Core.Path.{_≡_, refl}
 use Prim.Native.Nat.{ℕ}
+use Rattle.base.specs.Pick.{pick}
 use Rattle.base.specs.Lists.{nextPlace, here, orElse, firstAt, any, total}
 use Rattle.fast_packet.specs.FastPacket.{listedIn}
 use Rattle.session.specs.Rules.{base, silence, keysEqual}
@@ -11,25 +12,24 @@ use Rattle.session.specs.Heads.{freshHead, headKey, impossibleHead, hasKey, isS
 use Rattle.session.specs.Counting.{freshCounters, most, raise, raised, expiredMark}
 use Rattle.assembler.specs.Call.{Call}
 use Rattle.assembler.specs.Slots.{freshSlot, freshSlots, impossible, chosen, live, openedSlot, resetSlot, copiedSlot}
-use Rattle.assembler.specs.Step.{opensAt, firstShort, firstSized, copyAt, turnAt, continuesAt, byIndex, byList, eventOf, slotsAfter, markOf, padded, message, saidOf, outcome, stepIf, step}
-use Rattle.assembler.specs.Runs.{freshWorld, afterOutcome, callOne, callAll}
-use Rattle.assembler.specs.Making.{freshPool, madeIf, newPool}
+use Rattle.assembler.specs.Step.{opensAt, continuesAt, eventOf, slotsAfter, markOf, padded, message, saidOf, outcome, stepIf, step}
+use Rattle.assembler.specs.Making.{freshPool}
 use Rattle.assembler.specs.View.{slotsFrom, slotsOf, headOf, flat, poolOf, zeros, replyKind, replyPayload, replyLength, shown, receiveOf}
-use Rattle.ledger.specs.Ledger.{Ledger, ledgerOf, sayingDue, tells, tell, written, numbered, blank, tellOne, tellListed, tellIndex, tellSized, tellShort, tellOpen, tellContinue, tellHeld, tellTurn, tellFull, nothingMoved, openingAt, endLate, newMessage, left, full, itsTurn, grown, takenBy, keyHeld, late, free, sourceAt, freeOfSource, liveHeld, latest, latestOf, ownBytes, framesBytes, announced, briefly, wholly, delivery, sayingFor}
-use Rattle.ledger.specs.Ledger.{tally, entryWeight, posted, posts, post, weighs, onlyIf, columnNumber, one, is, asNumber, held, heldAt, Opened, Delivered, Broken, Restarted, Reclaimed, NoSlot, Stray, BadSize, Unlisted, AtOnce}
+use Rattle.ledger.specs.Ledger.{Ledger, ledgerOf, tells, tell, written, numbered, blank, tellOne, nothingMoved, opensIn, continuesIn, given, heldIn, openingAt, newMessage, left, full, itsTurn, grown, takenBy, keyHeld, late, free, sourceAt, freeOfSource, liveHeld, latestOf, ownBytes, framesBytes, announced, briefly, delivery, saying, sayingDue}
+use Rattle.ledger.specs.Ledger.{deedNumber, isOneOf, opens, begins, copies, ends, asNumber, howMany, did, openings, isSome, held, Delivered, Broken, Restarting, Reclaiming, NoSlot, Stray, BadSize, Unlisted, AtOnce}
 use Rattle.ledger.specs.Demand3.{Seen, inProgress}
-use Rattle.ledger.specs.Runs.{newState, sayingOf, receives, seenIn, received, replySays, seenOf, stepped}
+use Rattle.ledger.specs.Runs.{start, sourceOf, sourcesOf, sayingOf, receives, seenIn, seenAfter}
 use Rattle.ledger.specs.Runs as run
 
 -- to unfold `ran` is to unfold all that its line names
 unfoldable pub ran : ℕ → List Call → Seen
-unfolding base silence keysEqual listedIn sequenceOf indexOf sizeOf firstBytes nextBytes badSize keyOf nextPlace here orElse firstAt any total freshHead headKey impossibleHead hasKey isSilent isFree isFreeOfSource hasLiveKey isExpired inTurn openedHead resetHead wanted copiedHead allThere freshCounters most raise raised expiredMark freshSlot freshSlots impossible chosen live openedSlot resetSlot copiedSlot opensAt firstShort firstSized copyAt turnAt continuesAt byIndex byList eventOf slotsAfter markOf padded message saidOf outcome stepIf step freshWorld afterOutcome callOne callAll slotsFrom slotsOf headOf flat poolOf zeros replyKind replyPayload replyLength shown receiveOf freshPool madeIf newPool newState sayingOf run.afterCall receives seenIn received replySays seenOf stepped inProgress asNumber
-ran n cs = received (receiveOf base) n cs
+unfolding base silence keysEqual listedIn sequenceOf indexOf sizeOf firstBytes nextBytes badSize keyOf nextPlace here orElse firstAt any total pick freshHead headKey impossibleHead hasKey isSilent isFree isFreeOfSource hasLiveKey isExpired inTurn openedHead resetHead wanted copiedHead allThere freshCounters most raise raised expiredMark freshSlot freshSlots impossible chosen live openedSlot resetSlot copiedSlot opensAt continuesAt eventOf slotsAfter markOf padded message saidOf outcome stepIf step slotsFrom slotsOf headOf flat poolOf zeros replyKind replyPayload replyLength shown receiveOf freshPool start sayingOf run.afterCall receives seenIn seenAfter inProgress howMany asNumber
+ran n cs = seenAfter (receiveOf base) (freshPool n) cs
 
 -- to unfold `told` is to unfold all that tells a ledger
 unfoldable pub told : ℕ → List Call → Ledger
-unfolding ran ledgerOf tells tell written numbered blank tellOne tellListed tellIndex tellSized tellShort tellOpen tellContinue tellHeld tellTurn tellFull nothingMoved openingAt endLate newMessage left full itsTurn grown takenBy keyHeld late free sourceAt freeOfSource liveHeld latest latestOf ownBytes framesBytes announced briefly wholly delivery sayingFor sayingDue tally entryWeight posted posts post weighs onlyIf columnNumber one is held heldAt
-told n cs = ledgerOf base n cs
+unfolding ran sourceOf sourcesOf ledgerOf tells tell written numbered blank tellOne nothingMoved opensIn continuesIn given heldIn openingAt newMessage left full itsTurn grown takenBy keyHeld late free sourceAt freeOfSource liveHeld latestOf ownBytes framesBytes announced briefly delivery saying sayingDue deedNumber isOneOf opens begins copies ends did openings isSome held
+told n cs = ledgerOf base (sourcesOf (freshPool n)) cs
 
 -- ---- frames of PGN 127489, sequence 0
 
@@ -44,7 +44,7 @@ announces n now from = frame now from (0 ∷ n ∷ 1 ∷ 2 ∷ 3 ∷ 4 ∷ 5 ∷
 unfoldable pub goes-on : ℕ → ℕ → ℕ → Call
 goes-on k now from = frame now from (k ∷ 7 ∷ 8 ∷ 9 ∷ 10 ∷ 11 ∷ 12 ∷ 13 ∷ [])
 
--- ---- one slot, eleven calls, and all that can happen
+-- ---- one slot, twelve calls, and all that can happen
 
 unfoldable pub every : List Call
 every =
@@ -61,17 +61,17 @@ every =
     ∷ record { pgns = []; heard = announces 7 510 36 .heard } ∷ []
 
 pub record Every : Type 0 where
-  pub opened : tally Opened one (told 1 every) ≡ 5
-  pub delivered : tally Delivered one (told 1 every) ≡ 1
-  pub broken : tally Broken one (told 1 every) ≡ 1
-  pub restarted : tally Restarted one (told 1 every) ≡ 1
-  pub reclaimed : tally Reclaimed one (told 1 every) ≡ 1
-  pub still-held : held one (told 1 every) ≡ 1
-  pub strays : tally Stray one (told 1 every) ≡ 1
-  pub refused : tally NoSlot one (told 1 every) ≡ 1
-  pub bad : tally BadSize one (told 1 every) ≡ 1
-  pub unlisted : tally Unlisted one (told 1 every) ≡ 1
-  pub at-once : tally AtOnce one (told 1 every) ≡ 1
+  pub opened : openings (told 1 every) ≡ 5
+  pub delivered : did Delivered (told 1 every) ≡ 1
+  pub broken : did Broken (told 1 every) ≡ 1
+  pub restarted : did Restarting (told 1 every) ≡ 1
+  pub reclaimed : did Reclaiming (told 1 every) ≡ 1
+  pub still-held : held (told 1 every) ≡ 1
+  pub strays : did Stray (told 1 every) ≡ 1
+  pub refused : did NoSlot (told 1 every) ≡ 1
+  pub bad : did BadSize (told 1 every) ≡ 1
+  pub unlisted : did Unlisted (told 1 every) ≡ 1
+  pub at-once : did AtOnce (told 1 every) ≡ 1
   pub in-progress : inProgress (ran 1 every .heads) ≡ 1
   pub lost : ran 1 every .counters .«lost_fragments» ≡ 2
   pub expired : ran 1 every .counters .«expired_sessions» ≡ 1

@@ -1,13 +1,16 @@
-pub mod Batches
 pub mod Moves
 pub mod Shows
 pub mod Match
 pub mod Run
 pub mod Admission
+pub mod Start
 pub mod Received
+pub mod Rows
 pub mod Demand3
 pub mod Moments
 pub mod EveryFate
 pub mod Trials
 pub mod Parts
 pub mod Wrong
+pub mod TooLittle
+pub mod Keys

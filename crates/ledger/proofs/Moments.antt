@@ -1,25 +1,44 @@
--- Every prefix of a run is a run, and neither the ledger nor the answers take back what they said: so demand 3 holds at every moment of a run.
--- And of each message by its number: it has exactly one fate at each moment, once it is opened.
+-- Every beginning of a run is a run, and neither the ledger nor the answers take back what they said: so demand 3 holds at every moment of a run.
+-- And what follows of it: no call is refused by 1; and what a batch after any run leaves and says.
 -- Assumes nothing.
-use mathlib.Core.List.{List, [], _∷_, _++_}
-use mathlib.Core.Path.{_≡_, refl, sym, ap, _∙_}
-use Prim.Native.Nat.{ℕ, suc, _+_, _≤_}
+use mathlib.Core.Bool.{Bool, true, false}
+use mathlib.Core.List.{List, [], _∷_, _++_, map, append-assoc, append-nil}
+use mathlib.Core.Path.{_≡_, refl, sym, ap, subst, _∙_}
+use Prim.Native.Nat.{ℕ, suc, _+_, _≤_, _<_}
 use native.Mathlib.Omega.{arith}
-use lib.ListN.{length, drop, length-append}
+use lib.ListN.{length, getD, drop, length-append}
 use lib.Seq.{drop-drop}
-use Rattle.session.specs.Rules.{Rules, poolLimit, base}
+use Rattle.base.specs.Pick.{pick}
+use Rattle.base.specs.Lists.{any}
+use Rattle.session.specs.declared.Kind.{Kind}
+use Rattle.session.specs.declared.Kind.the-variants as kind
+use Rattle.session.specs.Rules.{Rules, base}
+use Rattle.assembler.specs.declared.Pool.{Pool}
 use Rattle.assembler.specs.Call.{Call}
 use Rattle.assembler.specs.View.{receiveOf}
-use Rattle.ledger.specs.Ledger.{Ledger, tellOne, tell, tells, written, blank, ledgerOf, tally, held, is, Opened, Delivered, Broken, Restarted, Reclaimed}
-use Rattle.ledger.specs.Demand3.{Seen, Demand3, AllOk, none, more, Agreed, Admitted}
-use Rattle.ledger.specs.Runs.{Receive, State, newState, afterCall, receives, seenIn, received}
-use Rattle.ledger.proofs.Demand3.{demand-3}
+use Rattle.batch.specs.declared.Batch.{Batch}
+use Rattle.batch.specs.Rows.{Batches}
+use Rattle.ledger.specs.Ledger.{Message, Entry, Ledger, tellOne, tell, tells, written, blank, ledgerOf, briefly, delivery, saying, sayingDue, Saying}
+use Rattle.ledger.specs.Ledger as book
+use Rattle.ledger.specs.Demand3.{Seen, Agreed, Closes}
+use Rattle.ledger.specs.Runs.{Empty, State, start, sourcesOf, seenIn, afterCall, afterBatch, callsOf, Called, batched, Ran, stop, on, Receive, receives}
+use Rattle.ledger.proofs.Demand3.{demand-3, ran-taken}
+use mathlib.Core.Option.{Option, none, some}
 
--- ---- prefixes
+-- ---- runs after runs
 
-pub ok-before : (R : Rules) (cs ds : List Call) → AllOk R (cs ++ ds) → AllOk R cs
-ok-before R [] ds oks = none
-ok-before R (c ∷ cs) ds (more ok oks) = more ok (ok-before R cs ds oks)
+pub ran-append : {z x y : State} {cs ds : List Call} → Ran z cs x → Ran x ds y → Ran z (cs ++ ds) y
+ran-append stop r = r
+ran-append {y = y} {ds = ds} (on {z} {cs = early} {ds = later} c q) r = subst (λ (l : List Call). Ran z l y) (sym (append-assoc early later ds)) (on c (ran-append q r))
+
+ran-one : {z x : State} {cs : List Call} → Called z cs x → Ran z cs x
+ran-one {z} {x} {cs} c = subst (λ (l : List Call). Ran z l x) (append-nil cs) (on c stop)
+
+-- demand 3 at the end of the first calls of any run
+pub at-every-moment : (p : Pool) → Empty p → {cs ds : List Call} {x y : State} → Ran (start p) cs x → Ran x ds y → length (cs ++ ds) ≤ 4294967295 → Closes base (seenIn x) (ledgerOf base (sourcesOf p) cs)
+at-every-moment p e {cs} {ds} r s l = demand-3 p e r (omega (arith, length-append cs ds))
+
+-- ---- nothing is taken back
 
 drop-one : {A : Type 0} (k : ℕ) (l l′ : List A) (a : A) → drop k l ≡ a ∷ l′ → drop (suc k) l ≡ l′
 drop-one k l l′ a e =
@@ -37,44 +56,61 @@ module _ (R : Rules) where
   entries-kept L (d ∷ ds) = drop-one (length ds) (tells (tellOne R) (tell (tellOne R) L d) ds .entries) (L .entries) _ (entries-kept (tell (tellOne R) L d) ds)
 
   -- the ledger of a longer run has the shorter run's entries, and newer ones
-  pub ledger-kept : (n : ℕ) (cs ds : List Call) → drop (length ds) (ledgerOf R n (cs ++ ds) .entries) ≡ ledgerOf R n cs .entries
+  pub ledger-kept : (kept : List ℕ) (cs ds : List Call) → drop (length ds) (ledgerOf R kept (cs ++ ds) .entries) ≡ ledgerOf R kept cs .entries
   unfolding ledgerOf
-  ledger-kept n cs ds = rw (tells-append (blank n) cs ds) (entries-kept (tells (tellOne R) (blank n) cs) ds)
+  ledger-kept kept cs ds = rw (tells-append (blank kept) cs ds) (entries-kept (tells (tellOne R) (blank kept) cs) ds)
 
-module _ (f : Receive) where
-  receives-append : (z : State) (cs ds : List Call) → receives f z (cs ++ ds) ≡ receives f (receives f z cs) ds
-  unfolding receives
-  receives-append z [] ds = refl
-  receives-append z (c ∷ cs) ds = receives-append (afterCall z (f (c .pgns) (c .heard) (z .pool) (z .counters))) cs ds
+said-kept : (f : Receive) (z : State) (ds : List Call) → drop (length ds) (receives f z ds .said) ≡ z .said
+unfolding receives afterCall
+said-kept f z [] = refl
+said-kept f z (d ∷ ds) =
+    let z′ : State = afterCall z (f (d .pgns) (d .heard) (z .pool) (z .counters)) in drop-one (length ds) (receives f z′ ds .said) (z .said) _ (said-kept f z′ ds)
 
-  said-kept : (z : State) (ds : List Call) → drop (length ds) (receives f z ds .said) ≡ z .said
-  unfolding receives afterCall
-  said-kept z [] = refl
-  said-kept z (d ∷ ds) =
-      let z′ : State = afterCall z (f (d .pgns) (d .heard) (z .pool) (z .counters)) in drop-one (length ds) (receives f z′ ds .said) (z .said) _ (said-kept z′ ds)
+-- and so have its answers
+pub answers-kept : {z y : State} {ds : List Call} → Ran z ds y → drop (length ds) (y .said) ≡ z .said
+answers-kept {z} {ds = ds} r = rw (ran-taken r .is) (said-kept (receiveOf base) z ds)
 
-  -- and so have its answers
-  pub answers-kept : (n : ℕ) (cs ds : List Call) → drop (length ds) (received f n (cs ++ ds) .said) ≡ received f n cs .said
-  unfolding received seenIn
-  answers-kept n cs ds = rw (receives-append (newState n) cs ds) (said-kept (receives f (newState n) cs) ds)
+-- ---- what follows
 
--- demand 3 after the first calls of any run
-pub at-every-moment : (n : ℕ) → n ≤ poolLimit → (cs ds : List Call) → AllOk base (cs ++ ds) → length (cs ++ ds) ≤ 4294967295
-    → Agreed (received (receiveOf base) n cs) (ledgerOf base n cs) × ((c : Call) → Admitted base (received (receiveOf base) n cs) (ledgerOf base n cs) c)
-at-every-moment n h cs ds oks l = unfold Demand3 in demand-3 n h cs (ok-before base cs ds oks) (omega (arith, length-append cs ds))
+-- no answer that the ledger calls for is a refusal
+unfoldable pub saysRefused : Saying → Bool
+saysRefused a = refusal (a .kind)
+  where
+    refusal : Kind → Bool
+    refusal (kind.Refused n) = true
+    refusal kind.Ignored = false
+    refusal kind.FragmentConsumed = false
+    refusal kind.MessageComplete = false
 
--- ---- fates
+briefly-says : (b : Bool) → saysRefused (pick b (briefly kind.FragmentConsumed) (briefly kind.Ignored)) ≡ false
+unfolding saysRefused pick briefly
+briefly-says true = refl
+briefly-says false = refl
 
--- how many fates message k has
-unfoldable pub fatesOf : ℕ → Ledger → ℕ
-fatesOf k L = tally Delivered (is k) L + tally Broken (is k) L + tally Restarted (is k) L + tally Reclaimed (is k) L + held (is k) L
+delivery-says : (m : Option Message) → saysRefused (delivery m) ≡ false
+unfolding saysRefused delivery briefly
+delivery-says none = refl
+delivery-says (some m) = refl
 
-module _ {s : Seen} {L : Ledger} (a : Agreed s L) (k : ℕ) where
-  -- opened, one; never opened, none
-  pub one-fate : tally Opened (is k) L ≡ 1 → fatesOf k L ≡ 1
-  unfolding fatesOf
-  one-fate e = a .fates (is k) ∙ e
+saying-says : (b c : Bool) (m : Option Message) → saysRefused (pick b (delivery m) (pick c (briefly kind.FragmentConsumed) (briefly kind.Ignored))) ≡ false
+unfolding pick
+saying-says true c m = delivery-says m
+saying-says false c m = briefly-says c
 
-  pub no-fate : tally Opened (is k) L ≡ 0 → fatesOf k L ≡ 0
-  unfolding fatesOf
-  no-fate e = a .fates (is k) ∙ e
+none-refused : (es : List Entry) → any saysRefused (map sayingDue es) ≡ false
+unfolding any sayingDue saying
+none-refused [] = refl
+none-refused (e ∷ es) = rw (saying-says (book.isOneOf (book.AtOnce ∷ book.Delivered ∷ []) (e .deed)) _ (e .message), none-refused es)
+
+pub never-refused : {s : Seen} {L : Ledger} → Agreed s L → any saysRefused (s .said) ≡ false
+never-refused {L = L} a = rw (a .answers) (none-refused (L .entries))
+
+-- a batch after any run: it leaves the pool and counters that its frames call for; and what its rows of kinds and lengths and its arena say, with what was said
+-- before, is what the ledger with those frames calls for
+pub demand-3-batch : (p : Pool) → Empty p → {cs : List Call} {y : State} → Ran (start p) cs y
+    → {list times pgns sources bytes kinds lengths arena : List ℕ} {r : Batch} {kinds′ lengths′ arena′ : List ℕ} → ((i : ℕ) → getD bytes i 0 < 256)
+    → Batches list times pgns sources bytes (y .pool) (y .counters) kinds lengths arena r kinds′ lengths′ arena′
+    → length (cs ++ callsOf list (record { times = times; pgns = pgns; sources = sources; bytes = bytes }) (r .taken) 0) ≤ 4294967295
+    → Closes base (seenIn (afterBatch y r kinds′ lengths′ arena′)) (ledgerOf base (sourcesOf p) (cs ++ callsOf list (record { times = times; pgns = pgns; sources = sources; bytes = bytes }) (r .taken) 0))
+demand-3-batch p e {y = y} run small h l =
+    demand-3 p e (ran-append run (ran-one (batched small h))) l

@@ -21,8 +21,10 @@ use Rattle.assembler.specs.View.{slotsOf, shown, receiveOf}
 use Rattle.ledger.specs.Runs.{Receive}
 
 pub record Parts : Type 0 where
-  -- the slot after a first frame opened it; the slots after a message was delivered at once; the slot after a frame out of turn, and after its message was delivered
+  -- the slot after a first frame opened it, and after a continuation was copied; the slots after a message was delivered at once; the slot after a frame out
+  -- of turn, and after its message was delivered
   pub opening : Heard → Slot → Slot
+  pub copying : Heard → Slot → Slot
   pub atOnce : List Slot → List Slot
   pub breaking : Slot → Slot
   pub ending : Slot → Slot
@@ -38,7 +40,7 @@ unfoldable pub untouched : List Slot → List Slot
 untouched ss = ss
 
 unfoldable pub right : Parts
-right = record { opening = openedSlot; atOnce = untouched; breaking = resetSlot; ending = resetSlot; straying = Lost; delivering = wholeOf }
+right = record { opening = openedSlot; copying = copiedSlot; atOnce = untouched; breaking = resetSlot; ending = resetSlot; straying = Lost; delivering = wholeOf }
 
 unfoldable pub slotsBy : Parts → Heard → List Slot → Event → List Slot
 slotsBy q f ss notListed = ss
@@ -48,8 +50,8 @@ slotsBy q f ss poolFull = ss
 slotsBy q f ss (opened i late) = set ss i (q .opening f (slotAt ss i))
 slotsBy q f ss stray = ss
 slotsBy q f ss (outOfTurn i) = set ss i (q .breaking (slotAt ss i))
-slotsBy q f ss (copied i) = set ss i (copiedSlot f (slotAt ss i))
-slotsBy q f ss (completed i) = set ss i (q .ending (copiedSlot f (slotAt ss i)))
+slotsBy q f ss (copied i) = set ss i (q .copying f (slotAt ss i))
+slotsBy q f ss (completed i) = set ss i (q .ending (q .copying f (slotAt ss i)))
 
 unfoldable pub markBy : Parts → Event → Mark
 markBy q notListed = Unknown

@@ -1,29 +1,29 @@
--- A run of the public call is a run of the steps: its pool shows the same slots, its counters are the same, and it says the same.
+-- A run of the receive call is a run of the steps: its pool shows the same slots, its counters are the same, and it says the same.
 -- Assumes nothing.
 use mathlib.Core.List.{List, [], _∷_, map}
 use mathlib.Core.Path.{_≡_, refl, ap, subst}
 use Prim.Native.Nat.{ℕ, zero, suc, _+_, _≤_}
 use native.Mathlib.Omega.{arith}
-use lib.ListN.{length, take, drop, replicate, take-append-drop, length-replicate}
-use borrow.Author.Tests.{le-ltb}
+use lib.ListN.{length, take, drop, take-append-drop}
 use Rattle.base.proofs.Paired.{All2, nil, cons}
 use Rattle.fast_packet.specs.FastPacket.{maxPayload}
 use Rattle.session.specs.declared.Head.{Head}
-use Rattle.session.specs.Rules.{Rules, poolLimit}
+use Rattle.session.specs.Rules.{Rules}
 use Rattle.session.specs.Counting.{most}
+use Rattle.assembler.specs.declared.Pool.{Pool}
 use Rattle.assembler.specs.Call.{Call}
-use Rattle.assembler.specs.Slots.{Slot, Slots, freshSlot}
+use Rattle.assembler.specs.Slots.{Slot, Slots}
 use Rattle.assembler.specs.Step.{step}
 use Rattle.assembler.specs.Runs.{World, afterOutcome, callOne, callAll}
-use Rattle.assembler.specs.Making.{freshPool, madeIf, newPool}
 use Rattle.assembler.specs.View.{slotsFrom, slotsOf, headOf, shown, receiveOf}
 use Rattle.assembler.proofs.Views.{Sized, none, more, sized-append, view-forth}
+use Rattle.assembler.proofs.Keeps.{sized-drop}
 use Rattle.ledger.specs.Ledger.{Ledger, Place, tellOne, tell, numbered, blank}
 use Rattle.ledger.specs.Demand3 as demand
 use Rattle.ledger.specs.Demand3.{AllOk}
-use Rattle.ledger.specs.Runs.{State, newState, sayingOf, afterCall, receives, seenIn, replySays, seenOf}
+use Rattle.ledger.specs.Runs.{State, start, sourcesOf, sayingOf, afterCall, receives, seenIn, replySays, seenOf}
 use Rattle.ledger.proofs.Shows.{Shows, room-of}
-use Rattle.ledger.proofs.Run.{Follows, begun, follows-begun, follows-call, step-rest, numbered-tell}
+use Rattle.ledger.proofs.Run.{Follows, begun, follows-call, step-rest, numbered-tell}
 
 -- ---- slots of 223 bytes each
 
@@ -37,19 +37,6 @@ rest q = drop (q .size) (q .slots)
 
 sized : (R : Rules) (w : World) (L : Ledger) → Follows R w L → Sized (rest (w .pool)) → Sized (w .pool .slots)
 sized R w L f h = subst Sized (take-append-drop (w .pool .size) (w .pool .slots)) (sized-append (all2-sized R (f .shows)) h)
-
-fresh-long : length (freshSlot .buffer) ≡ maxPayload
-unfolding freshSlot
-fresh-long = length-replicate {A = ℕ} maxPayload 0
-
-sized-replicate : (n : ℕ) → Sized (replicate n freshSlot)
-sized-replicate zero = none
-sized-replicate (suc n) = more fresh-long (sized-replicate n)
-
-sized-drop : (n : ℕ) {ss : List Slot} → Sized ss → Sized (drop n ss)
-sized-drop zero h = h
-sized-drop (suc n) none = none
-sized-drop (suc n) (more e h) = sized-drop n h
 
 -- ---- a state of the public call and a state of the steps
 
@@ -75,7 +62,7 @@ module _ (R : Rules) where
   next-same z w c s h =
       rw (s .pool, s .counters) (record { pool = view-forth (step R (w .pool) (w .counters) c .pool) h; counters = refl; said = ap (_∷_ (replySays (step R (w .pool) (w .counters) c .reply))) (s .said) })
 
-  runs-same : (z : State) (w : World) (L : Ledger) {cs : List Call} → AllOk R cs → Follows R w L → Sized (rest (w .pool)) → Same z w → numbered L + length cs ≤ most → Same (receives (receiveOf R) z cs) (callAll (step R) w cs)
+  runs-same : (z : State) (w : World) (L : Ledger) {cs : List Call} → AllOk cs → Follows R w L → Sized (rest (w .pool)) → Same z w → numbered L + length cs ≤ most → Same (receives (receiveOf R) z cs) (callAll (step R) w cs)
   unfolding receives callAll
   runs-same z w L demand.none f h s l = s
   runs-same z w L (demand.more {c} {cs} ok oks) f h s l =
@@ -84,14 +71,8 @@ module _ (R : Rules) where
       let h′ : Sized (rest (w′ .pool)) = rw (step-rest R w L c ok f) h in
       runs-same (afterCall z (receiveOf R (c .pgns) (c .heard) (z .pool) (z .counters))) w′ (tell (tellOne R) L c) oks f′ h′ (next-same z w c s (sized R w′ (tell (tellOne R) L c) f′ h′)) (omega (arith, numbered-tell R L c))
 
-made-fresh : (n : ℕ) → n ≤ poolLimit → newPool n .pool ≡ freshPool n
-unfolding newPool madeIf
-made-fresh n h = rw (le-ltb poolLimit n h)
-
-start-same : (n : ℕ) → n ≤ poolLimit → Same (newState n) (begun poolLimit n)
-unfolding newState begun
-start-same n h = rw (made-fresh n h) (record { pool = unfold freshPool slotsOf slotsFrom freshSlot in refl; counters = refl; said = refl })
-
-pub run-same : (R : Rules) (n : ℕ) → n ≤ R .limit → n ≤ poolLimit → {cs : List Call} → AllOk R cs → length cs ≤ most → Same (receives (receiveOf R) (newState n) cs) (callAll (step R) (begun poolLimit n) cs)
-run-same R n h g oks l =
-    runs-same R (newState n) (begun poolLimit n) (blank n) oks (follows-begun R poolLimit n h g) (unfold begun in sized-drop n (sized-replicate poolLimit)) (start-same n g) (unfold numbered blank in omega arith)
+pub run-same : (R : Rules) (p : Pool) → Sized (slotsOf p .slots) → Follows R (begun (slotsOf p)) (blank (sourcesOf p)) → {cs : List Call} → AllOk cs → length cs ≤ most
+    → Same (receives (receiveOf R) (start p) cs) (callAll (step R) (begun (slotsOf p)) cs)
+unfolding start begun slotsOf
+run-same R p s f oks l =
+    runs-same R (start p) (begun (slotsOf p)) (blank (sourcesOf p)) oks f (sized-drop s (p .size)) (record { pool = refl; counters = refl; said = refl }) (unfold numbered blank in omega arith)

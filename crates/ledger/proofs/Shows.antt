@@ -15,7 +15,7 @@ use Rattle.session.specs.Frames.{sequenceOf, indexOf, sizeOf, firstBytes, nextB
 use Rattle.session.specs.Heads.{headKey, impossibleHead, hasKey, isSilent, isFree, isFreeOfSource, hasLiveKey, inTurn, openedHead, resetHead, wanted, copiedHead, allThere}
 use Rattle.assembler.specs.Call.{Call, CallOk}
 use Rattle.assembler.specs.Slots.{Slot, openedSlot, resetSlot, copiedSlot}
-use Rattle.ledger.specs.Ledger.{Message, newMessage, grown, latestOf, latest, framesBytes, ownBytes, announced, Place, idle, holds, keyHeld, late, free, sourceAt, freeOfSource, liveHeld, left, full, itsTurn}
+use Rattle.ledger.specs.Ledger.{Message, newMessage, grown, latestOf, framesBytes, ownBytes, announced, Place, idle, holds, keyHeld, late, free, sourceAt, freeOfSource, liveHeld, left, full, itsTurn}
 
 module _ (R : Rules) where
   -- ---- a place and its slot
@@ -32,7 +32,7 @@ module _ (R : Rules) where
     pub expected : s .head .«expected_size» ≡ announced m
     pub index : s .head .«last_frame_index» ≡ length (m .later)
     pub current : s .head .«current_size» ≡ 6 + 7 * length (m .later)
-    pub time : s .head .«last_seen_ms» ≡ latest m .heard .«now_ms»
+    pub time : s .head .«last_seen_ms» ≡ latestOf (m .first) (m .later) .heard .«now_ms»
     pub room : length (s .buffer) ≡ maxPayload
     -- the buffer starts with the message's own bytes
     pub bytes : take (s .head .«current_size») (s .buffer) ≡ ownBytes m
@@ -84,7 +84,7 @@ module _ (R : Rules) where
 
   -- ---- a slot that shows a place is possible
 
-  pub possible : (p : Place) (s : Slot) → Shows p s → impossibleHead R (s .head) ≡ false
+  pub possible : (p : Place) (s : Slot) → Shows p s → impossibleHead (s .head) ≡ false
   unfolding impossibleHead
   possible (idle from) s h = rw (h .busy)
   possible (holds m) s h =
@@ -104,16 +104,16 @@ module _ (R : Rules) where
   unfolding left resetSlot resetHead
   reset-shows m s e r = record { busy = refl; source = e; room = r }
 
-  first-length : (c : Call) → CallOk R c → length (firstBytes (c .heard)) ≡ 6
+  first-length : (c : Call) → CallOk c → length (firstBytes (c .heard)) ≡ 6
   unfolding firstBytes
   first-length c ok = simp length-drop (rw (ok .eight))
 
-  next-length : (c : Call) → CallOk R c → length (nextBytes (c .heard)) ≡ 7
+  next-length : (c : Call) → CallOk c → length (nextBytes (c .heard)) ≡ 7
   unfolding nextBytes
   next-length c ok = simp length-drop (rw (ok .eight))
 
-  pub opened-shows : (n : ℕ) (c : Call) (s : Slot) → CallOk R c → 7 ≤ sizeOf (c .heard) → sizeOf (c .heard) ≤ maxPayload → length (s .buffer) ≡ maxPayload → Shows (holds (newMessage n c)) (openedSlot (c .heard) s)
-  unfolding newMessage openedSlot openedHead headKey keyOf announced latest latestOf ownBytes framesBytes sequenceOf
+  pub opened-shows : (n : ℕ) (c : Call) (s : Slot) → CallOk c → 7 ≤ sizeOf (c .heard) → sizeOf (c .heard) ≤ maxPayload → length (s .buffer) ≡ maxPayload → Shows (holds (newMessage n c)) (openedSlot (c .heard) s)
+  unfolding newMessage openedSlot openedHead headKey keyOf announced latestOf ownBytes framesBytes sequenceOf
   opened-shows n c s ok low high r =
       record {
         busy = refl;
@@ -131,7 +131,7 @@ module _ (R : Rules) where
       }
 
   -- a continuation in turn
-  module _ (c : Call) (m : Message) (s : Slot) (ok : CallOk R c) (h : HeldSlot m s) where
+  module _ (c : Call) (m : Message) (s : Slot) (ok : CallOk c) (h : HeldSlot m s) where
     wants : wanted (s .head) ≡ min 7 (announced m - (6 + 7 * length (m .later)))
     unfolding wanted
     wants = rw (h .expected, h .current)
@@ -156,7 +156,7 @@ module _ (R : Rules) where
     full-same false e = lt-leb (s .head .«expected_size») (s .head .«current_size» + wanted (s .head)) (omega (arith, leb-false (sizeOf (m .first .heard)) (6 + 7 * suc (length (m .later))) e, wants, h .expected, h .current))
 
     pub copied-shows : itsTurn c m ≡ true → full (grown m c) ≡ false → Shows (holds (grown m c)) (copiedSlot (c .heard) s)
-    unfolding full grown copiedSlot copiedHead announced itsTurn latest latestOf ownBytes framesBytes headKey
+    unfolding full grown copiedSlot copiedHead announced itsTurn latestOf ownBytes framesBytes headKey
     copied-shows turn e =
         let seven : wanted (s .head) ≡ 7 = omega (arith, leb-false (sizeOf (m .first .heard)) (6 + 7 * suc (length (m .later))) e, wants) in
         record {
@@ -194,15 +194,15 @@ module _ (R : Rules) where
 
   -- ---- what is said
 
-  pub short-cut : (c : Call) → CallOk R c → take 6 (firstBytes (c .heard)) ≡ firstBytes (c .heard)
+  pub short-cut : (c : Call) → CallOk c → take 6 (firstBytes (c .heard)) ≡ firstBytes (c .heard)
   short-cut c ok = take-all 6 (firstBytes (c .heard)) (omega (arith, first-length c ok))
 
   -- the length of a message is the announced size: of one delivered at once ...
-  pub short-due : (c : Call) → CallOk R c → sizeOf (c .heard) ≤ 6 → length (take (sizeOf (c .heard)) (firstBytes (c .heard))) ≡ sizeOf (c .heard)
+  pub short-due : (c : Call) → CallOk c → sizeOf (c .heard) ≤ 6 → length (take (sizeOf (c .heard)) (firstBytes (c .heard))) ≡ sizeOf (c .heard)
   short-due c ok h = length-take-le (sizeOf (c .heard)) (firstBytes (c .heard)) (omega (arith, first-length c ok))
 
   -- ... and of one delivered from its slot
-  pub whole-due : (c : Call) (m : Message) (s : Slot) → CallOk R c → HeldSlot m s → length (take (s .head .«expected_size») (copiedSlot (c .heard) s .buffer)) ≡ announced (grown m c)
+  pub whole-due : (c : Call) (m : Message) (s : Slot) → CallOk c → HeldSlot m s → length (take (s .head .«expected_size») (copiedSlot (c .heard) s .buffer)) ≡ announced (grown m c)
   unfolding announced grown
   whole-due c m s ok h =
       length-take-le (s .head .«expected_size») (copiedSlot (c .heard) s .buffer) (omega (arith, copied-room c m s ok h, h .expected, h .high)) ∙ h .expected

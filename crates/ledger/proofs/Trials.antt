@@ -5,17 +5,16 @@ use mathlib.Core.Path.{refl}
 use Prim.Native.Nat.{ℕ, _<_}
 use lib.ListN.{getD}
 use lib.Dec.{lit<}
-use Rattle.session.specs.Rules.{base}
 use Rattle.assembler.specs.Call.{Call, CallOk}
 use Rattle.ledger.specs.Ledger.{Saying}
 use Rattle.ledger.specs.Demand3.{AllOk, none, more}
 use Rattle.ledger.proofs.EveryFate.{frame, announces, goes-on}
 
-announces-ok : (n now from : ℕ) → CallOk base (announces n now from)
+announces-ok : (n now from : ℕ) → CallOk (announces n now from)
 unfolding announces frame
 announces-ok n now from = record { eight = refl; byte = lit< tt }
 
-goes-on-ok : (k now from : ℕ) → k < 256 → CallOk base (goes-on k now from)
+goes-on-ok : (k now from : ℕ) → k < 256 → CallOk (goes-on k now from)
 unfolding goes-on frame
 goes-on-ok k now from h = record { eight = refl; byte = h }
 
@@ -23,7 +22,7 @@ goes-on-ok k now from h = record { eight = refl; byte = h }
 unfoldable pub pair : ℕ → ℕ → List Call
 pair k now = announces 7 0 35 ∷ goes-on k now 35 ∷ []
 
-pub pair-ok : (k now : ℕ) → k < 256 → AllOk base (pair k now)
+pub pair-ok : (k now : ℕ) → k < 256 → AllOk (pair k now)
 unfolding pair
 pair-ok k now h = more (announces-ok 7 0 35) (more (goes-on-ok k now 35 h) none)
 
@@ -31,7 +30,7 @@ pair-ok k now h = more (announces-ok 7 0 35) (more (goes-on-ok k now 35 h) none)
 unfoldable pub twice : List Call
 twice = announces 7 0 35 ∷ goes-on 1 1 35 ∷ announces 7 2 35 ∷ goes-on 1 3 35 ∷ []
 
-pub twice-ok : AllOk base twice
+pub twice-ok : AllOk twice
 unfolding twice
 twice-ok = more (announces-ok 7 0 35) (more (goes-on-ok 1 1 35 (lit< tt)) (more (announces-ok 7 2 35) (more (goes-on-ok 1 3 35 (lit< tt)) none)))
 
@@ -39,7 +38,7 @@ twice-ok = more (announces-ok 7 0 35) (more (goes-on-ok 1 1 35 (lit< tt)) (more 
 unfoldable pub firsts : ℕ → List Call
 firsts n = announces 7 0 35 ∷ announces n 1 35 ∷ []
 
-pub firsts-ok : (n : ℕ) → AllOk base (firsts n)
+pub firsts-ok : (n : ℕ) → AllOk (firsts n)
 unfolding firsts
 firsts-ok n = more (announces-ok 7 0 35) (more (announces-ok n 1 35) none)
 

@@ -8,7 +8,6 @@ use Rattle.can_id.specs.Build.{buildOf, newIdBuilder, idWithPriority, idWithDes
 use Rattle.can_id.specs.declared.Destination.the-variants.{Nobody}
 use Rattle.builder.specs.Builder.{newBuilder}
 use Rattle.builder.specs.Next.{nextOf, frameOf, sentStep}
-use Rattle.session.specs.declared.Heard.{Heard}
 use Rattle.session.specs.declared.Counters.{Counters}
 use Rattle.session.specs.declared.Kind.the-variants.{Ignored, FragmentConsumed, MessageComplete}
 use Rattle.session.specs.Rules.{base}
@@ -34,6 +33,14 @@ first = then beforeAny 1000 (0 ∷ 7 ∷ 1 ∷ 2 ∷ 3 ∷ 4 ∷ 5 ∷ 6 ∷ [])
 -- "then 01 and one more"
 abbrev pub more : List ℕ
 more = 1 ∷ 7 ∷ 255 ∷ 255 ∷ 255 ∷ 255 ∷ 255 ∷ 255 ∷ []
+
+-- the first frame of a message of twenty bytes, at 1000: one continuation leaves it in progress
+abbrev pub firstOfTwenty : Received
+firstOfTwenty = then beforeAny 1000 (0 ∷ 20 ∷ 1 ∷ 2 ∷ 3 ∷ 4 ∷ 5 ∷ 6 ∷ [])
+
+-- its continuation at 0
+abbrev pub continuedAtZero : Received
+continuedAtZero = then firstOfTwenty 0 (1 ∷ 7 ∷ 8 ∷ 9 ∷ 10 ∷ 11 ∷ 12 ∷ 13 ∷ [])
 
 -- these counters, and rejected_frames or lost_fragments at 1
 abbrev pub rejectedOnce : Counters
@@ -72,5 +79,7 @@ pub record Values : Type 0 where
   pub p11-stray : then first 1501 more ≡ record { kind = Ignored; payload = padded []; length = 0; pool = first .pool; counters = lostOnce }
   pub p11-held : slotAt (slotsOf (then first 1501 more .pool) .slots) 0 .head .«in_progress» ≡ true
   -- "P12: opened at 1000, continued at 0: taken, last time 0"
-  pub p12-taken : then first 0 more .kind ≡ MessageComplete
-  pub p12-time : slotAt (slotsOf (then first 0 more .pool) .slots) 0 .head .«last_seen_ms» ≡ 0
+  pub p12-taken : continuedAtZero .kind ≡ FragmentConsumed
+  pub p12-held : slotAt (slotsOf (continuedAtZero .pool) .slots) 0 .head .«in_progress» ≡ true
+  pub p12-time : slotAt (slotsOf (continuedAtZero .pool) .slots) 0 .head .«last_seen_ms» ≡ 0
+  pub p12-counted : continuedAtZero .counters ≡ freshCounters

@@ -1,0 +1,207 @@
+-- What a batch leaves and says is what the single calls of the frames it took leave and say; and those frames have eight bytes each.
+-- Assumes nothing.
+use mathlib.Core.Bool.{Bool, true, false, _||_, true≢false}
+use mathlib.Core.List.{List, [], _∷_, _++_, append-assoc, append-nil}
+use mathlib.Core.Path.{_≡_, refl, sym, ap, subst, _∙_}
+use Prim.Native.Nat.{ℕ, zero, suc, _+_, _*_, _≤_, _<_}
+use native.Mathlib.Omega.{arith}
+use lib.ListN.{length, getD, take, drop, length-drop}
+use lib.Seq.{take-at, drop-at, length-take-le, getD-take, getD-drop}
+use lib.Dec.{ltb}
+use borrow.Author.Tests.{ltb-false}
+use Rattle.base.specs.Answer.{gives, refuses}
+use Rattle.base.specs.Pick.{pick}
+use Rattle.session.specs.declared.Heard.{Heard}
+use Rattle.session.specs.declared.Counters.{Counters}
+use Rattle.session.specs.Kinds.{kindNumber}
+use Rattle.session.specs.Rules.{Rules, base}
+use Rattle.assembler.specs.declared.Pool.{Pool}
+use Rattle.assembler.specs.declared.Received.{Received}
+use Rattle.assembler.specs.Call.{Call, CallOk}
+use Rattle.assembler.specs.Slots.{Slot, Slots, impossible}
+use Rattle.assembler.specs.Step.{Event, notListed, rejected, shortMessage, poolFull, opened, stray, outOfTurn, copied, completed, ignored, consumed, Reply, padded, message, saidOf, outcome, stepIf, step}
+use Rattle.assembler.specs.View.{slotsOf, zeros, replyKind, replyPayload, replyLength, shown, receiveOf}
+use Rattle.assembler.specs.Promises.{rulesOf}
+use Rattle.batch.specs.declared.Batch.{Batch}
+use Rattle.batch.specs.Lengths.{tooShort}
+use Rattle.batch.specs.Rows as rows
+use Rattle.batch.specs.Rows.{Rows, frameInRows, took, answerIn, runOf, over, leaves, refusedBy, batchOf, BatchLeft, Batches}
+use Rattle.batch.specs.Calls.{callEach, joined}
+use Rattle.batch.proofs.Continues.{as-far}
+use Rattle.batch.proofs.Promised.{batched-by}
+use Rattle.ledger.specs.Demand3.{AllOk, none, more}
+use Rattle.ledger.specs.Runs.{State, sayingOf, afterCall, call, callsOf, kindOfNumber, saidInRows, afterBatch, receives}
+
+-- ---- an answer can be read off a row: its length is within its payload, the rest of which is zeros
+
+record Readable (r : Reply) : Type 0 where
+  kind : kindOfNumber (kindNumber (replyKind r)) ≡ replyKind r
+  long : length (take (replyLength r) (replyPayload r)) ≡ replyLength r
+  filled : padded (take (replyLength r) (replyPayload r)) ≡ replyPayload r
+
+readable-ignored : Readable (gives ignored)
+unfolding kindOfNumber kindNumber replyKind replyPayload replyLength pick padded zeros
+readable-ignored = record { kind = refl; long = refl; filled = refl }
+
+readable-consumed : Readable (gives consumed)
+unfolding kindOfNumber kindNumber replyKind replyPayload replyLength pick padded zeros
+readable-consumed = record { kind = refl; long = refl; filled = refl }
+
+readable-message : (bytes : List ℕ) → Readable (gives (message bytes))
+unfolding kindOfNumber kindNumber replyKind replyPayload replyLength pick message
+readable-message bytes =
+    let back : take (length bytes) (padded bytes) ≡ bytes = unfold padded in take-at bytes _ (length bytes) refl in
+    record { kind = refl; long = ap length back; filled = ap padded back }
+
+readable-refused : Readable (refuses 1 [])
+unfolding kindOfNumber kindNumber replyKind replyPayload replyLength pick padded zeros
+readable-refused = record { kind = refl; long = refl; filled = refl }
+
+readable-said : (f : Heard) (ss : List Slot) (e : Event) → Readable (gives (saidOf f ss e))
+unfolding saidOf
+readable-said f ss notListed = readable-ignored
+readable-said f ss rejected = readable-ignored
+readable-said f ss shortMessage = readable-message _
+readable-said f ss poolFull = readable-ignored
+readable-said f ss (opened i late) = readable-consumed
+readable-said f ss stray = readable-ignored
+readable-said f ss (outOfTurn i) = readable-ignored
+readable-said f ss (copied i) = readable-consumed
+readable-said f ss (completed i) = readable-message _
+
+readable-step : (b : Bool) (R : Rules) (p : Slots) (k : Counters) (c : Call) → Readable (stepIf b R p k c .reply)
+unfolding stepIf outcome
+readable-step true R p k c = readable-refused
+readable-step false R p k c = readable-said _ _ _
+
+readable : (R : Rules) (pgns : List ℕ) (f : Heard) (p : Pool) (k : Counters) → Readable (step R (slotsOf p) k (record { pgns = pgns; heard = f }) .reply)
+unfolding step
+readable R pgns f p k = readable-step (impossible R (slotsOf p)) R (slotsOf p) k (record { pgns = pgns; heard = f })
+
+-- the answer of a call, read off the start of the rows
+record Told (a : Received) (arena : List ℕ) : Type 0 where
+  same : record { kind = kindOfNumber (kindNumber (a .kind)); payload = padded (take (a .length) (take (a .length) (a .payload) ++ arena)); length = a .length } ≡ sayingOf a
+  rest : drop (a .length) (take (a .length) (a .payload) ++ arena) ≡ arena
+
+told : (R : Rules) (pgns : List ℕ) (f : Heard) (p : Pool) (k : Counters) (arena : List ℕ) → Told (receiveOf R pgns f p k) arena
+unfolding receiveOf shown sayingOf
+told R pgns f p k arena =
+    let h = readable R pgns f p k in
+    let r : Reply = step R (slotsOf p) k (record { pgns = pgns; heard = f }) .reply in
+    let bytes : List ℕ = take (replyLength r) (replyPayload r) in
+    record { same = rw (take-at bytes arena (replyLength r) (h .long), h .kind, h .filled); rest = drop-at bytes arena (replyLength r) (h .long) }
+
+-- ---- single calls, and what they say
+
+module _ (R : Rules) (l : List ℕ) (w : Rows) where
+  took-joined : (y x : rows.Run) (a : Received) → took (joined y x) a ≡ joined y (took x a)
+  unfolding took joined
+  took-joined y x a = simp append-assoc
+
+  -- calls after other answers
+  calls-joined : (u i : ℕ) (y x : rows.Run) → callEach R l w u i (joined y x) ≡ joined y (callEach R l w u i x)
+  unfolding callEach
+  calls-joined zero i y x = refl
+  calls-joined (suc u) i y x =
+      let same : answerIn R l (joined y x) (frameInRows w i) ≡ answerIn R l x (frameInRows w i) = unfold answerIn joined in refl in
+      rw (same, took-joined y x (answerIn R l x (frameInRows w i))) (calls-joined u (suc i) y (took x (answerIn R l x (frameInRows w i))))
+
+  -- the first answer alone
+  alone : Received → rows.Run
+  alone a = record { pool = a .pool; counters = a .counters; kinds = kindNumber (a .kind) ∷ []; lengths = a .length ∷ []; messages = take (a .length) (a .payload) }
+
+  first-joined : (n i : ℕ) (p : Pool) (k : Counters) → callEach R l w (suc n) i (rows.emptyRun p k)
+      ≡ joined (alone (receiveOf R l (frameInRows w i) p k)) (callEach R l w n (suc i) (rows.emptyRun (receiveOf R l (frameInRows w i) p k .pool) (receiveOf R l (frameInRows w i) p k .counters)))
+  unfolding callEach
+  first-joined n i p k =
+      let a : Received = receiveOf R l (frameInRows w i) p k in
+      let begun : took (rows.emptyRun p k) (answerIn R l (rows.emptyRun p k) (frameInRows w i)) ≡ joined (alone a) (rows.emptyRun (a .pool) (a .counters)) =
+      unfold took answerIn joined rows.emptyRun alone in simp append-nil in
+      ap (callEach R l w n (suc i)) begun ∙ calls-joined n (suc i) (alone a) (rows.emptyRun (a .pool) (a .counters))
+
+  -- n calls from a state leave the pool and counters that the run has, and say what its rows say
+  pub rows-say : (n i : ℕ) (z : State) (kinds lengths arena : List ℕ) → let y : rows.Run = callEach R l w n i (rows.emptyRun (z .pool) (z .counters)) in
+      record { pool = y .pool; counters = y .counters; said = saidInRows n (y .kinds ++ kinds) (y .lengths ++ lengths) (y .messages ++ arena) (z .said) } ≡ receives (receiveOf R) z (callsOf l w n i)
+  unfolding callsOf receives saidInRows afterCall joined alone
+  rows-say zero i z kinds lengths arena = unfold callEach rows.emptyRun in refl
+  rows-say (suc n) i z kinds lengths arena =
+      let a : Received = receiveOf R l (frameInRows w i) (z .pool) (z .counters) in
+      let x : rows.Run = callEach R l w n (suc i) (rows.emptyRun (a .pool) (a .counters)) in
+      let h = told R l (frameInRows w i) (z .pool) (z .counters) (x .messages ++ arena) in
+      rw (first-joined n i (z .pool) (z .counters)) (rw (append-assoc (take (a .length) (a .payload)) (x .messages) arena, h .same, h .rest) (rows-say n (suc i) (afterCall z a) kinds lengths arena))
+
+-- ---- the frames that a batch takes
+
+-- each has eight bytes, where the row of bytes is long enough
+rows-ok : (l : List ℕ) (w : Rows) → ((i : ℕ) → getD (w .bytes) i 0 < 256) → (n i : ℕ) → (i + n) * 8 ≤ length (w .bytes) → AllOk (callsOf l w n i)
+unfolding callsOf frameInRows
+rows-ok l w small zero i h = none
+rows-ok l w small (suc n) i h =
+    let ok : CallOk (call l (frameInRows w i)) =
+    record {
+      eight = length-take-le 8 (drop (i * 8) (w .bytes)) (simp length-drop (omega arith));
+      byte = rw (getD-take 8 (drop (i * 8) (w .bytes)) 0 0 (omega arith), getD-drop (i * 8) (w .bytes) 0 0) (small (i * 8 + 0));
+    } in
+    more ok (rows-ok l w small n (suc i) (omega arith))
+
+or-first : (a b : Bool) → (a || b) ≡ false → a ≡ false
+or-first true b e = e
+or-first false b e = refl
+
+or-second : (a b : Bool) → (a || b) ≡ false → b ≡ false
+or-second true b e = absurd (true≢false e)
+or-second false b e = e
+
+long-enough : (n pgns sources bytes kinds lengths : ℕ) → tooShort n pgns sources bytes kinds lengths ≡ false → n * 8 ≤ bytes
+unfolding tooShort
+long-enough n pgns sources bytes kinds lengths e = ltb-false bytes (n * 8) (or-first (ltb bytes (n * 8)) _ (or-second (ltb sources n) _ (or-second (ltb pgns n) _ e)))
+
+pub record Taken (z y : State) (cs : List Call) : Type 0 where
+  pub is : y ≡ receives (receiveOf base) z cs
+  pub oks : AllOk cs
+
+module _ (l : List ℕ) (w : Rows) (z : State) (kinds lengths arena : List ℕ) (small : (i : ℕ) → getD (w .bytes) i 0 < 256) where
+  after : BatchLeft → State
+  after b = afterBatch z (b .answer) (b .kinds) (b .lengths) (b .arena)
+
+  abbrev Good : BatchLeft → Type 0
+  Good b = Taken z (after b) (callsOf l w (b .answer .taken) 0)
+
+  good-refused : (n : ℕ) → Good (refusedBy n (z .pool) (z .counters) kinds lengths arena)
+  unfolding after refusedBy afterBatch callsOf receives saidInRows
+  good-refused n = record { is = refl; oks = none }
+
+  good-run : tooShort (length (w .times)) (length (w .pgns)) (length (w .sources)) (length (w .bytes)) (length kinds) (length lengths) ≡ false
+      → Good (leaves (runOf base l w (length arena) (z .pool) (z .counters)) kinds lengths arena)
+  unfolding after leaves afterBatch over
+  good-run e =
+      let y : rows.Run = runOf base l w (length arena) (z .pool) (z .counters) in
+      let t : ℕ = length (y .kinds) in
+      let far = as-far base l w (length arena) (z .pool) (z .counters) in
+      let same = rows-say base l w t 0 z (drop t kinds) (drop (length (y .lengths)) lengths) (drop (length (y .messages)) arena) in
+      let long = long-enough (length (w .times)) (length (w .pgns)) (length (w .sources)) (length (w .bytes)) (length kinds) (length lengths) e in
+      record {
+        is = subst (λ (x : rows.Run). record { pool = x .pool; counters = x .counters; said = saidInRows t (x .kinds ++ drop t kinds) (x .lengths ++ drop (length (y .lengths)) lengths) (x .messages ++ drop (length (y .messages)) arena) (z .said) } ≡ receives (receiveOf base) z (callsOf l w t 0)) (sym (far .same)) same;
+        oks = rows-ok l w small t 0 (omega (arith, long, far .few));
+      }
+
+  good-batch : Good (batchOf base l w (z .pool) (z .counters) kinds lengths arena)
+  unfolding batchOf pick
+  good-batch = go (impossible base (slotsOf (z .pool))) (tooShort (length (w .times)) (length (w .pgns)) (length (w .sources)) (length (w .bytes)) (length kinds) (length lengths)) refl
+    where
+      go : (a b : Bool) → tooShort (length (w .times)) (length (w .pgns)) (length (w .sources)) (length (w .bytes)) (length kinds) (length lengths) ≡ b
+          → Good (pick a (refusedBy 1 (z .pool) (z .counters) kinds lengths arena) (pick b (refusedBy 27 (z .pool) (z .counters) kinds lengths arena) (leaves (runOf base l w (length arena) (z .pool) (z .counters)) kinds lengths arena)))
+      go true b e = good-refused 1
+      go false true e = good-refused 27
+      go false false e = good-run e
+
+-- a batch that keeps its promise
+pub batch-taken : {l times pgns sources bytes : List ℕ} (z : State) {kinds lengths arena : List ℕ} {r : Batch} {kinds′ lengths′ arena′ : List ℕ} → ((i : ℕ) → getD bytes i 0 < 256)
+    → Batches l times pgns sources bytes (z .pool) (z .counters) kinds lengths arena r kinds′ lengths′ arena′
+    → Taken z (afterBatch z r kinds′ lengths′ arena′) (callsOf l (record { times = times; pgns = pgns; sources = sources; bytes = bytes }) (r .taken) 0)
+unfolding rulesOf
+batch-taken {l} {times} {pgns} {sources} {bytes} z {kinds} {lengths} {arena} {r} {kinds′} {lengths′} {arena′} small h =
+    let w : Rows = record { times = times; pgns = pgns; sources = sources; bytes = bytes } in
+    let e : record { answer = r; kinds = kinds′; lengths = lengths′; arena = arena′ } ≡ batchOf base l w (z .pool) (z .counters) kinds lengths arena = batched-by h in
+    subst (λ (b : BatchLeft). Taken z (afterBatch z (b .answer) (b .kinds) (b .lengths) (b .arena)) (callsOf l w (b .answer .taken) 0)) (sym e)
+    (unfold after in good-batch l w z kinds lengths arena small)
