@@ -92,8 +92,11 @@ module _ (b : FastPacketBuilder) (id : ℕ) (p : List ℕ) (g : buildOf (idBuild
       let e : suc k + frameTotal (length p) ≡ suc (k + frameTotal (length p)) = omega arith in
       ap (sentFrames b p) e ∙ no-more (k + frameTotal (length p)) (omega arith) ∙ beyond k
 
-  pub framings-agree : FramingsAgree b id p
-  framings-agree n h =
+  agree : (n : ℕ) → frameTotal (length p) ≤ n → sentFrames b p n ≡ splitFrames id sequence p
+  agree n h =
       let e : n ≡ n - frameTotal (length p) + frameTotal (length p) = omega arith in
       ap (sentFrames b p) e ∙ beyond (n - frameTotal (length p)) ∙ front (frameTotal (length p)) (omega arith)
       ∙ ap (splitFramesFrom id sequence p 0) (same-count (length p))
+
+pub framings-agree : (b : FastPacketBuilder) (id : ℕ) (p : List ℕ) → FramingsAgree b id p
+framings-agree b id p f g some few = agree b id p g some few f

@@ -3,10 +3,15 @@
 use Prim.Native.Nat.{ℕ, zero, suc, _≤_}
 use mathlib.Core.List.{List, [], _∷_, _++_}
 use mathlib.Core.Path.{_≡_}
+use mathlib.Core.Bool.{true}
 use lib.ListN.{length}
+use Rattle.base.specs.Answer.{gives}
 use Rattle.can_id.specs.Layout.{pgnOf, sourceOf}
+use Rattle.can_id.specs.Build.{buildOf}
 use Rattle.can_id.specs.declared.CanFrame.{CanFrame}
-use Rattle.builder.specs.Next.{NextAnswer, Step, frame, end, refusal}
+use Rattle.fast_packet.specs.FastPacket.{maxPayload}
+use Rattle.builder.specs.Builder.{idBuilder}
+use Rattle.builder.specs.Next.{NextAnswer, frame, end, refusal}
 use Rattle.builder.specs.declared.FastPacketBuilder.{FastPacketBuilder}
 use Rattle.splitter.specs.Split.{splitFrames}
 use Rattle.splitter.specs.declared.Frame.{Frame}
@@ -34,6 +39,9 @@ unfoldable pub sentFrames : FastPacketBuilder → List ℕ → ℕ → List Fram
 sentFrames b p zero = []
 sentFrames b p (suc n) = sentFrames b p n ++ frameIfAny (answerAt b p n .kind) (answerAt b p n .sent)
 
--- asked often enough, or more often, the builder gives the splitter's frames, byte for byte and in order, and no other
+-- of a fast builder with an identifier, and a payload of 1 to 223 bytes: asked often enough, or more often, it gives the splitter's frames, byte for byte and
+-- in order, and no other
 abbrev pub FramingsAgree : FastPacketBuilder → ℕ → List ℕ → Type 0
-FramingsAgree b id p = (n : ℕ) → frameTotal (length p) ≤ n → sentFrames b p n ≡ splitFrames id (b .«sequence_id») p
+FramingsAgree b id p =
+    b .fast ≡ true → buildOf (idBuilder b) ≡ gives id → 1 ≤ length p → length p ≤ maxPayload
+    → (n : ℕ) → frameTotal (length p) ≤ n → sentFrames b p n ≡ splitFrames id (b .«sequence_id») p
