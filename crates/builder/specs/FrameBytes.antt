@@ -5,20 +5,20 @@ use lib.ListN.{length, drop}
 use Rattle.base.specs.Lists.{fill}
 
 -- ---- step 5: "the payload and then 0xFF up to eight bytes"
-abbrev pub rawBytes : List ℕ → List ℕ
-rawBytes p = fill 8 p
+abbrev pub rawFrameBytes : List ℕ → List ℕ
+rawFrameBytes p = fill 8 p
 
 -- ---- step 6: "byte 0 is (sequence modulo 8) times 32 plus (index modulo 32)"
 abbrev pub headerOf : ℕ → ℕ → ℕ
 headerOf sequence index = sequence % 8 * 32 + index % 32
 
 -- "If no byte was sent, byte 1 is the length and up to 6 bytes follow; .. The rest is 0xFF"
-abbrev pub firstBytes : ℕ → ℕ → List ℕ → List ℕ
-firstBytes sequence index p = headerOf sequence index ∷ length p ∷ fill 6 p
+abbrev pub firstFrameBytes : ℕ → ℕ → List ℕ → List ℕ
+firstFrameBytes sequence index p = headerOf sequence index ∷ length p ∷ fill 6 p
 
 -- "else up to 7 follow byte 0. The rest is 0xFF"
-abbrev pub laterBytes : ℕ → ℕ → ℕ → List ℕ → List ℕ
-laterBytes sequence index sent p = headerOf sequence index ∷ fill 7 (drop sent p)
+abbrev pub laterFrameBytes : ℕ → ℕ → ℕ → List ℕ → List ℕ
+laterFrameBytes sequence index sent p = headerOf sequence index ∷ fill 7 (drop sent p)
 
 -- "Bytes sent goes up by the bytes taken": up to 6 in a first frame, and up to 7 in a later one
 abbrev pub sentByFirst : List ℕ → ℕ

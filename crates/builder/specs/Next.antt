@@ -8,7 +8,7 @@ use Rattle.base.specs.Answer.{Answer, gives, refuses}
 use Rattle.can_id.specs.Build.{errorNumber, errorCarries, buildOf}
 use Rattle.can_id.specs.declared.CanFrame.{CanFrame}
 use Rattle.fast_packet.specs.FastPacket.{maxPayload}
-use Rattle.builder.specs.FrameBytes.{rawBytes, firstBytes, laterBytes, sentByFirst, sentByLater, indexAfter}
+use Rattle.builder.specs.FrameBytes.{rawFrameBytes, firstFrameBytes, laterFrameBytes, sentByFirst, sentByLater, indexAfter}
 use Rattle.builder.specs.Builder.{idBuilder}
 use Rattle.builder.specs.declared.FastPacketBuilder.{FastPacketBuilder}
 use Rattle.builder.specs.declared.NextKind.{NextKind}
@@ -55,14 +55,14 @@ refusedStep n carried index bytes = record { kind = refusal n carried; sent = no
 
 -- ---- step 5: "one raw frame, the payload and then 0xFF up to eight bytes, length as the payload; bytes sent becomes the length"
 abbrev pub rawStep : ℕ → ℕ → List ℕ → Step
-rawStep id index p = sentStep (frameOf id (rawBytes p) (length p)) index (length p)
+rawStep id index p = sentStep (frameOf id (rawFrameBytes p) (length p)) index (length p)
 
 -- ---- step 6: a frame of bytes "and the length is 8. Bytes sent goes up by the bytes taken. The frame index goes up by one": the first, or a later one
 abbrev pub firstStep : ℕ → ℕ → ℕ → List ℕ → Step
-firstStep id sequence index p = sentStep (frameOf id (firstBytes sequence index p) 8) (indexAfter index) (sentByFirst p)
+firstStep id sequence index p = sentStep (frameOf id (firstFrameBytes sequence index p) 8) (indexAfter index) (sentByFirst p)
 
 abbrev pub laterStep : ℕ → ℕ → ℕ → ℕ → List ℕ → Step
-laterStep id sequence index sent p = sentStep (frameOf id (laterBytes sequence index sent p) 8) (indexAfter index) (sentByLater sent p)
+laterStep id sequence index sent p = sentStep (frameOf id (laterFrameBytes sequence index sent p) 8) (indexAfter index) (sentByLater sent p)
 
 -- ---- steps 4 to 6: "Payload over 223: refusal 2; bytes sent becomes the length."
 -- "Marked not fast with over 8 bytes, which no new builder is: refusal 2, bytes sent likewise."

@@ -37,7 +37,7 @@ fn index_after(frame_index: u8) -> u8
 }
 
 // How many bytes a frame with this room takes: as many as there are after those sent.
-fn taken(room: usize, total_len: usize, bytes_sent: usize) -> usize
+fn bytes_taken(room: usize, total_len: usize, bytes_sent: usize) -> usize
     ensures { λ r. ⌜ r ≡ min room («total_len» - «bytes_sent») ⌝ }
 {
     if total_len <= bytes_sent {
@@ -54,7 +54,7 @@ fn placed(head: u8, size: u8, at: usize, frame_index: u8, bytes_sent: usize, pay
     requires { ⌜ (at ≤ 8) × (drop at (headed head size) ≡ replicate (8 - at) 255) ⌝ }
     ensures { λ r. ⌜ r ≡ laidAt head size at «frame_index» «bytes_sent» (now (payload .entry)) ⌝ }
 {
-    let count = taken(8 - at, payload.len(), bytes_sent);
+    let count = bytes_taken(8 - at, payload.len(), bytes_sent);
     let mut out = [head, size, FILL, FILL, FILL, FILL, FILL, FILL];
     let mut i: usize = 0;
     while i < count {
@@ -70,7 +70,7 @@ fn placed(head: u8, size: u8, at: usize, frame_index: u8, bytes_sent: usize, pay
 }
 
 // The frame of a payload at a frame index and after some bytes sent: fast, the first or a later one, or else raw.
-pub(crate) fn lay(
+pub(crate) fn lay_frame(
     fast: bool,
     sequence_id: u8,
     frame_index: u8,

@@ -9,7 +9,7 @@ ghost use Rattle.builder.specs.Frames.{started, turnOf, nextTurn};
 mod frame_bytes;
 
 use crate::frame_bytes::Laid;
-use crate::frame_bytes::lay;
+use crate::frame_bytes::lay_frame;
 use can_id::Built;
 use can_id::CanFrame;
 use can_id::CanId;
@@ -187,7 +187,7 @@ impl FastPacketBuilder {
         if (total_len > MAX_FAST_PACKET_PAYLOAD) | (!self.fast & (total_len > 8)) {
             return Next::refused(CanIdBuildError::InvalidData, frame_index, total_len);
         }
-        let laid = lay(
+        let laid = lay_frame(
             self.fast,
             self.sequence_id,
             frame_index,

@@ -14,7 +14,7 @@ use numbers::go_on;
 use numbers::iterator_from;
 use numbers::lay_made;
 use numbers::place_numbers;
-use numbers::told;
+use numbers::tell_next;
 
 // ---- a builder made and set, in place
 
@@ -79,7 +79,7 @@ pub extern "C" fn hf_next_frame(
     let b = builder_from(builder);
     let next = b.next_frame(frame_index, bytes_sent, payload);
     *after = after_numbers(next);
-    told(next, data, frame)
+    tell_next(next, data, frame)
 }
 
 // ---- frame by frame
@@ -123,5 +123,5 @@ pub extern "C" fn hf_frame_iterator_next(
     let t = iterator_from(builder, place);
     let next = step_in(t.next(payload));
     go_on(place, next);
-    told(next, data, frame)
+    tell_next(next, data, frame)
 }

@@ -4,9 +4,9 @@ ghost use Rattle.can_id.specs.Layout.{priorityOf, pgnOf, sourceOf};
 ghost use Rattle.ffi.specs.Ids.{readDestination, readParts, setPriority, setDestination, bothOf, PartsBuilt, SetBuilt, BothBuilt};
 use can_id::CanId;
 use can_id::CanIdBuilder;
+use numbers::address_number;
 use numbers::answered;
 use numbers::destination_from;
-use numbers::number_of;
 
 #[no_mangle]
 pub extern "C" fn hf_can_id_priority(id: u32) -> u8
@@ -27,7 +27,7 @@ pub extern "C" fn hf_can_id_pgn(id: u32) -> u32
 pub extern "C" fn hf_can_id_destination(id: u32) -> u16
     ensures { λ r. ⌜ r ≡ readDestination id ⌝ }
 {
-    number_of(CanId(id).destination())
+    address_number(CanId(id).destination())
 }
 
 #[no_mangle]
@@ -47,7 +47,7 @@ pub extern "C" fn hf_can_id_parts(id: u32, parts: &mut [u32; 4])
         c.priority() as u32,
         c.pgn(),
         c.source_address() as u32,
-        number_of(c.destination()) as u32,
+        address_number(c.destination()) as u32,
     ];
 }
 

@@ -28,8 +28,8 @@ use Rattle.numbers.specs.Pool.{laidOver, poolFrom, countersFrom, counter
 -- ---- numbers
 
 module _ (r s : ℕ) where
-  pub number-of-unique : (d : Destination) → r ≡ addressOf d → s ≡ addressOf d → r ≡ s
-  number-of-unique d = determined
+  pub address-number-unique : (d : Destination) → r ≡ addressOf d → s ≡ addressOf d → r ≡ s
+  address-number-unique d = determined
 
 pub destination-from-unique : (n : ℕ) (r s : Destination) → r ≡ toAddress n → s ≡ toAddress n → r ≡ s
 destination-from-unique n r s = determined
@@ -57,8 +57,8 @@ pub place-numbers-unique : (t : FrameIterator) (r s : List ℕ) → r ≡ placeN
 place-numbers-unique t r s = determined
 
 -- what is returned, the frame's bytes, and its numbers
-pub told-unique : (n : Next) (r s : ℕ) (v w p q : List ℕ) → NextLeft n r v p → NextLeft n s w q → (r ≡ s) × (v ≡ w) × (p ≡ q)
-told-unique n r s v w p q h k = (determined (h .told) (k .told), determined (h .filled) (k .filled), determined (h .named) (k .named))
+pub tell-next-unique : (n : Next) (r s : ℕ) (v w p q : List ℕ) → NextLeft n r v p → NextLeft n s w q → (r ≡ s) × (v ≡ w) × (p ≡ q)
+tell-next-unique n r s v w p q h k = (determined (h .told) (k .told), determined (h .filled) (k .filled), determined (h .named) (k .named))
 
 pub after-numbers-unique : (n : Next) (r s : List ℕ) → r ≡ afterNext n → s ≡ afterNext n → r ≡ s
 after-numbers-unique n r s = determined

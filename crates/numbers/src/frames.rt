@@ -3,12 +3,12 @@ ghost use mathlib.Core.Path.{_≡_};
 ghost use mathlib.Core.List.{[], _∷_};
 ghost use Rattle.builder.specs.Next.{ofNextKind};
 ghost use Rattle.numbers.specs.Frames.{builderFrom, builderNumbers, BuilderLeft, iteratorFrom, placeNumbers, nextCode, kindCarries, NextLeft, afterNext, placeOn};
+use crate::numbers::address_number;
 use crate::numbers::byte_on;
-use crate::numbers::carried;
 use crate::numbers::destination_from;
+use crate::numbers::error_carries;
+use crate::numbers::error_number;
 use crate::numbers::flag;
-use crate::numbers::number_of;
-use crate::numbers::refusal;
 use builder::FastPacketBuilder;
 use builder::FrameIterator;
 use builder::MadeBuilder;
@@ -38,7 +38,7 @@ pub fn builder_numbers(b: FastPacketBuilder) -> [u64; 6]
     [
         b.pgn as u64,
         b.source_address as u64,
-        number_of(destination) as u64,
+        address_number(destination) as u64,
         b.priority as u64,
         b.sequence_id as u64,
         flag(b.fast),
@@ -64,7 +64,7 @@ fn kind_number(kind: NextKind) -> u32
     match kind {
         NextKind::Frame => 0,
         NextKind::End => END,
-        NextKind::Refused(error) => refusal(error),
+        NextKind::Refused(error) => error_number(error),
     }
 }
 
@@ -74,7 +74,7 @@ fn kind_carries(kind: NextKind) -> u32
     match kind {
         NextKind::Frame => 0,
         NextKind::End => 0,
-        NextKind::Refused(error) => carried(error),
+        NextKind::Refused(error) => error_carries(error),
     }
 }
 
@@ -88,7 +88,7 @@ fn frame_numbers(frame: CanFrame, kind: NextKind) -> [u64; 3]
     ]
 }
 
-pub fn told(next: Next, data: &mut [u8; 8], frame: &mut [u64; 3]) -> u32
+pub fn tell_next(next: Next, data: &mut [u8; 8], frame: &mut [u64; 3]) -> u32
     ensures { λ r. ⌜ NextLeft next r (now («data» .exit)) (now (frame .exit)) ⌝ }
 {
     let f = next.frame;

@@ -58,7 +58,7 @@ pub fn destination_from(n: u64) -> Destination
     }
 }
 
-pub fn number_of(destination: Destination) -> u16
+pub fn address_number(destination: Destination) -> u16
     ensures { λ r. ⌜ r ≡ addressOf destination ⌝ }
 {
     match destination {
@@ -67,7 +67,7 @@ pub fn number_of(destination: Destination) -> u16
     }
 }
 
-pub(crate) fn refusal(error: CanIdBuildError) -> u32
+pub(crate) fn error_number(error: CanIdBuildError) -> u32
     ensures { λ r. ⌜ r ≡ errorNumber error ⌝ }
 {
     match error {
@@ -80,7 +80,7 @@ pub(crate) fn refusal(error: CanIdBuildError) -> u32
     }
 }
 
-pub(crate) fn carried(error: CanIdBuildError) -> u32
+pub(crate) fn error_carries(error: CanIdBuildError) -> u32
     ensures { λ r. ⌜ r ≡ carriesOf (errorCarries error) ⌝ }
 {
     match error {
@@ -103,8 +103,8 @@ pub fn answered(built: Built, value: &mut u32) -> u32
             0
         }
         Built::Refused(error) => {
-            *value = carried(error);
-            refusal(error)
+            *value = error_carries(error);
+            error_number(error)
         }
     }
 }

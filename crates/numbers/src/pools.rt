@@ -167,7 +167,7 @@ fn kind_code(kind: Kind) -> u32
 }
 
 // A message is delivered, and without one the lent payload stays as it was.
-fn deliver(
+fn deliver_on(
     kind: Kind,
     message: [u8; MAX_FAST_PACKET_PAYLOAD],
     payload: &mut [u8; MAX_FAST_PACKET_PAYLOAD],
@@ -207,7 +207,7 @@ pub fn leave(
     *length = r.length;
     let kind = r.kind;
     let message = r.payload;
-    deliver(kind, message, payload);
+    deliver_on(kind, message, payload);
     kind_code(kind)
 }
 

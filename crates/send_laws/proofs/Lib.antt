@@ -2,3 +2,4 @@ pub mod BuildLaws
 pub mod RoundTrip
 pub mod FrameCounts
 pub mod Message
+pub mod Agreement

@@ -15,7 +15,7 @@ use Rattle.can_id.specs.Build.{buildOf}
 use Rattle.can_id.specs.declared.Destination.{Destination}
 use Rattle.fast_packet.specs.FastPacket.{maxPayload, listedIn}
 use Rattle.builder.specs.Builder.{fastOf, newBuilder, idBuilder}
-use Rattle.builder.specs.FrameBytes.{laterBytes}
+use Rattle.builder.specs.FrameBytes.{laterFrameBytes}
 use Rattle.builder.specs.Next.{Step, frameOf, nextOf, sentStep, endStep, framedStep, rawStep}
 use Rattle.builder.specs.Frames.{started, nextTurn}
 use Rattle.send_laws.specs.Message.{iteratorOf, placeAfter, answerAt, frameTotal, sentBefore, messageBytes, fastAnswer, rawAnswer, messageAnswer}
@@ -139,7 +139,7 @@ module _ (b : FastPacketBuilder) (id : ℕ) (p : List ℕ) (g : buildOf (idBuild
 
   -- "223 bytes: 32 frames, last index 31"
   pub longest : b .fast ≡ true → length p ≡ maxPayload
-      → (answerAt b p 31 ≡ sentStep (frameOf id (laterBytes (b .«sequence_id») 31 216 p) 8) 32 maxPayload) × (answerAt b p 32 ≡ endStep 32 maxPayload)
+      → (answerAt b p 31 ≡ sentStep (frameOf id (laterFrameBytes (b .«sequence_id») 31 216 p) 8) 32 maxPayload) × (answerAt b p 32 ≡ endStep 32 maxPayload)
   unfolding fastAnswer pick
   longest f l = (fast-message f 31 ∙ rw l, fast-message f 32 ∙ rw l)
 

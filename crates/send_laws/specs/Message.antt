@@ -4,7 +4,7 @@ use mathlib.Core.List.{List}
 use lib.ListN.{length}
 use lib.Dec.{ltb}
 use Rattle.base.specs.Pick.{pick}
-use Rattle.builder.specs.FrameBytes.{firstBytes, laterBytes}
+use Rattle.builder.specs.FrameBytes.{firstFrameBytes, laterFrameBytes}
 use Rattle.builder.specs.Next.{Step, frameOf, sentStep, endStep, rawStep}
 use Rattle.builder.specs.Frames.{Turn, started, nextTurn}
 use Rattle.builder.specs.declared.FastPacketBuilder.{FastPacketBuilder}
@@ -34,8 +34,8 @@ sentBefore k n = min (7 * k - 1) n
 
 -- frame k's bytes, by step 6
 abbrev pub messageBytes : ℕ → ℕ → List ℕ → List ℕ
-messageBytes sequence zero p = firstBytes sequence 0 p
-messageBytes sequence (suc k) p = laterBytes sequence (suc k) (7 * suc k - 1) p
+messageBytes sequence zero p = firstFrameBytes sequence 0 p
+messageBytes sequence (suc k) p = laterFrameBytes sequence (suc k) (7 * suc k - 1) p
 
 -- ---- the answers: the frames one by one, and then End for good
 unfoldable pub fastAnswer : ℕ → ℕ → List ℕ → ℕ → Step

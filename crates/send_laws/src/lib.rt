@@ -1,1 +1,1 @@
-// Identifiers read back, and whole messages frame by frame: definitions and theorems over those of `can_id` and `builder`; no code.
+// Identifiers read back, whole messages frame by frame, and the agreement with the bench: definitions and theorems over those of `can_id`, `builder`, `splitter` and `oracle`; no code.

@@ -7,7 +7,7 @@ use lib.ListN.{length}
 use lib.Dec.{eqb}
 use Rattle.base.specs.Pick.{pick}
 use Rattle.base.specs.Lists.{fill}
-use Rattle.builder.specs.FrameBytes.{headerOf, laterBytes, rawBytes, sentByFirst, sentByLater, indexAfter}
+use Rattle.builder.specs.FrameBytes.{headerOf, laterFrameBytes, rawFrameBytes, sentByFirst, sentByLater, indexAfter}
 use Rattle.builder.specs.Next.{Step, frameOf, sentStep}
 use Rattle.builder.specs.declared.frame_bytes.Laid.{Laid}
 
@@ -24,14 +24,14 @@ firstLaid sequence index size p =
 abbrev pub laterLaid : ℕ → ℕ → ℕ → List ℕ → Laid
 laterLaid sequence index sent p =
     record {
-      «data» = laterBytes sequence index sent p;
+      «data» = laterFrameBytes sequence index sent p;
       len = 8;
       «frame_index» = indexAfter index;
       «bytes_sent» = sentByLater sent p;
     }
 
 abbrev pub rawLaid : ℕ → List ℕ → Laid
-rawLaid index p = record { «data» = rawBytes p; len = length p; «frame_index» = index; «bytes_sent» = length p }
+rawLaid index p = record { «data» = rawFrameBytes p; len = length p; «frame_index» = index; «bytes_sent» = length p }
 
 -- which of the three: a byte holds the length of every message that a builder sends, and of a longer payload the low eight bits
 unfoldable pub laidOf : Bool → ℕ → ℕ → ℕ → List ℕ → Laid

@@ -8,7 +8,7 @@ returns : tie.Need-returns
 returns c = framed-refused _ _ _ _ _ (c .before .if1 .taken) (c .refused .ensures)
 
 returns-2 : tie.Need-returns-2
-returns-2 c = framed-sent _ _ _ _ _ (c .before .before .if1 .left) (c .before .lay .ensures) (c .sent .ensures)
+returns-2 c = framed-sent _ _ _ _ _ (c .before .before .if1 .left) (c .before .lay-frame .ensures) (c .sent .ensures)
 
 pub framed-spec : {M : Type 1} → statement M
 framed-spec =

@@ -13,4 +13,4 @@ hf-frame-iterator-next-spec =
     (λ c κs. search needs)
     (λ c κs. search needs)
     (λ c κs. search needs)
-    (λ c. turn-left _ _ _ (c .before .before .before .before .before .before .before .iterator-from .ensures) (c .before .before .before .before .before .before .next .ensures) (c .before .before .before .before .before .step-in .ensures) (c .told .ensures) (c .before .before .before .go-on .ensures)))
+    (λ c. turn-left _ _ _ (c .before .before .before .before .before .before .before .iterator-from .ensures) (c .before .before .before .before .before .before .next .ensures) (c .before .before .before .before .before .step-in .ensures) (c .tell-next .ensures) (c .before .before .before .go-on .ensures)))

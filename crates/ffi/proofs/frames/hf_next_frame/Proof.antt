@@ -12,4 +12,4 @@ hf-next-frame-spec =
     (λ c κs. search needs)
     (λ c κs. search needs)
     (λ c κs. search needs)
-    (λ c. next-left _ _ _ _ (c .before .before .before .before .before .builder-from .ensures) (c .before .before .before .before .next-frame .ensures) (c .told .ensures) (c .before .before .before .after-numbers .ensures)))
+    (λ c. next-left _ _ _ _ (c .before .before .before .before .before .builder-from .ensures) (c .before .before .before .before .next-frame .ensures) (c .tell-next .ensures) (c .before .before .before .after-numbers .ensures)))

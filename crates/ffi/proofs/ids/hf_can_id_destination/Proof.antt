@@ -11,4 +11,4 @@ hf-can-id-destination-spec =
     (tie.spec
     (λ c κs. search needs)
     (λ c κs. search needs)
-    (λ c. (c .number-of .ensures) ∙ ap addressOf (c .before .destination .ensures)))
+    (λ c. (c .address-number .ensures) ∙ ap addressOf (c .before .destination .ensures)))

@@ -20,4 +20,4 @@ hf-can-id-parts-spec =
     (λ c κs. search needs)
     (λ c κs. search needs)
     (λ c. search needs)
-    (λ c. row-4 (c .before .before .before .before .before .priority .ensures) (c .before .before .before .before .pgn .ensures) (c .before .before .before .source-address .ensures) ((c .before .number-of .ensures) ∙ ap addressOf (c .before .before .destination .ensures))))
+    (λ c. row-4 (c .before .before .before .before .before .priority .ensures) (c .before .before .before .before .pgn .ensures) (c .before .before .before .source-address .ensures) ((c .before .address-number .ensures) ∙ ap addressOf (c .before .before .destination .ensures))))

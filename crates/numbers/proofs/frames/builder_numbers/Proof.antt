@@ -18,4 +18,4 @@ builder-numbers-spec =
     (λ c. search needs)
     (λ c. search needs)
     (λ c κs. search needs)
-    (λ c. row-6 refl refl (c .before .before .before .number-of .ensures) refl refl (c .flag .ensures)))
+    (λ c. row-6 refl refl (c .before .before .before .address-number .ensures) refl refl (c .flag .ensures)))

@@ -12,4 +12,4 @@ leave-spec =
     (λ c κs. search needs)
     (λ c κs. search needs)
     (λ c κs. search needs)
-    (λ c. record { told = c .kind-code .ensures; kept = c .before .before .before .before .before .before .before .put-heads .ensures; stored = refl; counted = c .before .before .before .before .counter-numbers .ensures; delivered = c .before .deliver .ensures; measured = refl }))
+    (λ c. record { told = c .kind-code .ensures; kept = c .before .before .before .before .before .before .before .put-heads .ensures; stored = refl; counted = c .before .before .before .before .counter-numbers .ensures; delivered = c .before .deliver-on .ensures; measured = refl }))

@@ -1,8 +1,8 @@
--- `lay` meets its contract: each of the three frames by a law of its own. Assumes nothing.
+-- `lay_frame` meets its contract: each of the three frames by a law of its own. Assumes nothing.
 use borrow.Author.Needs.{needs}
 use Rattle.builder.proofs.LaidLaws.{laid-raw, laid-first, laid-later}
-use Rattle.builder.proofs.frame_bytes.lay.Statement.{statement}
-use Rattle.builder.proofs.frame_bytes.lay.Tie as tie
+use Rattle.builder.proofs.frame_bytes.lay_frame.Statement.{statement}
+use Rattle.builder.proofs.frame_bytes.lay_frame.Tie as tie
 
 returns : tie.Need-returns
 returns c =
@@ -19,8 +19,8 @@ returns-2 c =
 returns-3 : tie.Need-returns-3
 returns-3 c = laid-raw _ _ _ _ _ (c .before .if1 .left) (c .placed3 .ensures)
 
-pub lay-spec : {M : Type 1} → statement M
-lay-spec =
+pub lay-frame-spec : {M : Type 1} → statement M
+lay-frame-spec =
     tie.close
     (tie.spec
     (λ c κs. search needs)
