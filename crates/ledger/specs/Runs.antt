@@ -94,15 +94,18 @@ afterBatch z r kinds lengths arena = record { pool = r .pool; counters = r .coun
 
 -- A public call that keeps its promise: the frames that it heard, and the state that it leaves. Where its bytes come from outside, they are what their type says.
 pub data Called (z : State) : List Call → State → Type 0 where
+  -- `receive`, and `process_frame_through`
   received : (pgns : List ℕ) (a : Arrival) {r : Received} → CallOk (call pgns (heardOf a)) → Receives pgns a (z .pool) (z .counters) r
       → Called z (call pgns (heardOf a) ∷ []) (afterCall z r)
+  -- `receive_with_length`, and `process_frame_with_length_through`
   receivedWithLength : (pgns : List ℕ) (x : ArrivalWithLength) {r : Received} → CallOk (call pgns (heardOf (x .arrival))) → ReceivesWithLength pgns x (z .pool) (z .counters) r
       → Called z (call pgns (heardWithLength x) ∷ []) (afterCall z r)
+  -- `process_frame`, and `process_frame_with_length`
   processed : (pgns : List ℕ) (a : Arrival) {r : Processed} {after : Counters} → CallOk (call pgns (heardOf a)) → Processes pgns a (z .pool) (z .counters) r after
       → Called z (call pgns (heardOf a) ∷ []) (afterLent z r after)
   processedWithLength : (pgns : List ℕ) (x : ArrivalWithLength) {r : Processed} {after : Counters} → CallOk (call pgns (heardOf (x .arrival))) → ProcessesWithLength pgns x (z .pool) (z .counters) r after
       → Called z (call pgns (heardWithLength x) ∷ []) (afterLent z r after)
-  -- also one that is refused, which takes no frame
+  -- `process_frames`, also where it is refused and takes no frame
   batched : {list times pgns sources bytes kinds lengths arena : List ℕ} {r : Batch} {kinds′ lengths′ arena′ : List ℕ} → ((i : ℕ) → getD bytes i 0 < 256)
       → Batches list times pgns sources bytes (z .pool) (z .counters) kinds lengths arena r kinds′ lengths′ arena′
       → Called z (callsOf list (record { times = times; pgns = pgns; sources = sources; bytes = bytes }) (r .taken) 0) (afterBatch z r kinds′ lengths′ arena′)
