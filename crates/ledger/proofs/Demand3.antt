@@ -21,8 +21,9 @@ use Rattle.assembler.specs.Promises.{rulesOf, ReceivesHeard, ProcessesHeard}
 use Rattle.assembler.proofs.Promised.{received-by, processed-by}
 use Rattle.assembler.proofs.ByCalls.{filled-ok}
 use Rattle.ledger.specs.Ledger.{ledgerOf}
-use Rattle.ledger.specs.Demand3.{Demand3, AllOk, none, more, Closes}
-use Rattle.ledger.specs.Runs.{Empty, State, start, sourcesOf, seenIn, call, sayingOf, afterCall, afterLent, Called, received, receivedWithLength, processed, processedWithLength, batched, Ran, stop, on, receives, seenAfter, stepped}
+use Rattle.ledger.specs.Demand3.{Closes}
+use Rattle.ledger.specs.Runs.{Empty, State, start, sourcesOf, seenIn, call, sayingOf, afterCall, afterLent, Called, received, receivedWithLength, processed, processedWithLength, batched, Ran, stop, on}
+use Rattle.ledger.specs.Assemblers.{Demand3, AllOk, none, more, receives, seenAfter, stepped}
 use Rattle.ledger.proofs.Run.{begun, follows, agreed}
 use Rattle.ledger.proofs.Admission.{admitted}
 use Rattle.ledger.proofs.Start.{empty-follows, empty-sized, fresh-follows}

@@ -21,7 +21,8 @@ use Rattle.batch.specs.Rows.{Batches}
 use Rattle.ledger.specs.Ledger.{Message, Entry, Ledger, tellOne, tell, tells, written, blank, ledgerOf, briefly, delivery, saying, sayingDue, Saying}
 use Rattle.ledger.specs.Ledger as book
 use Rattle.ledger.specs.Demand3.{Seen, Agreed, Closes}
-use Rattle.ledger.specs.Runs.{Empty, State, start, sourcesOf, seenIn, afterCall, afterBatch, callsOf, Called, batched, Ran, stop, on, Receive, receives}
+use Rattle.ledger.specs.Runs.{Empty, State, start, sourcesOf, seenIn, afterCall, afterBatch, callsOf, Called, batched, Ran, stop, on}
+use Rattle.ledger.specs.Assemblers.{Receive, receives}
 use Rattle.ledger.proofs.Demand3.{demand-3, ran-taken}
 use mathlib.Core.Option.{Option, none, some}
 

@@ -10,7 +10,7 @@ use Rattle.session.specs.declared.Heard.{Heard}
 use Rattle.session.specs.declared.Counters.{Counters}
 use Rattle.session.specs.declared.Kind.{Kind}
 use Rattle.session.specs.declared.Kind.the-variants.{Refused, Ignored, FragmentConsumed, MessageComplete}
-use Rattle.session.specs.Rules.{Rules, poolLimit}
+use Rattle.session.specs.Rules.{poolLimit}
 use Rattle.session.specs.Counting.{freshCounters}
 use Rattle.assembler.specs.declared.Pool.{Pool}
 use Rattle.assembler.specs.declared.Arrival.{Arrival}
@@ -18,11 +18,8 @@ use Rattle.assembler.specs.declared.ArrivalWithLength.{ArrivalWithLength}
 use Rattle.assembler.specs.declared.Received.{Received}
 use Rattle.assembler.specs.declared.Processed.{Processed}
 use Rattle.assembler.specs.Call.{Call, CallOk}
-use Rattle.assembler.specs.Slots.{within}
-use Rattle.assembler.specs.Step.{Reply, padded}
-use Rattle.assembler.specs.Runs.{Assembler, World, freshWorld, callAll}
+use Rattle.assembler.specs.Step.{padded}
 use Rattle.assembler.specs.Making.{poolBytes}
-use Rattle.assembler.specs.View.{headOf, replyKind, replyPayload, replyLength}
 use Rattle.assembler.specs.Arrivals.{heardOf, heardWithLength}
 use Rattle.assembler.specs.Promises.{Receives, ReceivesWithLength, Processes, ProcessesWithLength}
 use Rattle.batch.specs.declared.Batch.{Batch}
@@ -115,24 +112,3 @@ pub data Called (z : State) : List Call → State → Type 0 where
 pub data Ran : State → List Call → State → Type 0 where
   stop : {z : State} → Ran z [] z
   on : {z x y : State} {cs ds : List Call} → Called z cs x → Ran x ds y → Ran z (cs ++ ds) y
-
--- ---- runs of any assembler by value, and of the steps over slots
-
-abbrev pub Receive : Type 0
-Receive = List ℕ → Heard → Pool → Counters → Received
-
-unfoldable pub receives : Receive → State → List Call → State
-receives f z [] = z
-receives f z (c ∷ cs) = receives f (afterCall z (f (c .pgns) (c .heard) (z .pool) (z .counters))) cs
-
-unfoldable pub seenAfter : Receive → Pool → List Call → Seen
-seenAfter f p cs = seenIn (receives f (start p) cs)
-
-unfoldable pub replySays : Reply → Saying
-replySays r = record { kind = replyKind r; payload = replyPayload r; length = replyLength r }
-
-unfoldable pub seenOf : World → Seen
-seenOf w = record { said = map replySays (w .replies); heads = map headOf (within (w .pool)); counters = w .counters }
-
-unfoldable pub stepped : Assembler → Rules → ℕ → List Call → Seen
-stepped f R n cs = seenOf (callAll f (freshWorld R n) cs)
