@@ -154,8 +154,8 @@ agreed R kept cs w f =
     record {
       answers = f .answers;
       own = o .own;
-      sum = five-counts (ledgerOf R kept cs) (o .balance);
-      fates = one-fate (ledgerOf R kept cs) (o .balance);
+      five-counts-add-up = five-counts (ledgerOf R kept cs) (o .balance);
+      exactly-one-fate = one-fate (ledgerOf R kept cs) (o .balance);
       holding =
           all2-total (λ (p : Place). asNumber (isSome (heldIn p))) (λ (s : Slot). asNumber (s .head .«in_progress»)) (held-busy R) (f .shows)
           ∙ total-heads (λ (h : Head). asNumber (h .«in_progress»)) (within (w .pool));

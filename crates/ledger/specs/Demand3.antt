@@ -27,9 +27,9 @@ pub record Agreed (s : Seen) (L : Ledger) : Type 0 where
   -- ... and its own frames are the one that began it and all that were copied for it, by the book
   pub own : OwnBook (L .entries)
   -- the five counts add up to those opened
-  pub sum : did Delivered L + did Broken L + did Restarting L + did Reclaiming L + held L ≡ openings L
-  -- each opened message has exactly one fate
-  pub fates : (k : ℕ) → fatesOf k L ≡ asNumber (wasOpened k L)
+  pub five-counts-add-up : did Delivered L + did Broken L + did Restarting L + did Reclaiming L + held L ≡ openings L
+  -- each opened message has exactly one fate, and a number that was not opened has none
+  pub exactly-one-fate : (k : ℕ) → fatesOf k L ≡ asNumber (wasOpened k L)
   -- held is the slots in progress
   pub holding : held L ≡ inProgress (s .heads)
   -- the counters
