@@ -24,7 +24,7 @@ use Rattle.assembler.specs.View.{headOf}
 use Rattle.ledger.specs.Ledger.{Message, Place, idle, holds, heldIn, late, itsTurn, full, grown, liveHeld, takenBy, Told, nothingMoved, opensIn, continuesIn, given, tellOne, Ledger, numbered, nextDeed}
 use Rattle.ledger.specs.Ledger.{NoSlot, Stray, Restarting, Reclaiming, deedNumber, isOneOf, opens, openingAt}
 use Rattle.ledger.specs.Demand3.{hasRoom, Admitted}
-use Rattle.ledger.specs.Runs.{seenOf}
+use Rattle.ledger.specs.Assemblers.{seenOf}
 use Rattle.ledger.proofs.Match.{chosen-same}
 use Rattle.ledger.proofs.Run.{Follows}
 

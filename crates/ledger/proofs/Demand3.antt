@@ -1,6 +1,7 @@
 -- Demand 3, proved: of every run of the public calls, mixed in any order, at document 01's own rules; of the receive call at every test for silence and for the
 -- key; and of the steps at every limit too.
 -- Assumes nothing.
+use mathlib.Core.Bool.{false}
 use mathlib.Core.List.{List, [], _∷_, _++_}
 use mathlib.Core.Path.{_≡_, refl, sym, ap, _∙_}
 use Prim.Native.Nat.{ℕ, _≤_}
@@ -13,7 +14,7 @@ use Rattle.assembler.specs.declared.Pool.{Pool}
 use Rattle.assembler.specs.declared.Processed.{Processed}
 use Rattle.assembler.specs.declared.Received.{Received}
 use Rattle.assembler.specs.Call.{Call, CallOk}
-use Rattle.assembler.specs.Slots.{freshSlots}
+use Rattle.assembler.specs.Slots.{freshSlots, impossible}
 use Rattle.assembler.specs.Step.{step}
 use Rattle.assembler.specs.Runs.{freshWorld, callAll}
 use Rattle.assembler.specs.View.{slotsOf, receiveOf}
@@ -21,9 +22,10 @@ use Rattle.assembler.specs.Promises.{rulesOf, ReceivesHeard, ProcessesHeard}
 use Rattle.assembler.proofs.Promised.{received-by, processed-by}
 use Rattle.assembler.proofs.ByCalls.{filled-ok}
 use Rattle.ledger.specs.Ledger.{ledgerOf}
-use Rattle.ledger.specs.Demand3.{Demand3, AllOk, none, more, Closes}
-use Rattle.ledger.specs.Runs.{Empty, State, start, sourcesOf, seenIn, call, sayingOf, afterCall, afterLent, Called, received, receivedWithLength, processed, processedWithLength, batched, Ran, stop, on, receives, seenAfter, stepped}
-use Rattle.ledger.proofs.Run.{begun, follows, agreed}
+use Rattle.ledger.specs.Demand3.{Closes}
+use Rattle.ledger.specs.Runs.{Empty, State, start, sourcesOf, seenIn, call, sayingOf, afterCall, afterLent, Called, received, receivedWithLength, processed, processedWithLength, batched, Ran, stop, on}
+use Rattle.ledger.specs.Assemblers.{Demand3, AllOk, none, more, receives, seenAfter, stepped}
+use Rattle.ledger.proofs.Run.{begun, follows, never-impossible, agreed}
 use Rattle.ledger.proofs.Admission.{admitted}
 use Rattle.ledger.proofs.Start.{empty-follows, empty-sized, fresh-follows}
 use Rattle.ledger.proofs.Received.{same-seen, run-same}
@@ -96,3 +98,13 @@ pub demand-3 : (p : Pool) → Empty p → {cs : List Call} {y : State} → Ran (
 demand-3 p e {cs} r l =
     let t = ran-taken r in
     rw (t .is) (unfold Demand3 seenAfter in demand-3-rules base p e (unfold base in e .size) cs (t .oks) l)
+
+-- the pool that a run leaves is possible
+pub pool-possible : (p : Pool) → Empty p → {cs : List Call} {y : State} → Ran (start p) cs y → length cs ≤ 4294967295 → impossible base (slotsOf (y .pool)) ≡ false
+unfolding most
+pool-possible p e {cs} r l =
+    let t = ran-taken r in
+    let begins = empty-follows base p e (unfold base in e .size) in
+    let same = run-same base p (empty-sized p e) begins (t .oks) l in
+    let fine = never-impossible base (callAll (step base) (begun (slotsOf p)) cs) (ledgerOf base (sourcesOf p) cs) (follows base (slotsOf p) (sourcesOf p) begins (t .oks) l) in
+    ap (λ (z : State). impossible base (slotsOf (z .pool))) (t .is) ∙ ap (impossible base) (same .pool) ∙ fine

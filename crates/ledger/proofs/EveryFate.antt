@@ -18,7 +18,8 @@ use Rattle.assembler.specs.View.{slotsFrom, slotsOf, headOf, flat, poolOf, zero
 use Rattle.ledger.specs.Ledger.{Ledger, ledgerOf, tells, tell, written, numbered, blank, tellOne, nothingMoved, opensIn, continuesIn, given, heldIn, openingAt, newMessage, left, full, itsTurn, grown, takenBy, keyHeld, late, free, sourceAt, freeOfSource, liveHeld, latestOf, ownBytes, framesBytes, announced, briefly, delivery, saying, sayingDue}
 use Rattle.ledger.specs.Ledger.{deedNumber, isOneOf, opens, begins, copies, ends, asNumber, howMany, did, openings, isSome, held, Delivered, Broken, Restarting, Reclaiming, NoSlot, Stray, BadSize, Unlisted, AtOnce}
 use Rattle.ledger.specs.Demand3.{Seen, inProgress}
-use Rattle.ledger.specs.Runs.{start, sourceOf, sourcesOf, sayingOf, receives, seenIn, seenAfter}
+use Rattle.ledger.specs.Runs.{start, sourceOf, sourcesOf, sayingOf, seenIn}
+use Rattle.ledger.specs.Assemblers.{receives, seenAfter}
 use Rattle.ledger.specs.Runs as run
 
 -- to unfold `ran` is to unfold all that its line names

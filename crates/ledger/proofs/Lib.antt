@@ -14,3 +14,4 @@ pub mod Parts
 pub mod Wrong
 pub mod TooLittle
 pub mod Keys
+pub mod Mixed

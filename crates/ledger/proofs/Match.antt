@@ -30,7 +30,7 @@ use Rattle.assembler.specs.View.{replyKind, replyPayload, replyLength}
 use Rattle.ledger.specs.Ledger.{Message, Place, idle, holds, heldIn, newMessage, grown, keyHeld, late, free, freeOfSource, liveHeld, takenBy, full, itsTurn, left}
 use Rattle.ledger.specs.Ledger.{Deed, Unlisted, BadSize, NoSlot, Stray, AtOnce, Opening, Restarting, Reclaiming, Copied, Delivered, Broken, deedNumber, isOneOf, openingAt}
 use Rattle.ledger.specs.Ledger.{Told, nothingMoved, opensIn, continuesIn, given, tellOne, framesBytes, ownBytes, announced, briefly, delivery, saying}
-use Rattle.ledger.specs.Runs.{replySays}
+use Rattle.ledger.specs.Assemblers.{replySays}
 use Rattle.ledger.proofs.Moves.{within-taken}
 use Rattle.ledger.proofs.Shows.{Shows, HeldSlot, room-of, held-source, key-same, late-same, free-same, freeOfSource-same, live-same, possible, reset-shows, opened-shows, copied-room, full-same, copied-shows, cut-same, copied-source, turn-same, short-cut, short-due, whole-due}
 

@@ -4,25 +4,30 @@
 use mathlib.Core.Bool.{Bool, true, false}
 use mathlib.Core.List.{List, [], _∷_, _++_, map, append-assoc, append-nil}
 use mathlib.Core.Path.{_≡_, refl, sym, ap, subst, _∙_}
-use Prim.Native.Nat.{ℕ, suc, _+_, _≤_, _<_}
+use Prim.Native.Nat.{ℕ, suc, _+_, _%_, _≤_, _<_}
 use native.Mathlib.Omega.{arith}
 use lib.ListN.{length, getD, drop, length-append}
 use lib.Seq.{drop-drop}
 use Rattle.base.specs.Pick.{pick}
 use Rattle.base.specs.Lists.{any}
+use Rattle.session.specs.declared.Counters.{Counters}
 use Rattle.session.specs.declared.Kind.{Kind}
 use Rattle.session.specs.declared.Kind.the-variants as kind
 use Rattle.session.specs.Rules.{Rules, base}
 use Rattle.assembler.specs.declared.Pool.{Pool}
 use Rattle.assembler.specs.Call.{Call}
-use Rattle.assembler.specs.View.{receiveOf}
+use Rattle.assembler.specs.Slots.{impossible}
+use Rattle.assembler.specs.View.{slotsOf, receiveOf}
+use Rattle.assembler.specs.Promises.{rulesOf}
 use Rattle.batch.specs.declared.Batch.{Batch}
-use Rattle.batch.specs.Rows.{Batches}
+use Rattle.batch.specs.Lengths.{tooShort}
+use Rattle.batch.specs.Rows.{Rows, runOf, leaves, refusedBy, batchOf, Batches}
 use Rattle.ledger.specs.Ledger.{Message, Entry, Ledger, tellOne, tell, tells, written, blank, ledgerOf, briefly, delivery, saying, sayingDue, Saying}
 use Rattle.ledger.specs.Ledger as book
 use Rattle.ledger.specs.Demand3.{Seen, Agreed, Closes}
-use Rattle.ledger.specs.Runs.{Empty, State, start, sourcesOf, seenIn, afterCall, afterBatch, callsOf, Called, batched, Ran, stop, on, Receive, receives}
-use Rattle.ledger.proofs.Demand3.{demand-3, ran-taken}
+use Rattle.ledger.specs.Runs.{Empty, State, start, sourcesOf, seenIn, afterCall, afterBatch, callsOf, Called, batched, Ran, stop, on}
+use Rattle.ledger.specs.Assemblers.{Receive, receives}
+use Rattle.ledger.proofs.Demand3.{demand-3, ran-taken, pool-possible}
 use mathlib.Core.Option.{Option, none, some}
 
 -- ---- runs after runs
@@ -72,6 +77,15 @@ answers-kept {z} {ds = ds} r = rw (ran-taken r .is) (said-kept (receiveOf base) 
 
 -- ---- what follows
 
+-- of a possible pool a batch is refused by 27 or not at all
+by-length : (list : List ℕ) (w : Rows) (p : Pool) (k : Counters) (kinds lengths arena : List ℕ) → impossible base (slotsOf p) ≡ false → batchOf base list w p k kinds lengths arena .answer .refused % 27 ≡ 0
+unfolding batchOf
+by-length list w p k kinds lengths arena e = rw e (go (tooShort (length (w .times)) (length (w .pgns)) (length (w .sources)) (length (w .bytes)) (length kinds) (length lengths)))
+  where
+    go : (b : Bool) → pick false (refusedBy 1 p k kinds lengths arena) (pick b (refusedBy 27 p k kinds lengths arena) (leaves (runOf base list w (length arena) p k) kinds lengths arena)) .answer .refused % 27 ≡ 0
+    go true = unfold pick refusedBy in refl
+    go false = unfold pick leaves in refl
+
 -- no answer that the ledger calls for is a refusal
 unfoldable pub saysRefused : Saying → Bool
 saysRefused a = refusal (a .kind)
@@ -104,6 +118,16 @@ none-refused (e ∷ es) = rw (saying-says (book.isOneOf (book.AtOnce ∷ book.De
 
 pub never-refused : {s : Seen} {L : Ledger} → Agreed s L → any saysRefused (s .said) ≡ false
 never-refused {L = L} a = rw (a .answers) (none-refused (L .entries))
+
+-- nor is a batch: what it is refused by, if anything, is 27
+pub batch-not-impossible : (p : Pool) → Empty p → {cs : List Call} {y : State} → Ran (start p) cs y → length cs ≤ 4294967295
+    → {list times pgns sources bytes kinds lengths arena : List ℕ} {r : Batch} {kinds′ lengths′ arena′ : List ℕ}
+    → Batches list times pgns sources bytes (y .pool) (y .counters) kinds lengths arena r kinds′ lengths′ arena′ → r .refused ≡ 1 → ⊥
+unfolding rulesOf
+batch-not-impossible p e {cs} {y} run l {list} {times} {pgns} {sources} {bytes} {kinds} {lengths} {arena} {r} h one =
+    let w : Rows = record { times = times; pgns = pgns; sources = sources; bytes = bytes } in
+    let refused : r .refused ≡ batchOf base list w (y .pool) (y .counters) kinds lengths arena .answer .refused = ap (λ (b : Batch). b .refused) (h .answer) in
+    omega (arith, one, refused, by-length list w (y .pool) (y .counters) kinds lengths arena (pool-possible p e run l))
 
 -- a batch after any run: it leaves the pool and counters that its frames call for; and what its rows of kinds and lengths and its arena say, with what was said
 -- before, is what the ledger with those frames calls for

@@ -18,7 +18,7 @@ use Rattle.assembler.specs.Call.{Call}
 use Rattle.assembler.specs.Slots.{Slot, Slots, within, slotAt, impossible, openedSlot, resetSlot, copiedSlot}
 use Rattle.assembler.specs.Step.{Event, notListed, rejected, shortMessage, poolFull, opened, stray, outOfTurn, copied, completed, eventOf, slotsAfter, markOf, Said, ignored, consumed, message, saidOf, Outcome, outcome, stepIf, step}
 use Rattle.assembler.specs.View.{slotsOf, shown, receiveOf}
-use Rattle.ledger.specs.Runs.{Receive}
+use Rattle.ledger.specs.Assemblers.{Receive}
 
 pub record Parts : Type 0 where
   -- the slot after a first frame opened it, and after a continuation was copied; the slots after a message was delivered at once; the slot after a frame out

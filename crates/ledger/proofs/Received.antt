@@ -19,9 +19,9 @@ use Rattle.assembler.specs.View.{slotsFrom, slotsOf, headOf, shown, receiveOf}
 use Rattle.assembler.proofs.Views.{Sized, none, more, sized-append, view-forth}
 use Rattle.assembler.proofs.Keeps.{sized-drop}
 use Rattle.ledger.specs.Ledger.{Ledger, Place, tellOne, tell, numbered, blank}
-use Rattle.ledger.specs.Demand3 as demand
-use Rattle.ledger.specs.Demand3.{AllOk}
-use Rattle.ledger.specs.Runs.{State, start, sourcesOf, sayingOf, afterCall, receives, seenIn, replySays, seenOf}
+use Rattle.ledger.specs.Assemblers as demand
+use Rattle.ledger.specs.Runs.{State, start, sourcesOf, sayingOf, afterCall, seenIn}
+use Rattle.ledger.specs.Assemblers.{AllOk, receives, replySays, seenOf}
 use Rattle.ledger.proofs.Shows.{Shows, room-of}
 use Rattle.ledger.proofs.Run.{Follows, begun, follows-call, step-rest, numbered-tell}
 

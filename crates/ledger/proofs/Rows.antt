@@ -29,8 +29,8 @@ use Rattle.batch.specs.Rows.{Rows, frameInRows, took, answerIn, runOf, over, le
 use Rattle.batch.specs.Calls.{callEach, joined}
 use Rattle.batch.proofs.Continues.{as-far}
 use Rattle.batch.proofs.Promised.{batched-by}
-use Rattle.ledger.specs.Demand3.{AllOk, none, more}
-use Rattle.ledger.specs.Runs.{State, sayingOf, afterCall, call, callsOf, kindOfNumber, saidInRows, afterBatch, receives}
+use Rattle.ledger.specs.Runs.{State, sayingOf, afterCall, call, callsOf, kindOfNumber, saidInRows, afterBatch}
+use Rattle.ledger.specs.Assemblers.{AllOk, none, more, receives}
 
 -- ---- an answer can be read off a row: its length is within its payload, the rest of which is zeros
 

@@ -24,8 +24,8 @@ use Rattle.assembler.specs.Runs.{World, afterOutcome, callOne, callAll}
 use Rattle.assembler.specs.View.{headOf}
 use Rattle.ledger.specs.Ledger.{Place, idle, holds, heldIn, late, Told, tellOne, Ledger, numbered, written, tell, tells, blank, ledgerOf, sayingDue}
 use Rattle.ledger.specs.Ledger.{Deed, Unlisted, BadSize, NoSlot, Stray, AtOnce, Opening, Restarting, Reclaiming, Copied, Delivered, Broken, deedNumber, isOneOf, asNumber, howMany, did, isSome, held}
-use Rattle.ledger.specs.Demand3.{inProgress, Agreed, AllOk, none, more}
-use Rattle.ledger.specs.Runs.{replySays, seenOf}
+use Rattle.ledger.specs.Demand3.{inProgress, Agreed}
+use Rattle.ledger.specs.Assemblers.{AllOk, none, more, replySays, seenOf}
 use Rattle.ledger.proofs.Moves.{moves}
 use Rattle.ledger.proofs.Shows.{Shows}
 use Rattle.ledger.proofs.Match.{all-possible, markOf, Match, match}
@@ -154,8 +154,8 @@ agreed R kept cs w f =
     record {
       answers = f .answers;
       own = o .own;
-      sum = five-counts (ledgerOf R kept cs) (o .balance);
-      fates = one-fate (ledgerOf R kept cs) (o .balance);
+      five-counts-add-up = five-counts (ledgerOf R kept cs) (o .balance);
+      exactly-one-fate = one-fate (ledgerOf R kept cs) (o .balance);
       holding =
           all2-total (λ (p : Place). asNumber (isSome (heldIn p))) (λ (s : Slot). asNumber (s .head .«in_progress»)) (held-busy R) (f .shows)
           ∙ total-heads (λ (h : Head). asNumber (h .«in_progress»)) (within (w .pool));

@@ -19,8 +19,8 @@ use Rattle.assembler.specs.Slots.{Slot, resetSlot}
 use Rattle.assembler.specs.Making.{freshPool}
 use Rattle.assembler.specs.View.{receiveOf}
 use Rattle.ledger.specs.Demand3.{Seen}
-use Rattle.ledger.specs.Runs.{Receive, State, start, afterCall, receives, seenIn, seenAfter}
-use Rattle.ledger.specs.Demand2.{Demand2, OneKind, NeverStores}
+use Rattle.ledger.specs.Runs.{State, start, afterCall, seenIn}
+use Rattle.ledger.specs.Assemblers.{Receive, receives, seenAfter, Demand2, OneKind, NeverStores}
 use Rattle.ledger.proofs.EveryFate.{ran, frame, announces, goes-on}
 use Rattle.ledger.proofs.Trials.{pair, lastByte}
 use Rattle.ledger.proofs.Parts.{Parts, untouched, slotsBy, markBy, saidBy, outcomeBy, stepBy, by}

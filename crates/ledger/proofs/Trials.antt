@@ -7,7 +7,7 @@ use lib.ListN.{getD}
 use lib.Dec.{lit<}
 use Rattle.assembler.specs.Call.{Call, CallOk}
 use Rattle.ledger.specs.Ledger.{Saying}
-use Rattle.ledger.specs.Demand3.{AllOk, none, more}
+use Rattle.ledger.specs.Assemblers.{AllOk, none, more}
 use Rattle.ledger.proofs.EveryFate.{frame, announces, goes-on}
 
 announces-ok : (n now from : ℕ) → CallOk (announces n now from)

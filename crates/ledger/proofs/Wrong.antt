@@ -22,8 +22,9 @@ use Rattle.assembler.specs.Slots.{Slot, openedSlot, resetSlot, copiedSlot}
 use Rattle.assembler.specs.Making.{freshPool}
 use Rattle.assembler.specs.View.{zeros, receiveOf}
 use Rattle.ledger.specs.Ledger.{sayingDue, ledgerOf, did, held, Broken, Reclaiming}
-use Rattle.ledger.specs.Demand3.{Demand3, inProgress}
-use Rattle.ledger.specs.Runs.{Receive, sourcesOf, seenAfter}
+use Rattle.ledger.specs.Demand3.{inProgress}
+use Rattle.ledger.specs.Runs.{sourcesOf}
+use Rattle.ledger.specs.Assemblers.{Demand3, Receive, seenAfter}
 use Rattle.ledger.proofs.EveryFate.{ran, told, frame, announces, goes-on}
 use Rattle.ledger.proofs.Trials.{pair, pair-ok, twice, twice-ok, firsts, firsts-ok, lastLength, lastByte}
 use Rattle.ledger.proofs.Parts.{Parts, wholeOf, untouched, slotsBy, markBy, saidBy, outcomeBy, stepBy, by}

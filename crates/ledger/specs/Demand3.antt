@@ -2,15 +2,14 @@
 use mathlib.Core.Bool.{Bool, not, _&&_, _||_}
 use mathlib.Core.List.{List, [], _∷_, map}
 use mathlib.Core.Path.{_≡_}
-use Prim.Native.Nat.{ℕ, _+_, _≤_}
-use lib.ListN.{length}
+use Prim.Native.Nat.{ℕ, _+_}
 use Rattle.base.specs.Lists.{any}
 use Rattle.session.specs.declared.Head.{Head}
 use Rattle.session.specs.declared.Counters.{Counters}
 use Rattle.session.specs.Rules.{Rules}
 use Rattle.session.specs.Heads.{hasKey, isSilent}
-use Rattle.assembler.specs.Call.{Call, CallOk, isOpener}
-use Rattle.ledger.specs.Ledger.{Ledger, Saying, nextDeed, sayingDue, OwnBook, ledgerOf, opens, isOneOf, asNumber, howMany, did, openings, held, wasOpened, fatesOf, Delivered, Broken, Restarting, Reclaiming, NoSlot, Stray, BadSize, Unlisted}
+use Rattle.assembler.specs.Call.{Call, isOpener}
+use Rattle.ledger.specs.Ledger.{Ledger, Saying, nextDeed, sayingDue, OwnBook, opens, isOneOf, asNumber, howMany, did, openings, held, wasOpened, fatesOf, Delivered, Broken, Restarting, Reclaiming, NoSlot, Stray, BadSize, Unlisted}
 
 -- what is seen after a run: all that was said, the latest first; the heads of the slots within the size; the counters
 pub record Seen : Type 0 where
@@ -28,9 +27,9 @@ pub record Agreed (s : Seen) (L : Ledger) : Type 0 where
   -- ... and its own frames are the one that began it and all that were copied for it, by the book
   pub own : OwnBook (L .entries)
   -- the five counts add up to those opened
-  pub sum : did Delivered L + did Broken L + did Restarting L + did Reclaiming L + held L ≡ openings L
-  -- each opened message has exactly one fate
-  pub fates : (k : ℕ) → fatesOf k L ≡ asNumber (wasOpened k L)
+  pub five-counts-add-up : did Delivered L + did Broken L + did Restarting L + did Reclaiming L + held L ≡ openings L
+  -- each opened message has exactly one fate, and a number that was not opened has none
+  pub exactly-one-fate : (k : ℕ) → fatesOf k L ≡ asNumber (wasOpened k L)
   -- held is the slots in progress
   pub holding : held L ≡ inProgress (s .heads)
   -- the counters
@@ -54,13 +53,3 @@ pub record Admitted (R : Rules) (s : Seen) (L : Ledger) (c : Call) : Type 0 wher
 pub record Closes (R : Rules) (s : Seen) (L : Ledger) : Type 0 where
   pub agreed : Agreed s L
   pub admitted : (c : Call) → Admitted R s L c
-
--- each call is given eight bytes
-pub data AllOk : List Call → Type 0 where
-  none : AllOk []
-  more : {c : Call} {cs : List Call} → CallOk c → AllOk cs → AllOk (c ∷ cs)
-
--- Of what is seen after each run of single calls, from slots that are idle and keep these sources. Every moment of a run is the end of a shorter one, so this is
--- said of every moment. (The theorem `demand-3` is about runs of all the public calls, as Runs.antt has them.)
-unfoldable pub Demand3 : Rules → List ℕ → (List Call → Seen) → Type 0
-Demand3 R kept seen = (cs : List Call) → AllOk cs → length cs ≤ 4294967295 → Closes R (seen cs) (ledgerOf R kept cs)

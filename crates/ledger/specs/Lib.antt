@@ -1,4 +1,4 @@
 pub mod Ledger
 pub mod Demand3
 pub mod Runs
-pub mod Demand2
+pub mod Assemblers

@@ -10,7 +10,7 @@ use Rattle.session.specs.declared.Heard.{Heard}
 use Rattle.session.specs.declared.Counters.{Counters}
 use Rattle.session.specs.declared.Kind.{Kind}
 use Rattle.session.specs.declared.Kind.the-variants.{Refused, Ignored, FragmentConsumed, MessageComplete}
-use Rattle.session.specs.Rules.{Rules, poolLimit}
+use Rattle.session.specs.Rules.{poolLimit}
 use Rattle.session.specs.Counting.{freshCounters}
 use Rattle.assembler.specs.declared.Pool.{Pool}
 use Rattle.assembler.specs.declared.Arrival.{Arrival}
@@ -18,11 +18,8 @@ use Rattle.assembler.specs.declared.ArrivalWithLength.{ArrivalWithLength}
 use Rattle.assembler.specs.declared.Received.{Received}
 use Rattle.assembler.specs.declared.Processed.{Processed}
 use Rattle.assembler.specs.Call.{Call, CallOk}
-use Rattle.assembler.specs.Slots.{within}
-use Rattle.assembler.specs.Step.{Reply, padded}
-use Rattle.assembler.specs.Runs.{Assembler, World, freshWorld, callAll}
+use Rattle.assembler.specs.Step.{padded}
 use Rattle.assembler.specs.Making.{poolBytes}
-use Rattle.assembler.specs.View.{headOf, replyKind, replyPayload, replyLength}
 use Rattle.assembler.specs.Arrivals.{heardOf, heardWithLength}
 use Rattle.assembler.specs.Promises.{Receives, ReceivesWithLength, Processes, ProcessesWithLength}
 use Rattle.batch.specs.declared.Batch.{Batch}
@@ -94,15 +91,18 @@ afterBatch z r kinds lengths arena = record { pool = r .pool; counters = r .coun
 
 -- A public call that keeps its promise: the frames that it heard, and the state that it leaves. Where its bytes come from outside, they are what their type says.
 pub data Called (z : State) : List Call → State → Type 0 where
+  -- `receive`, and `process_frame_through`
   received : (pgns : List ℕ) (a : Arrival) {r : Received} → CallOk (call pgns (heardOf a)) → Receives pgns a (z .pool) (z .counters) r
       → Called z (call pgns (heardOf a) ∷ []) (afterCall z r)
+  -- `receive_with_length`, and `process_frame_with_length_through`
   receivedWithLength : (pgns : List ℕ) (x : ArrivalWithLength) {r : Received} → CallOk (call pgns (heardOf (x .arrival))) → ReceivesWithLength pgns x (z .pool) (z .counters) r
       → Called z (call pgns (heardWithLength x) ∷ []) (afterCall z r)
+  -- `process_frame`, and `process_frame_with_length`
   processed : (pgns : List ℕ) (a : Arrival) {r : Processed} {after : Counters} → CallOk (call pgns (heardOf a)) → Processes pgns a (z .pool) (z .counters) r after
       → Called z (call pgns (heardOf a) ∷ []) (afterLent z r after)
   processedWithLength : (pgns : List ℕ) (x : ArrivalWithLength) {r : Processed} {after : Counters} → CallOk (call pgns (heardOf (x .arrival))) → ProcessesWithLength pgns x (z .pool) (z .counters) r after
       → Called z (call pgns (heardWithLength x) ∷ []) (afterLent z r after)
-  -- also one that is refused, which takes no frame
+  -- `process_frames`, also where it is refused and takes no frame
   batched : {list times pgns sources bytes kinds lengths arena : List ℕ} {r : Batch} {kinds′ lengths′ arena′ : List ℕ} → ((i : ℕ) → getD bytes i 0 < 256)
       → Batches list times pgns sources bytes (z .pool) (z .counters) kinds lengths arena r kinds′ lengths′ arena′
       → Called z (callsOf list (record { times = times; pgns = pgns; sources = sources; bytes = bytes }) (r .taken) 0) (afterBatch z r kinds′ lengths′ arena′)
@@ -112,24 +112,3 @@ pub data Called (z : State) : List Call → State → Type 0 where
 pub data Ran : State → List Call → State → Type 0 where
   stop : {z : State} → Ran z [] z
   on : {z x y : State} {cs ds : List Call} → Called z cs x → Ran x ds y → Ran z (cs ++ ds) y
-
--- ---- runs of any assembler by value, and of the steps over slots
-
-abbrev pub Receive : Type 0
-Receive = List ℕ → Heard → Pool → Counters → Received
-
-unfoldable pub receives : Receive → State → List Call → State
-receives f z [] = z
-receives f z (c ∷ cs) = receives f (afterCall z (f (c .pgns) (c .heard) (z .pool) (z .counters))) cs
-
-unfoldable pub seenAfter : Receive → Pool → List Call → Seen
-seenAfter f p cs = seenIn (receives f (start p) cs)
-
-unfoldable pub replySays : Reply → Saying
-replySays r = record { kind = replyKind r; payload = replyPayload r; length = replyLength r }
-
-unfoldable pub seenOf : World → Seen
-seenOf w = record { said = map replySays (w .replies); heads = map headOf (within (w .pool)); counters = w .counters }
-
-unfoldable pub stepped : Assembler → Rules → ℕ → List Call → Seen
-stepped f R n cs = seenOf (callAll f (freshWorld R n) cs)

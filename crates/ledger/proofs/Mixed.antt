@@ -1,0 +1,96 @@
+-- A run of mixed calls: `process_frame` hears the first frame of a message of twenty bytes, `receive_with_length` its first continuation, `process_frames` its
+-- second, and the batch delivers it in its arena. The run exists, and what it says is computed.
+-- Assumes nothing.
+use mathlib.Core.List.{List, [], _∷_, _++_}
+use mathlib.Core.Path.{_≡_, refl}
+use Prim.Native.Nat.{ℕ, zero, suc, _<_}
+use lib.ListN.{length, getD, replicate}
+use lib.Dec.{lit<}
+use Rattle.base.specs.Lists.{fill}
+use Rattle.fast_packet.specs.FastPacket.{filledFrom}
+use Rattle.session.specs.declared.Kind.the-variants.{FragmentConsumed, MessageComplete}
+use Rattle.session.specs.Kinds.{kindNumber}
+use Rattle.session.specs.Rules.{base}
+use Rattle.assembler.specs.declared.Arrival.{Arrival}
+use Rattle.assembler.specs.declared.ArrivalWithLength.{ArrivalWithLength}
+use Rattle.assembler.specs.declared.Received.{Received}
+use Rattle.assembler.specs.Call.{Call}
+use Rattle.assembler.specs.Step.{padded}
+use Rattle.assembler.specs.Making.{freshPool}
+use Rattle.assembler.specs.View.{receiveOf}
+use Rattle.assembler.specs.Arrivals.{heardOf, heardWithLength}
+use Rattle.assembler.specs.Promises.{rulesOf}
+use Rattle.assembler.specs.inner.Forms.{processedOf}
+use Rattle.assembler.proofs.Promised.{promised, process-promised}
+use Rattle.batch.specs.Rows as rows
+use Rattle.batch.specs.Rows.{Rows, frameInRows, BatchLeft, batchOf, runFrom, runOf, took, answerIn, over, leaves, refusedBy}
+use Rattle.batch.specs.Lengths.{tooShort}
+use Rattle.batch.proofs.Promised.{batched}
+use Rattle.ledger.specs.Ledger.{briefly}
+use Rattle.ledger.specs.Runs.{State, start, call, afterCall, afterLent, callsOf, kindOfNumber, saidInRows, afterBatch, receivedWithLength, processed, Ran, stop, on}
+use Rattle.ledger.specs.Runs as run
+use Rattle.ledger.proofs.EveryFate.{ran}
+
+abbrev list : List ℕ
+list = 127489 ∷ []
+
+unfoldable pub arrives : ℕ → List ℕ → Arrival
+arrives at bytes = record { «now_ms» = at; pgn = 127489; «source_address» = 35; «data» = bytes }
+
+unfoldable pub first : Arrival
+first = arrives 0 (0 ∷ 20 ∷ 1 ∷ 2 ∷ 3 ∷ 4 ∷ 5 ∷ 6 ∷ [])
+
+-- of nine bytes sent, eight are kept
+unfoldable pub second : ArrivalWithLength
+second = record { arrival = arrives 1 (1 ∷ 7 ∷ 8 ∷ 9 ∷ 10 ∷ 11 ∷ 12 ∷ 13 ∷ []); length = 9 }
+
+unfoldable pub third : Rows
+third = record { times = 2 ∷ []; pgns = 127489 ∷ []; sources = 35 ∷ []; bytes = 2 ∷ 14 ∷ 15 ∷ 16 ∷ 17 ∷ 18 ∷ 19 ∷ 20 ∷ [] }
+
+-- the state after each of the three
+unfoldable pub afterFirst : State
+afterFirst =
+    let r : Received = receiveOf base list (heardOf first) (freshPool 1) (start (freshPool 1) .counters) in afterLent (start (freshPool 1)) (processedOf r) (r .counters)
+
+unfoldable pub afterSecond : State
+afterSecond = afterCall afterFirst (receiveOf base list (heardWithLength second) (afterFirst .pool) (afterFirst .counters))
+
+unfoldable pub batch : BatchLeft
+batch = batchOf base list third (afterSecond .pool) (afterSecond .counters) (0 ∷ []) (0 ∷ []) (replicate 20 0)
+
+unfoldable pub afterThird : State
+afterThird = afterBatch afterSecond (batch .answer) (batch .kinds) (batch .lengths) (batch .arena)
+
+unfoldable pub calls : List Call
+calls = (call list (heardOf first) ∷ []) ++ ((call list (heardWithLength second) ∷ []) ++ (callsOf list third (batch .answer .taken) 0 ++ []))
+
+-- every number of a row is a byte
+record Bytes (l : List ℕ) : Type 0 where
+  small : (i : ℕ) → getD l i 0 < 256
+
+none : Bytes []
+none = record { small = λ i. lit< tt }
+
+more : {b : ℕ} {l : List ℕ} → b < 256 → Bytes l → Bytes (b ∷ l)
+more {b} {l} h k = record { small = go }
+  where
+    go : (i : ℕ) → getD (b ∷ l) i 0 < 256
+    go zero = h
+    go (suc i) = k .small i
+
+low : Bytes (third .bytes)
+unfolding third
+low = more (lit< tt) (more (lit< tt) (more (lit< tt) (more (lit< tt) (more (lit< tt) (more (lit< tt) (more (lit< tt) (more (lit< tt) none)))))))
+
+pub mixed : Ran (start (freshPool 1)) calls afterThird
+unfolding calls afterThird afterSecond afterFirst batch rulesOf start
+mixed =
+    on (processed list first (unfold heardOf first arrives in record { eight = refl; byte = lit< tt }) (process-promised list (heardOf first) (freshPool 1) _ refl refl))
+    (on (receivedWithLength list second (unfold heardOf second arrives in record { eight = refl; byte = lit< tt }) (promised list (heardWithLength second) _ _ refl))
+    (on (run.batched (low .small) (batched refl)) stop))
+
+pub mixed-says : afterThird .said
+    ≡ record { kind = MessageComplete; payload = padded (1 ∷ 2 ∷ 3 ∷ 4 ∷ 5 ∷ 6 ∷ 7 ∷ 8 ∷ 9 ∷ 10 ∷ 11 ∷ 12 ∷ 13 ∷ 14 ∷ 15 ∷ 16 ∷ 17 ∷ 18 ∷ 19 ∷ 20 ∷ []); length = 20 }
+    ∷ briefly FragmentConsumed ∷ briefly FragmentConsumed ∷ []
+unfolding ran afterThird afterSecond afterFirst batch first second third arrives heardOf heardWithLength filledFrom fill afterLent afterBatch saidInRows kindOfNumber kindNumber batchOf runFrom runOf took answerIn over leaves refusedBy tooShort frameInRows rows.emptyRun briefly
+mixed-says = refl
