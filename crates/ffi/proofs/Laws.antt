@@ -98,9 +98,9 @@ unfolding builderOfParts
 parts-by priority pgn source d f g =
     g ∙ ap (λ (x : Destination). buildOf (record { priority = priority; pgn = pgn; «source_address» = source; destination = x })) f
 
-pub set-by : (pgn source priority d : ℕ) {b c e : CanIdBuilder} → b ≡ newIdBuilder pgn source → c ≡ setPriority priority b → e ≡ setDestination d c → e ≡ setOf pgn source priority d
+pub set-by : (pgn source priority d : ℕ) {b c e : CanIdBuilder} → b ≡ newIdBuilder pgn source → c ≡ setPriority b priority → e ≡ setDestination c d → e ≡ setOf pgn source priority d
 unfolding setOf
-set-by pgn source priority d f g h = h ∙ ap (setDestination d) (g ∙ ap (setPriority priority) f)
+set-by pgn source priority d f g h = h ∙ ap (λ (x : CanIdBuilder). setDestination x d) (g ∙ ap (λ (x : CanIdBuilder). setPriority x priority) f)
 
 -- ---- what an answer leaves, by what the answer is
 pub left-by : {r s : Received} {before after : CallMemory} {code : ℕ} → CallLeft r before code after → r ≡ s → CallLeft s before code after

@@ -24,14 +24,14 @@ unfoldable pub builderOfParts : ℕ → ℕ → ℕ → ℕ → CanIdBuilder
 builderOfParts priority pgn source destination = record { priority = priority; pgn = pgn; «source_address» = source; destination = toAddress destination }
 
 -- a fresh builder, with the priority and the destination set where they are below 256
-unfoldable pub setPriority : ℕ → CanIdBuilder → CanIdBuilder
-setPriority p b = pick (ltb p 256) (idWithPriority b p) b
+unfoldable pub setPriority : CanIdBuilder → ℕ → CanIdBuilder
+setPriority b p = pick (ltb p 256) (idWithPriority b p) b
 
-unfoldable pub setDestination : ℕ → CanIdBuilder → CanIdBuilder
-setDestination d b = pick (ltb d 256) (idWithDestination b d) b
+unfoldable pub setDestination : CanIdBuilder → ℕ → CanIdBuilder
+setDestination b d = pick (ltb d 256) (idWithDestination b d) b
 
 unfoldable pub setOf : ℕ → ℕ → ℕ → ℕ → CanIdBuilder
-setOf pgn source priority destination = setDestination destination (setPriority priority (newIdBuilder pgn source))
+setOf pgn source priority destination = setDestination (setPriority (newIdBuilder pgn source) priority) destination
 
 -- a fresh builder, with both set
 unfoldable pub bothOf : ℕ → ℕ → ℕ → ℕ → CanIdBuilder

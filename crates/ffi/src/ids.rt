@@ -72,7 +72,7 @@ pub extern "C" fn hf_can_id_build(
 }
 
 fn set_priority(b: CanIdBuilder, priority: u16) -> CanIdBuilder
-    ensures { λ r. ⌜ r ≡ setPriority priority b ⌝ }
+    ensures { λ r. ⌜ r ≡ setPriority b priority ⌝ }
 {
     if priority < 256 {
         return b.with_priority(priority as u8);
@@ -81,7 +81,7 @@ fn set_priority(b: CanIdBuilder, priority: u16) -> CanIdBuilder
 }
 
 fn set_destination(b: CanIdBuilder, destination: u16) -> CanIdBuilder
-    ensures { λ r. ⌜ r ≡ setDestination destination b ⌝ }
+    ensures { λ r. ⌜ r ≡ setDestination b destination ⌝ }
 {
     if destination < 256 {
         return b.to_destination(destination as u8);
