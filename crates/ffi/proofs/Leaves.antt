@@ -158,12 +158,12 @@ module _ (size : ℕ) (pgns : List ℕ) (before : CallMemory) (long : length (be
       ∙ ap (λ (p : Pool). refusal p counts) (pool-back size (before .heads) (before .bytes) long))
       l)
 
-  -- `hf_process_frame` and `hf_receive`
+  -- `hf_raw_process_frame` and `hf_raw_receive`
   pub refused-leaves : (a : Arrival) {code : ℕ} {after : CallMemory} → FrameLeft size pgns a before code after → code < 100 → Untouched before after
   unfolding receivedIn poolIn
   refused-leaves a = by-call (heardOf a)
 
-  -- `hf_process_frame_with_length`
+  -- `hf_raw_process_frame_with_length`
   pub refused-with-length-leaves : (x : ArrivalWithLength) {code : ℕ} {after : CallMemory} → FrameWithLengthLeft size pgns x before code after → code < 100 → Untouched before after
   unfolding receivedWithLengthIn poolIn
   refused-with-length-leaves x = by-call (heardWithLength x)
@@ -201,12 +201,12 @@ module _ (before : BatchMemory) (code : ℕ) (after : BatchMemory) where
     unfolding leaves
     by-run z l h = absurd (h (l .told))
 
-    -- `hf_process_frames`
+    -- `hf_raw_process_frames`
     pub refused-batch-leaves : (pgns : List ℕ) (rows : Rows) → FramesLeft size pgns rows before code after → (code ≡ 0 → ⊥) → BatchUntouched before after
     unfolding batchIn batchOf
     refused-batch-leaves pgns rows = pick-all Leaves _ (by-refusal 1) (pick-all Leaves _ (by-refusal 27) (by-run _))
 
--- ---- making a pool: `hf_pool_new`
+-- ---- making a pool: `hf_raw_pool_new`
 pub refused-making-leaves : (wanted : ℕ) (before : PoolMemory) (code : ℕ) (after : PoolMemory) → NewPoolLeft wanted before code after → (code ≡ 0 → ⊥)
     → (after .heads ≡ before .heads) × (after .bytes ≡ before .bytes)
 refused-making-leaves wanted before code after l h =

@@ -60,22 +60,22 @@ module _ (pgn source priority destination r s v w : ℕ) where
   hf-can-id-build-to-unique = answers
 
 -- ---- frames
-pub hf-builder-new-unique : (pgn source destination : ℕ) (payload pgns : List ℕ) (held r s : ℕ) (v w : List ℕ)
+pub hf-raw-builder-new-unique : (pgn source destination : ℕ) (payload pgns : List ℕ) (held r s : ℕ) (v w : List ℕ)
     → NewBuilderLeft pgn source destination payload pgns held r v → NewBuilderLeft pgn source destination payload pgns held s w → (r ≡ s) × (v ≡ w)
-hf-builder-new-unique pgn source destination payload pgns held r s v w p q = (determined (p .told) (q .told), determined (p .made) (q .made))
+hf-raw-builder-new-unique pgn source destination payload pgns held r s v w p q = (determined (p .told) (q .told), determined (p .made) (q .made))
 
 module _ (builder v w : List ℕ) where
-  pub hf-builder-with-sequence-id-unique : (x : ℕ) → v ≡ sequenceSet builder x → w ≡ sequenceSet builder x → v ≡ w
-  hf-builder-with-sequence-id-unique x = determined
+  pub hf-raw-builder-with-sequence-id-unique : (x : ℕ) → v ≡ sequenceSet builder x → w ≡ sequenceSet builder x → v ≡ w
+  hf-raw-builder-with-sequence-id-unique x = determined
 
-  pub hf-builder-with-priority-unique : (x : ℕ) → v ≡ prioritySet builder x → w ≡ prioritySet builder x → v ≡ w
-  hf-builder-with-priority-unique x = determined
+  pub hf-raw-builder-with-priority-unique : (x : ℕ) → v ≡ prioritySet builder x → w ≡ prioritySet builder x → v ≡ w
+  hf-raw-builder-with-priority-unique x = determined
 
-  pub hf-builder-to-destination-unique : (x : ℕ) → v ≡ destinationSet builder x → w ≡ destinationSet builder x → v ≡ w
-  hf-builder-to-destination-unique x = determined
+  pub hf-raw-builder-to-destination-unique : (x : ℕ) → v ≡ destinationSet builder x → w ≡ destinationSet builder x → v ≡ w
+  hf-raw-builder-to-destination-unique x = determined
 
-  pub hf-builder-build-unique : v ≡ startedPlace builder → w ≡ startedPlace builder → v ≡ w
-  hf-builder-build-unique = determined
+  pub hf-raw-builder-build-unique : v ≡ startedPlace builder → w ≡ startedPlace builder → v ≡ w
+  hf-raw-builder-build-unique = determined
 
 -- lent memory whose parts are equal is equal
 frames-same : (a b : FrameMemory) → a .bytes ≡ b .bytes → a .numbers ≡ b .numbers → a .place ≡ b .place → a ≡ b
@@ -84,16 +84,16 @@ frames-same a b x y z =
     ∙ ap (λ (u : List ℕ). record { bytes = b .bytes; numbers = u; place = a .place }) y
     ∙ ap (λ (u : List ℕ). record { bytes = b .bytes; numbers = b .numbers; place = u }) z
 
-pub hf-next-frame-unique : (builder : List ℕ) (index sent : ℕ) (payload : List ℕ) (r s : ℕ) (a b : FrameMemory)
+pub hf-raw-next-frame-unique : (builder : List ℕ) (index sent : ℕ) (payload : List ℕ) (r s : ℕ) (a b : FrameMemory)
     → NextFrameLeft builder index sent payload r a → NextFrameLeft builder index sent payload s b → (r ≡ s) × (a ≡ b)
-hf-next-frame-unique builder index sent payload r s a b p q = (
+hf-raw-next-frame-unique builder index sent payload r s a b p q = (
   determined (p .asked .told) (q .asked .told),
   frames-same a b (determined (p .asked .filled) (q .asked .filled)) (determined (p .asked .named) (q .asked .named)) (determined (p .follows) (q .follows)),
 )
 
-pub hf-frame-iterator-next-unique : (builder payload place : List ℕ) (r s : ℕ) (a b : FrameMemory)
+pub hf-raw-frame-iterator-next-unique : (builder payload place : List ℕ) (r s : ℕ) (a b : FrameMemory)
     → TurnLeft builder payload place r a → TurnLeft builder payload place s b → (r ≡ s) × (a ≡ b)
-hf-frame-iterator-next-unique builder payload place r s a b p q = (
+hf-raw-frame-iterator-next-unique builder payload place r s a b p q = (
   determined (p .asked .told) (q .asked .told),
   frames-same a b (determined (p .asked .filled) (q .asked .filled)) (determined (p .asked .named) (q .asked .named)) (determined (p .goes-on) (q .goes-on)),
 )
@@ -109,20 +109,20 @@ pub hf-handles-unique : (pgn : ℕ) (pgns : List ℕ) (r s : Bool) → r ≡ lis
 hf-handles-unique pgn pgns r s = determined
 
 -- ---- the pool and the receive calls: what is returned, and all that was lent
-pub hf-pool-new-unique : (wanted : ℕ) (before : PoolMemory) (r s : ℕ) (a b : PoolMemory) → NewPoolLeft wanted before r a → NewPoolLeft wanted before s b → (r ≡ s) × (a ≡ b)
-hf-pool-new-unique wanted before r s a b = leave-made-unique _ before r s a b
+pub hf-raw-pool-new-unique : (wanted : ℕ) (before : PoolMemory) (r s : ℕ) (a b : PoolMemory) → NewPoolLeft wanted before r a → NewPoolLeft wanted before s b → (r ≡ s) × (a ≡ b)
+hf-raw-pool-new-unique wanted before r s a b = leave-made-unique _ before r s a b
 
-pub hf-pool-default-unique : (before : PoolMemory) (r s : ℕ) (a b : PoolMemory) → DefaultPoolLeft before r a → DefaultPoolLeft before s b → (r ≡ s) × (a ≡ b)
-hf-pool-default-unique before r s a b = leave-made-unique _ before r s a b
+pub hf-raw-pool-default-unique : (before : PoolMemory) (r s : ℕ) (a b : PoolMemory) → DefaultPoolLeft before r a → DefaultPoolLeft before s b → (r ≡ s) × (a ≡ b)
+hf-raw-pool-default-unique before r s a b = leave-made-unique _ before r s a b
 
 module _ (size : ℕ) (pgns : List ℕ) (before : CallMemory) (r s : ℕ) (a b : CallMemory) where
-  -- of `hf_receive` too
-  pub hf-process-frame-unique : (arrival : Arrival) → FrameLeft size pgns arrival before r a → FrameLeft size pgns arrival before s b → (r ≡ s) × (a ≡ b)
-  hf-process-frame-unique arrival = leave-unique _ before r s a b
+  -- of `hf_raw_receive` too
+  pub hf-raw-process-frame-unique : (arrival : Arrival) → FrameLeft size pgns arrival before r a → FrameLeft size pgns arrival before s b → (r ≡ s) × (a ≡ b)
+  hf-raw-process-frame-unique arrival = leave-unique _ before r s a b
 
-  pub hf-process-frame-with-length-unique : (x : ArrivalWithLength)
+  pub hf-raw-process-frame-with-length-unique : (x : ArrivalWithLength)
       → FrameWithLengthLeft size pgns x before r a → FrameWithLengthLeft size pgns x before s b → (r ≡ s) × (a ≡ b)
-  hf-process-frame-with-length-unique x = leave-unique _ before r s a b
+  hf-raw-process-frame-with-length-unique x = leave-unique _ before r s a b
 
 batches-same : (a b : BatchMemory) → a .heads ≡ b .heads → a .bytes ≡ b .bytes → a .counters ≡ b .counters → a .kinds ≡ b .kinds → a .lengths ≡ b .lengths → a .arena ≡ b .arena → a .counts ≡ b .counts → a ≡ b
 batches-same a b h y c k l r t =
@@ -134,9 +134,9 @@ batches-same a b h y c k l r t =
     ∙ ap (λ (x : List ℕ). record { heads = b .heads; bytes = b .bytes; counters = b .counters; kinds = b .kinds; lengths = b .lengths; arena = x; counts = a .counts }) r
     ∙ ap (λ (x : List ℕ). record { heads = b .heads; bytes = b .bytes; counters = b .counters; kinds = b .kinds; lengths = b .lengths; arena = b .arena; counts = x }) t
 
-pub hf-process-frames-unique : (size : ℕ) (pgns : List ℕ) (rows : Rows) (before : BatchMemory) (r s : ℕ) (a b : BatchMemory)
+pub hf-raw-process-frames-unique : (size : ℕ) (pgns : List ℕ) (rows : Rows) (before : BatchMemory) (r s : ℕ) (a b : BatchMemory)
     → FramesLeft size pgns rows before r a → FramesLeft size pgns rows before s b → (r ≡ s) × (a ≡ b)
-hf-process-frames-unique size pgns rows before r s a b p q = (
+hf-raw-process-frames-unique size pgns rows before r s a b p q = (
   determined (p .told) (q .told),
   batches-same a b (determined (p .kept) (q .kept)) (determined (p .stored) (q .stored)) (determined (p .counted) (q .counted)) (determined (p .answered) (q .answered)) (determined (p .measured) (q .measured)) (determined (p .delivered) (q .delivered)) (determined (p .taken) (q .taken)),
 )

@@ -33,6 +33,6 @@ batchIn size pgns rows before =
     let p : Pool = poolFrom size (before .heads) (before .bytes) in
     batchOf (rulesOf p) pgns rows p (countersFrom (before .counters)) (before .kinds) (before .lengths) (before .arena)
 
--- `hf_process_frames`
+-- `hf_raw_process_frames`
 abbrev pub FramesLeft : ℕ → List ℕ → Rows → BatchMemory → ℕ → BatchMemory → Type 0
 FramesLeft size pgns rows before code after = BatchMemoryLeft (batchIn size pgns rows before) before code after

@@ -12,11 +12,11 @@ use Rattle.assembler.specs.declared.ArrivalWithLength.{ArrivalWithLength}
 use Rattle.numbers.specs.Pool.{poolFrom, countersFrom, CallMemory, CallLeft, PoolMemory, PoolLeft}
 
 -- ---- a pool made
--- `hf_pool_new`
+-- `hf_raw_pool_new`
 abbrev pub NewPoolLeft : ℕ → PoolMemory → ℕ → PoolMemory → Type 0
 NewPoolLeft wanted before code after = PoolLeft (newPool wanted) before code after
 
--- `hf_pool_default`: "4 by default", never refused
+-- `hf_raw_pool_default`: "4 by default", never refused
 abbrev pub DefaultPoolLeft : PoolMemory → ℕ → PoolMemory → Type 0
 DefaultPoolLeft before code after = PoolLeft (record { refused = 0; pool = freshPool 4 }) before code after
 
@@ -30,10 +30,10 @@ receivedIn size pgns a before = receiveOf (rulesOf (poolIn size before)) pgns (h
 unfoldable pub receivedWithLengthIn : ℕ → List ℕ → ArrivalWithLength → CallMemory → Received
 receivedWithLengthIn size pgns x before = receiveOf (rulesOf (poolIn size before)) pgns (heardWithLength x) (poolIn size before) (countersFrom (before .counters))
 
--- `hf_process_frame` and `hf_receive`
+-- `hf_raw_process_frame` and `hf_raw_receive`
 abbrev pub FrameLeft : ℕ → List ℕ → Arrival → CallMemory → ℕ → CallMemory → Type 0
 FrameLeft size pgns a before code after = CallLeft (receivedIn size pgns a before) before code after
 
--- `hf_process_frame_with_length`
+-- `hf_raw_process_frame_with_length`
 abbrev pub FrameWithLengthLeft : ℕ → List ℕ → ArrivalWithLength → CallMemory → ℕ → CallMemory → Type 0
 FrameWithLengthLeft size pgns x before code after = CallLeft (receivedWithLengthIn size pgns x before) before code after

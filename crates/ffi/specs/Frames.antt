@@ -14,7 +14,7 @@ use Rattle.numbers.specs.Frames.{builderFrom, builderNumbers, BuilderLeft, iter
 unfoldable pub newBuilderTo : ℕ → ℕ → ℕ → List ℕ → List ℕ → ℕ → MadeBuilder
 newBuilderTo pgn source destination payload pgns held = newBuilder pgn source (toAddress destination) payload pgns held
 
--- `hf_builder_new`
+-- `hf_raw_builder_new`
 abbrev pub NewBuilderLeft : ℕ → ℕ → ℕ → List ℕ → List ℕ → ℕ → ℕ → List ℕ → Type 0
 NewBuilderLeft pgn source destination payload pgns held code builder = BuilderLeft (newBuilderTo pgn source destination payload pgns held) code builder
 
@@ -39,13 +39,13 @@ pub record FrameMemory : Type 0 where
 unfoldable pub nextWith : List ℕ → ℕ → ℕ → List ℕ → Step
 nextWith builder index sent payload = nextOf (builderFrom builder) index sent payload
 
--- `hf_next_frame`
+-- `hf_raw_next_frame`
 pub record NextFrameLeft (builder : List ℕ) (index sent : ℕ) (payload : List ℕ) (code : ℕ) (after : FrameMemory) : Type 0 where
   pub asked : StepLeft (nextWith builder index sent payload) code (after .bytes) (after .numbers)
   pub follows : after .place ≡ stepAfter (nextWith builder index sent payload)
 
 -- ---- frame by frame
--- `hf_builder_build`: the place before the first frame
+-- `hf_raw_builder_build`: the place before the first frame
 unfoldable pub startedPlace : List ℕ → List ℕ
 startedPlace builder = placeNumbers (started (builderFrom builder))
 
@@ -53,7 +53,7 @@ startedPlace builder = placeNumbers (started (builderFrom builder))
 unfoldable pub turnWith : List ℕ → List ℕ → List ℕ → Step
 turnWith builder place payload = nextTurn (iteratorFrom builder place) payload .answer
 
--- `hf_frame_iterator_next`: the place goes on in the lent memory
+-- `hf_raw_frame_iterator_next`: the place goes on in the lent memory
 pub record TurnLeft (builder payload place : List ℕ) (code : ℕ) (after : FrameMemory) : Type 0 where
   pub asked : StepLeft (turnWith builder place payload) code (after .bytes) (after .numbers)
   pub goes-on : after .place ≡ placeLaid place (turnWith builder place payload)
