@@ -46,21 +46,21 @@ void hf_fill_short(uint8_t data[8], size_t len);
 #define HF_END 256
 
 /* Returns the number that the caller holds from now on. */
-uint8_t hf_builder_new(uint32_t pgn, uint8_t source_address, uint16_t destination, const uint8_t *payload, size_t payload_len,
+uint8_t hf_raw_builder_new(uint32_t pgn, uint8_t source_address, uint16_t destination, const uint8_t *payload, size_t payload_len,
                        const uint32_t *pgns, size_t pgns_len, uint8_t sequence_id, uint64_t builder[6]);
 /* The setters refuse nothing and write all six numbers, each in the width of its field. */
-void hf_builder_with_sequence_id(uint64_t builder[6], uint8_t sequence_id);
-void hf_builder_with_priority(uint64_t builder[6], uint8_t priority);
-void hf_builder_to_destination(uint64_t builder[6], uint8_t destination);
+void hf_raw_builder_with_sequence_id(uint64_t builder[6], uint8_t sequence_id);
+void hf_raw_builder_with_priority(uint64_t builder[6], uint8_t priority);
+void hf_raw_builder_to_destination(uint64_t builder[6], uint8_t destination);
 
 /* 0 for a frame, HF_END, or a refusal. `frame` is identifier, length and what the refusal carries; `after` is the frame
  * index and the bytes sent that follow. Without a frame, `data`, identifier and length are zeros. */
-uint32_t hf_next_frame(const uint64_t builder[6], uint8_t frame_index, size_t bytes_sent, const uint8_t *payload, size_t payload_len,
+uint32_t hf_raw_next_frame(const uint64_t builder[6], uint8_t frame_index, size_t bytes_sent, const uint8_t *payload, size_t payload_len,
                        uint8_t data[8], uint64_t frame[3], uint64_t after[2]);
-/* The same with the place (frame index, bytes sent) kept by the caller, from the one that hf_builder_build gives. The index is
+/* The same with the place (frame index, bytes sent) kept by the caller, from the one that hf_raw_builder_build gives. The index is
  * read modulo 256, and written only where it changes. */
-void hf_builder_build(const uint64_t builder[6], uint64_t place[2]);
-uint32_t hf_frame_iterator_next(const uint64_t builder[6], uint64_t place[2], const uint8_t *payload, size_t payload_len,
+void hf_raw_builder_build(const uint64_t builder[6], uint64_t place[2]);
+uint32_t hf_raw_frame_iterator_next(const uint64_t builder[6], uint64_t place[2], const uint8_t *payload, size_t payload_len,
                                 uint8_t data[8], uint64_t frame[3]);
 
 /* ---- from frames to messages. A pool has up to 8 slots: slot k is eight numbers of `heads` from 8 * k on (in progress,
@@ -73,19 +73,19 @@ uint32_t hf_frame_iterator_next(const uint64_t builder[6], uint64_t place[2], co
 
 bool hf_handles(const uint32_t *pgns, size_t pgns_len, uint32_t pgn);
 /* 0 and a fresh pool; above 8, 1 and *size 0, with `heads` and `bytes` as they were. */
-uint32_t hf_pool_new(size_t wanted, uint64_t heads[64], uint8_t bytes[1784], size_t *size);
-uint32_t hf_pool_default(uint64_t heads[64], uint8_t bytes[1784], size_t *size);
+uint32_t hf_raw_pool_new(size_t wanted, uint64_t heads[64], uint8_t bytes[1784], size_t *size);
+uint32_t hf_raw_pool_default(uint64_t heads[64], uint8_t bytes[1784], size_t *size);
 
 /* 1 and all lent memory but *length as it was, or one of the three kinds. Each number of `heads` is read in the width of its
  * field (a flag is any number but 0, a source is taken modulo 256), and written only where that field has changed. *length is
  * the message's length, or 0 without one; `payload` holds the message and zeros after it, and is not written without one. */
-uint32_t hf_process_frame(size_t size, uint64_t heads[64], uint8_t bytes[1784], uint32_t counters[5], const uint32_t *pgns, size_t pgns_len,
+uint32_t hf_raw_process_frame(size_t size, uint64_t heads[64], uint8_t bytes[1784], uint32_t counters[5], const uint32_t *pgns, size_t pgns_len,
                           uint64_t now_ms, uint32_t pgn, uint8_t source_address, const uint8_t data[8], uint8_t payload[223], size_t *length);
 /* The same by the call that has the counters by value: fewer copies of the pool. */
-uint32_t hf_receive(size_t size, uint64_t heads[64], uint8_t bytes[1784], uint32_t counters[5], const uint32_t *pgns, size_t pgns_len, uint64_t now_ms,
+uint32_t hf_raw_receive(size_t size, uint64_t heads[64], uint8_t bytes[1784], uint32_t counters[5], const uint32_t *pgns, size_t pgns_len, uint64_t now_ms,
                     uint32_t pgn, uint8_t source_address, const uint8_t data[8], uint8_t payload[223], size_t *length);
 /* Of the frame's eight bytes only the first min(frame_length, 8) count; 0xFF stands for the others. */
-uint32_t hf_process_frame_with_length(size_t size, uint64_t heads[64], uint8_t bytes[1784], uint32_t counters[5], const uint32_t *pgns,
+uint32_t hf_raw_process_frame_with_length(size_t size, uint64_t heads[64], uint8_t bytes[1784], uint32_t counters[5], const uint32_t *pgns,
                                       size_t pgns_len, uint64_t now_ms, uint32_t pgn, uint8_t source_address, const uint8_t data[8],
                                       size_t frame_length, uint8_t payload[223], size_t *length);
 
@@ -93,8 +93,8 @@ uint32_t hf_process_frame_with_length(size_t size, uint64_t heads[64], uint8_t b
  * shorter than `times`, each with all lent memory but `counts` as it was. Of each frame taken, `kinds` gets 0 Ignored,
  * 1 FragmentConsumed or 2 MessageComplete and `lengths` the message's length; messages stand end to end from the arena's
  * start. It stops before the first frame whose message has no room. `counts` is the frames taken and the arena's bytes taken,
- * 0 and 0 with a refusal. The heads are written as by hf_process_frame. */
-uint32_t hf_process_frames(size_t size, uint64_t heads[64], uint8_t bytes[1784], uint32_t counters[5], const uint32_t *pgns, size_t pgns_len,
+ * 0 and 0 with a refusal. The heads are written as by hf_raw_process_frame. */
+uint32_t hf_raw_process_frames(size_t size, uint64_t heads[64], uint8_t bytes[1784], uint32_t counters[5], const uint32_t *pgns, size_t pgns_len,
                            const uint64_t *times, size_t times_len, const uint32_t *frame_pgns, size_t frame_pgns_len, const uint8_t *sources,
                            size_t sources_len, const uint8_t *data, size_t data_len, uint8_t *kinds, size_t kinds_len, uint8_t *lengths,
                            size_t lengths_len, uint8_t *arena, size_t arena_len, uint64_t counts[2]);

@@ -38,18 +38,18 @@ static void frames(void) {
     uint64_t b[6], frame[3], after[2], place[2];
     uint8_t data[8], payload[223];
     for (int i = 0; i < 223; i++) payload[i] = (uint8_t)(i + 1);
-    expect(hf_builder_new(127489, 35, HF_NOBODY, payload, 3, LIST, 1, 2, b) == 3, "the number that the caller holds");
-    expect(hf_next_frame(b, 0, 0, payload, 3, data, frame, after) == 0 && !memcmp(data, "\x40\x03\x01\x02\x03\xFF\xFF\xFF", 8), "P8");
+    expect(hf_raw_builder_new(127489, 35, HF_NOBODY, payload, 3, LIST, 1, 2, b) == 3, "the number that the caller holds");
+    expect(hf_raw_next_frame(b, 0, 0, payload, 3, data, frame, after) == 0 && !memcmp(data, "\x40\x03\x01\x02\x03\xFF\xFF\xFF", 8), "P8");
     expect(frame[0] == 0x19F20123 && frame[1] == 8 && after[0] == 1 && after[1] == 3, "P8's identifier, length and progress");
-    hf_builder_new(60928, 35, 255, payload, 8, LIST, 1, 0, b);
-    expect(hf_next_frame(b, 0, 0, payload, 8, data, frame, after) == 0 && !memcmp(data, payload, 8), "eight bytes, unlisted: raw");
+    hf_raw_builder_new(60928, 35, 255, payload, 8, LIST, 1, 0, b);
+    expect(hf_raw_next_frame(b, 0, 0, payload, 8, data, frame, after) == 0 && !memcmp(data, payload, 8), "eight bytes, unlisted: raw");
     int n = 0;
-    hf_builder_new(127489, 35, HF_NOBODY, payload, 223, LIST, 1, 7, b);
-    hf_builder_build(b, place);
-    while (hf_frame_iterator_next(b, place, payload, 223, data, frame) == 0) n++;
+    hf_raw_builder_new(127489, 35, HF_NOBODY, payload, 223, LIST, 1, 7, b);
+    hf_raw_builder_build(b, place);
+    while (hf_raw_frame_iterator_next(b, place, payload, 223, data, frame) == 0) n++;
     expect(n == 32 && place[0] == 32 && place[1] == 223, "223 bytes: 32 frames");
-    expect(hf_frame_iterator_next(b, place, payload, 223, data, frame) == HF_END, "and then End");
-    expect(hf_next_frame(b, 0, 0, payload, 0, data, frame, after) == 7 && after[0] == 1, "no payload: 7");
+    expect(hf_raw_frame_iterator_next(b, place, payload, 223, data, frame) == HF_END, "and then End");
+    expect(hf_raw_next_frame(b, 0, 0, payload, 0, data, frame, after) == 7 && after[0] == 1, "no payload: 7");
 }
 
 static void messages(void) {
@@ -57,10 +57,10 @@ static void messages(void) {
     uint8_t bytes[1784], payload[223];
     uint32_t counters[5] = {0, 0, 0, 0, 0};
     size_t size, length;
-    expect(hf_pool_new(9, heads, bytes, &size) == 1 && size == 0, "a pool of nine: 1");
-    expect(hf_pool_default(heads, bytes, &size) == 0 && size == 4, "four slots by default");
-    expect(hf_pool_new(1, heads, bytes, &size) == 0 && size == 1, "one slot");
-#define HEAR(now, text) hf_process_frame(size, heads, bytes, counters, LIST, 1, now, 127489, 35, (const uint8_t *)(text), payload, &length)
+    expect(hf_raw_pool_new(9, heads, bytes, &size) == 1 && size == 0, "a pool of nine: 1");
+    expect(hf_raw_pool_default(heads, bytes, &size) == 0 && size == 4, "four slots by default");
+    expect(hf_raw_pool_new(1, heads, bytes, &size) == 0 && size == 1, "one slot");
+#define HEAR(now, text) hf_raw_process_frame(size, heads, bytes, counters, LIST, 1, now, 127489, 35, (const uint8_t *)(text), payload, &length)
     expect(HEAR(0, "\x00\x00......") == HF_IGNORED && counters[2] == 1, "P9: announced 0");
     expect(HEAR(0, "\x00\xE0......") == HF_IGNORED && counters[2] == 2, "P9: announced 224");
     expect(HEAR(1000, "\x00\x07" "abcdef") == HF_FRAGMENT_CONSUMED, "P10: opened");
@@ -69,12 +69,12 @@ static void messages(void) {
     expect(HEAR(1000, "\x00\x0E" "abcdef") == HF_FRAGMENT_CONSUMED && HEAR(0, "\x01g......") == HF_FRAGMENT_CONSUMED && heads[7] == 0, "P12: continued at 0");
     expect(HEAR(0, "\x20\x07......") == HF_IGNORED && counters[1] == 1, "one slot, another key: exhausted");
     expect(HEAR(501, "\x20\x07......") == HF_FRAGMENT_CONSUMED && counters[0] == 1, "silent 501: expired");
-    expect(hf_process_frame_with_length(size, heads, bytes, counters, LIST, 1, 600, 127489, 35, (const uint8_t *)"\x00\x06" "ab....", 4, payload, &length) == HF_MESSAGE_COMPLETE
+    expect(hf_raw_process_frame_with_length(size, heads, bytes, counters, LIST, 1, 600, 127489, 35, (const uint8_t *)"\x00\x06" "ab....", 4, payload, &length) == HF_MESSAGE_COMPLETE
                && length == 6 && !memcmp(payload, "ab\xFF\xFF\xFF\xFF", 6), "a frame of four bytes");
     heads[2] = 8;
     payload[0] = 0xEE;
     expect(HEAR(0, "\x00\x06......") == 1 && length == 0 && payload[0] == 0xEE, "an impossible pool: 1, and the payload as it was");
-    expect(hf_pool_new(9, heads, bytes, &size) == 1 && size == 0 && heads[2] == 8, "a pool of nine leaves the heads as they were");
+    expect(hf_raw_pool_new(9, heads, bytes, &size) == 1 && size == 0 && heads[2] == 8, "a pool of nine leaves the heads as they were");
     heads[0] = 2;
     heads[1] = 300;
     size = 9;
@@ -108,9 +108,9 @@ static void batch(void) {
     uint8_t bytes[1784], sources[2] = {35, 35}, kinds[2], lengths[2], arena[16];
     uint32_t counters[5] = {0, 0, 0, 0, 0}, pgns[2] = {127489, 127489};
     size_t size;
-    hf_pool_new(4, heads, bytes, &size);
+    hf_raw_pool_new(4, heads, bytes, &size);
     const uint8_t *data = (const uint8_t *)"\x00\x07" "abcdef" "\x01g......";
-#define BATCH(room) hf_process_frames(size, heads, bytes, counters, LIST, 1, times, 2, pgns, 2, sources, 2, data, 16, kinds, 2, lengths, 2, arena, room, counts)
+#define BATCH(room) hf_raw_process_frames(size, heads, bytes, counters, LIST, 1, times, 2, pgns, 2, sources, 2, data, 16, kinds, 2, lengths, 2, arena, room, counts)
     expect(BATCH(6) == 0 && counts[0] == 1 && counts[1] == 0 && kinds[0] == 1, "a batch stops where the arena is full");
     expect(BATCH(16) == 0 && counts[0] == 2 && counts[1] == 7 && kinds[1] == 2 && lengths[1] == 7 && !memcmp(arena, "abcdefg", 7), "a batch");
 }

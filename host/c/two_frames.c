@@ -13,9 +13,9 @@ int main(void) {
     uint32_t counters[5] = {0};
     size_t size, length;
 
-    if (hf_pool_new(4, heads, bytes, &size) != 0) return 1;
-    if (hf_process_frame(size, heads, bytes, counters, list, 1, 1000, 127489, 35, first, payload, &length) != HF_FRAGMENT_CONSUMED) return 1;
-    if (hf_process_frame(size, heads, bytes, counters, list, 1, 1010, 127489, 35, next, payload, &length) != HF_MESSAGE_COMPLETE) return 1;
+    if (hf_raw_pool_new(4, heads, bytes, &size) != 0) return 1;
+    if (hf_raw_process_frame(size, heads, bytes, counters, list, 1, 1000, 127489, 35, first, payload, &length) != HF_FRAGMENT_CONSUMED) return 1;
+    if (hf_raw_process_frame(size, heads, bytes, counters, list, 1, 1010, 127489, 35, next, payload, &length) != HF_MESSAGE_COMPLETE) return 1;
     printf("%.*s, %zu bytes\n", (int)length, (const char *)payload, length);
     return 0;
 }

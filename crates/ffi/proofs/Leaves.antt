@@ -111,7 +111,7 @@ module _ (size : ℕ) (heads bytes counters pgns : List ℕ) (long : length byte
         no-message = l .measured;
       }
 
-  -- `hf_process_frame` and `hf_receive`
+  -- `hf_raw_process_frame` and `hf_raw_receive`
   pub refused-leaves : (heard : Heard) → Left (calledWith size heads bytes counters pgns heard) heads was code heads′ bytes′ counters′ payload′ len → code < 256
       → Untouched heads′ heads bytes′ bytes counters′ counters payload′ was len
   unfolding calledWith receiveOf step
@@ -121,7 +121,7 @@ module _ (size : ℕ) (heads bytes counters pgns : List ℕ) (long : length byte
       (refused-if _ (poolFrom size heads bytes) (countersFrom counters) (record { pgns = pgns; heard = heard }) (subst (λ (n : ℕ). n < 256) (l .told) below) ∙ ap (λ (p : Pool). refusal p (countersFrom counters)) (pool-back size heads bytes long))
       l)
 
-  -- `hf_process_frame_with_length`
+  -- `hf_raw_process_frame_with_length`
   pub refused-with-length-leaves : (heard : Heard) (sent : ℕ) → Left (calledWithLength size heads bytes counters pgns heard sent) heads was code heads′ bytes′ counters′ payload′ len → code < 256
       → Untouched heads′ heads bytes′ bytes counters′ counters payload′ was len
   unfolding calledWithLength receiveWithLengthOf calledWith
@@ -162,12 +162,12 @@ module _ (heads bytes counters kinds lengths arena : List ℕ) (heads′ bytes�
     unfolding leaves
     by-run z l h = absurd (h (l .pool .told))
 
-    -- `hf_process_frames`
+    -- `hf_raw_process_frames`
     pub refused-batch-leaves : (pgns : List ℕ) (rows : Rows) → Leaves (batchWith size heads bytes counters pgns rows kinds lengths arena)
     unfolding batchWith batchOf
     refused-batch-leaves pgns rows = pick-all Leaves _ (by-refusal 1) (pick-all Leaves _ (by-refusal 27) (by-run _))
 
--- ---- making a pool: `hf_pool_new`
+-- ---- making a pool: `hf_raw_pool_new`
 pub refused-making-leaves : (m : Made) (old was : List ℕ) (code : ℕ) (heads bytes : List ℕ) (size : ℕ) → MadeAs m old was code heads bytes size → (code ≡ 0 → ⊥) → (heads ≡ old) × (bytes ≡ was)
 refused-making-leaves m old was code heads bytes size l h =
     let refused : m .refused ≡ 0 → ⊥ = λ e. h (l .told ∙ e) in

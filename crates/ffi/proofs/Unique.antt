@@ -53,19 +53,19 @@ pub hf-can-id-build-unique : (b : CanIdBuilder) (r s v w : ℕ) → (r ≡ codeO
 hf-can-id-build-unique b r s v w = both
 
 -- ---- frames
-pub hf-builder-new-unique : (m : Begun) (r s : ℕ) (v w : List ℕ) → (r ≡ heldAfter m) × (v ≡ madeNumbers m) → (s ≡ heldAfter m) × (w ≡ madeNumbers m) → (r ≡ s) × (v ≡ w)
-hf-builder-new-unique m r s v w = both
+pub hf-raw-builder-new-unique : (m : Begun) (r s : ℕ) (v w : List ℕ) → (r ≡ heldAfter m) × (v ≡ madeNumbers m) → (s ≡ heldAfter m) × (w ≡ madeNumbers m) → (r ≡ s) × (v ≡ w)
+hf-raw-builder-new-unique m r s v w = both
 
 -- of whatever builder: `withSequence`, `withPriority` or `withDestination` of the entry's numbers
-pub hf-builder-set-unique : (b : FastPacketBuilder) (v w : List ℕ) → v ≡ builderNumbers b → w ≡ builderNumbers b → v ≡ w
-hf-builder-set-unique b v w = determined
+pub hf-raw-builder-set-unique : (b : FastPacketBuilder) (v w : List ℕ) → v ≡ builderNumbers b → w ≡ builderNumbers b → v ≡ w
+hf-raw-builder-set-unique b v w = determined
 
-pub hf-builder-build-unique : (t : FrameIterator) (v w : List ℕ) → v ≡ placeNumbers t → w ≡ placeNumbers t → v ≡ w
-hf-builder-build-unique t v w = determined
+pub hf-raw-builder-build-unique : (t : FrameIterator) (v w : List ℕ) → v ≡ placeNumbers t → w ≡ placeNumbers t → v ≡ w
+hf-raw-builder-build-unique t v w = determined
 
 -- `t` is `nextWith` or `turnWith` of the entry's numbers, and `x` is `stepAfter` of it, or `placeLaid` over the place: what is returned, the bytes, the numbers and the place
-pub hf-next-frame-unique : (t : Step) (x : List ℕ) (r s : ℕ) (v w p q b c : List ℕ) → Told t r v p × (b ≡ x) → Told t s w q × (c ≡ x) → (r ≡ s) × (v ≡ w) × (p ≡ q) × (b ≡ c)
-hf-next-frame-unique t x r s v w p q b c (h, f) (k, g) = (determined (h .told) (k .told), determined (h .filled) (k .filled), determined (h .named) (k .named), determined f g)
+pub hf-raw-next-frame-unique : (t : Step) (x : List ℕ) (r s : ℕ) (v w p q b c : List ℕ) → Told t r v p × (b ≡ x) → Told t s w q × (c ≡ x) → (r ≡ s) × (v ≡ w) × (p ≡ q) × (b ≡ c)
+hf-raw-next-frame-unique t x r s v w p q b c (h, f) (k, g) = (determined (h .told) (k .told), determined (h .filled) (k .filled), determined (h .named) (k .named), determined f g)
 
 -- ---- the list and the filling
 pub hf-is-listed-unique : (pgn : ℕ) (pgns : List ℕ) (r s : Bool) → r ≡ listedIn pgn pgns → s ≡ listedIn pgn pgns → r ≡ s
@@ -79,23 +79,23 @@ hf-handles-unique pgn pgns r s = determined
 
 -- ---- the receive call: what is returned, the heads, the bytes, the counters, the payload and the length
 -- `r` is `calledWith` or `calledWithLength` of the entry's numbers
-pub hf-process-frame-unique : (r : Received) (old was : List ℕ) (a b : ℕ) (h i j k c d p q : List ℕ) (l m : ℕ)
+pub hf-raw-process-frame-unique : (r : Received) (old was : List ℕ) (a b : ℕ) (h i j k c d p q : List ℕ) (l m : ℕ)
     → Left r old was a h j c p l → Left r old was b i k d q m
     → (a ≡ b) × (h ≡ i) × (j ≡ k) × (c ≡ d) × (p ≡ q) × (l ≡ m)
-hf-process-frame-unique r old was a b h i j k c d p q l m x y =
+hf-raw-process-frame-unique r old was a b h i j k c d p q l m x y =
     (determined (x .told) (y .told), determined (x .kept) (y .kept), determined (x .stored) (y .stored), determined (x .counted) (y .counted), determined (x .delivered) (y .delivered), determined (x .measured) (y .measured))
 
 -- `n` is `madeOf` of the size wanted, or the default pool: what is returned, the heads, the bytes and the size
-pub hf-pool-new-unique : (n : Made) (old was : List ℕ) (a b : ℕ) (h i j k : List ℕ) (l m : ℕ)
+pub hf-raw-pool-new-unique : (n : Made) (old was : List ℕ) (a b : ℕ) (h i j k : List ℕ) (l m : ℕ)
     → MadeAs n old was a h j l → MadeAs n old was b i k m → (a ≡ b) × (h ≡ i) × (j ≡ k) × (l ≡ m)
-hf-pool-new-unique n old was a b h i j k l m x y =
+hf-raw-pool-new-unique n old was a b h i j k l m x y =
     (determined (x .told) (y .told), determined (x .kept) (y .kept), determined (x .stored) (y .stored), determined (x .sized) (y .sized))
 
 -- `l` is `batchWith` of the entry's numbers: what is returned, heads, bytes, counters, kinds, lengths, arena and counts
-pub hf-process-frames-unique : (l : Rowed) (old : List ℕ) (a b : ℕ) (h i j k c d m n o p q r s t : List ℕ)
+pub hf-raw-process-frames-unique : (l : Rowed) (old : List ℕ) (a b : ℕ) (h i j k c d m n o p q r s t : List ℕ)
     → LeftBy l old a h j c m o q s → LeftBy l old b i k d n p r t
     → (a ≡ b) × (h ≡ i) × (j ≡ k) × (c ≡ d) × (m ≡ n) × (o ≡ p) × (q ≡ r) × (s ≡ t)
-hf-process-frames-unique l old a b h i j k c d m n o p q r s t x y =
+hf-raw-process-frames-unique l old a b h i j k c d m n o p q r s t x y =
     let u = x .pool in
     let v = y .pool in
     (determined (u .told) (v .told), determined (u .kept) (v .kept), determined (u .stored) (v .stored), determined (u .counted) (v .counted), determined (x .answered) (y .answered), determined (x .measured) (y .measured), determined (x .delivered) (y .delivered), determined (u .taken) (v .taken))

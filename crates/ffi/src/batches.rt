@@ -33,7 +33,7 @@ fn leave_batch(
 // 0, 1 or 27. Of each frame taken, `kinds` has 0 Ignored, 1 FragmentConsumed or 2 MessageComplete, and `lengths` the message's; the messages stand end to
 // end from the arena's start. `counts` is how many frames were taken and how many bytes of the arena.
 #[no_mangle]
-pub extern "C" fn hf_process_frames(
+pub extern "C" fn hf_raw_process_frames(
     size: usize,
     heads: &mut [u64; 64],
     bytes: &mut [u8; POOL_BYTES],

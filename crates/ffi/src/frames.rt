@@ -21,7 +21,7 @@ use numbers::told;
 
 // Returns the number that the caller holds from now on.
 #[no_mangle]
-pub extern "C" fn hf_builder_new(
+pub extern "C" fn hf_raw_builder_new(
     pgn: u32,
     source_address: u8,
     destination: u16,
@@ -39,7 +39,7 @@ pub extern "C" fn hf_builder_new(
 }
 
 #[no_mangle]
-pub extern "C" fn hf_builder_with_sequence_id(builder: &mut [u64; 6], sequence_id: u8)
+pub extern "C" fn hf_raw_builder_with_sequence_id(builder: &mut [u64; 6], sequence_id: u8)
     ensures { λ _. ⌜ now (builder .exit) ≡ builderNumbers (withSequence (builderFrom (now (builder .entry))) «sequence_id») ⌝ }
 {
     let b = builder_from(builder);
@@ -47,7 +47,7 @@ pub extern "C" fn hf_builder_with_sequence_id(builder: &mut [u64; 6], sequence_i
 }
 
 #[no_mangle]
-pub extern "C" fn hf_builder_with_priority(builder: &mut [u64; 6], priority: u8)
+pub extern "C" fn hf_raw_builder_with_priority(builder: &mut [u64; 6], priority: u8)
     ensures { λ _. ⌜ now (builder .exit) ≡ builderNumbers (withPriority (builderFrom (now (builder .entry))) priority) ⌝ }
 {
     let b = builder_from(builder);
@@ -55,7 +55,7 @@ pub extern "C" fn hf_builder_with_priority(builder: &mut [u64; 6], priority: u8)
 }
 
 #[no_mangle]
-pub extern "C" fn hf_builder_to_destination(builder: &mut [u64; 6], destination: u8)
+pub extern "C" fn hf_raw_builder_to_destination(builder: &mut [u64; 6], destination: u8)
     ensures { λ _. ⌜ now (builder .exit) ≡ builderNumbers (withDestination (builderFrom (now (builder .entry))) destination) ⌝ }
 {
     let b = builder_from(builder);
@@ -66,7 +66,7 @@ pub extern "C" fn hf_builder_to_destination(builder: &mut [u64; 6], destination:
 
 // 0 for a frame, 256 for End, or a refusal's number.
 #[no_mangle]
-pub extern "C" fn hf_next_frame(
+pub extern "C" fn hf_raw_next_frame(
     builder: &[u64; 6],
     frame_index: u8,
     bytes_sent: usize,
@@ -88,7 +88,7 @@ pub extern "C" fn hf_next_frame(
 
 // The place before the first frame.
 #[no_mangle]
-pub extern "C" fn hf_builder_build(builder: &[u64; 6], place: &mut [u64; 2])
+pub extern "C" fn hf_raw_builder_build(builder: &[u64; 6], place: &mut [u64; 2])
     ensures { λ _. ⌜ now (place .exit) ≡ placeNumbers (started (builderFrom (now (builder .entry)))) ⌝ }
 {
     let b = builder_from(builder);
@@ -110,9 +110,9 @@ fn step_in(item: Item) -> Next
     }
 }
 
-// As `hf_next_frame`; the place goes on in the lent memory.
+// As `hf_raw_next_frame`; the place goes on in the lent memory.
 #[no_mangle]
-pub extern "C" fn hf_frame_iterator_next(
+pub extern "C" fn hf_raw_frame_iterator_next(
     builder: &[u64; 6],
     place: &mut [u64; 2],
     payload: &[u8],

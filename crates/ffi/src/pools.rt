@@ -28,7 +28,7 @@ pub extern "C" fn hf_handles(pgns: &[u32], pgn: u32) -> bool
 
 // 0, or 1 and heads and bytes as they were; `size` is the pool's.
 #[no_mangle]
-pub extern "C" fn hf_pool_new(
+pub extern "C" fn hf_raw_pool_new(
     wanted: usize,
     heads: &mut [u64; 64],
     bytes: &mut [u8; POOL_BYTES],
@@ -41,7 +41,7 @@ pub extern "C" fn hf_pool_new(
 
 // The pool of the default size; returns 0.
 #[no_mangle]
-pub extern "C" fn hf_pool_default(
+pub extern "C" fn hf_raw_pool_default(
     heads: &mut [u64; 64],
     bytes: &mut [u8; POOL_BYTES],
     size: &mut usize,
@@ -58,7 +58,7 @@ pub extern "C" fn hf_pool_default(
 
 // A refusal's number, 256 Ignored, 257 FragmentConsumed or 258 MessageComplete.
 #[no_mangle]
-pub extern "C" fn hf_process_frame(
+pub extern "C" fn hf_raw_process_frame(
     size: usize,
     heads: &mut [u64; 64],
     bytes: &mut [u8; POOL_BYTES],
@@ -90,7 +90,7 @@ pub extern "C" fn hf_process_frame(
 
 // The same by the call that has the counters by value.
 #[no_mangle]
-pub extern "C" fn hf_receive(
+pub extern "C" fn hf_raw_receive(
     size: usize,
     heads: &mut [u64; 64],
     bytes: &mut [u8; POOL_BYTES],
@@ -122,7 +122,7 @@ pub extern "C" fn hf_receive(
 
 // The same for a frame with a length.
 #[no_mangle]
-pub extern "C" fn hf_process_frame_with_length(
+pub extern "C" fn hf_raw_process_frame_with_length(
     size: usize,
     heads: &mut [u64; 64],
     bytes: &mut [u8; POOL_BYTES],

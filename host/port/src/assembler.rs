@@ -51,11 +51,11 @@ impl Pool {
     }
     /// The same into a pool that the caller keeps: a refusal leaves its heads and bytes.
     pub fn made_anew(&mut self, size: usize) -> u32 {
-        unsafe { hf_pool_new(size, self.heads.as_mut_ptr(), self.bytes.as_mut_ptr(), &mut self.size) }
+        unsafe { hf_raw_pool_new(size, self.heads.as_mut_ptr(), self.bytes.as_mut_ptr(), &mut self.size) }
     }
     pub fn default_pool() -> Pool {
         let mut p = Pool { size: 0xEE, heads: [0xEE << 32; 64], bytes: [0xEE; 1784] };
-        assert_eq!(unsafe { hf_pool_default(p.heads.as_mut_ptr(), p.bytes.as_mut_ptr(), &mut p.size) }, 0);
+        assert_eq!(unsafe { hf_raw_pool_default(p.heads.as_mut_ptr(), p.bytes.as_mut_ptr(), &mut p.size) }, 0);
         p
     }
     pub fn process_frame(&mut self, counters: &mut Counters, pgns: &[u32], now_ms: u64, pgn: u32, source_address: u8, data: &[u8; 8]) -> Answer {
@@ -68,7 +68,7 @@ impl Pool {
     #[inline]
     pub fn process_frame_into(&mut self, counters: &mut Counters, pgns: &[u32], now_ms: u64, pgn: u32, source_address: u8, data: &[u8; 8], a: &mut Answer) {
         a.result = result(unsafe {
-            hf_process_frame(
+            hf_raw_process_frame(
                 self.size, self.heads.as_mut_ptr(), self.bytes.as_mut_ptr(), counters.as_mut_ptr(), pgns.as_ptr(), pgns.len(), now_ms, pgn, source_address, data.as_ptr(),
                 a.payload.as_mut_ptr(), &mut a.length,
             )
@@ -79,7 +79,7 @@ impl Pool {
     #[inline]
     pub fn receive_into(&mut self, counters: &mut Counters, pgns: &[u32], now_ms: u64, pgn: u32, source_address: u8, data: &[u8; 8], a: &mut Answer) {
         a.result = result(unsafe {
-            hf_receive(
+            hf_raw_receive(
                 self.size, self.heads.as_mut_ptr(), self.bytes.as_mut_ptr(), counters.as_mut_ptr(), pgns.as_ptr(), pgns.len(), now_ms, pgn, source_address, data.as_ptr(),
                 a.payload.as_mut_ptr(), &mut a.length,
             )
@@ -97,7 +97,7 @@ impl Pool {
         &mut self, counters: &mut Counters, pgns: &[u32], now_ms: u64, pgn: u32, source_address: u8, data: &[u8; 8], frame_length: usize, a: &mut Answer,
     ) {
         a.result = result(unsafe {
-            hf_process_frame_with_length(
+            hf_raw_process_frame_with_length(
                 self.size, self.heads.as_mut_ptr(), self.bytes.as_mut_ptr(), counters.as_mut_ptr(), pgns.as_ptr(), pgns.len(), now_ms, pgn, source_address, data.as_ptr(),
                 frame_length, a.payload.as_mut_ptr(), &mut a.length,
             )
@@ -113,7 +113,7 @@ impl Pool {
     ) -> (u32, usize, usize) {
         let mut counts = [0xEE; 2];
         let number = unsafe {
-            hf_process_frames(
+            hf_raw_process_frames(
                 self.size, self.heads.as_mut_ptr(), self.bytes.as_mut_ptr(), counters.as_mut_ptr(), pgns.as_ptr(), pgns.len(), times.as_ptr(), times.len(),
                 frame_pgns.as_ptr(), frame_pgns.len(), sources.as_ptr(), sources.len(), data.as_ptr(), data.len(),
                 kinds.as_mut_ptr(), kinds.len(), lengths.as_mut_ptr(), lengths.len(), arena.as_mut_ptr(), arena.len(), counts.as_mut_ptr(),

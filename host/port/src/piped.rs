@@ -97,48 +97,48 @@ pub unsafe fn hf_is_listed(pgns: *const u32, n: usize, pgn: u32) -> bool {
 pub unsafe fn hf_fill_short(data: *mut u8, len: usize) {
     call(8, &[len as u64], &[o(data, 8)]);
 }
-pub unsafe fn hf_builder_new(pgn: u32, source: u8, destination: u16, payload: *const u8, payload_n: usize, pgns: *const u32, pgns_n: usize, sequence: u8, builder: *mut u64) -> u8 {
+pub unsafe fn hf_raw_builder_new(pgn: u32, source: u8, destination: u16, payload: *const u8, payload_n: usize, pgns: *const u32, pgns_n: usize, sequence: u8, builder: *mut u64) -> u8 {
     call(9, &[pgn as u64, source as u64, destination as u64, sequence as u64], &[i(payload, payload_n), i(pgns, pgns_n), o(builder, 6)]) as u8
 }
-pub unsafe fn hf_builder_with_sequence_id(builder: *mut u64, x: u8) {
+pub unsafe fn hf_raw_builder_with_sequence_id(builder: *mut u64, x: u8) {
     call(10, &[x as u64], &[o(builder, 6)]);
 }
-pub unsafe fn hf_builder_with_priority(builder: *mut u64, x: u8) {
+pub unsafe fn hf_raw_builder_with_priority(builder: *mut u64, x: u8) {
     call(11, &[x as u64], &[o(builder, 6)]);
 }
-pub unsafe fn hf_builder_to_destination(builder: *mut u64, x: u8) {
+pub unsafe fn hf_raw_builder_to_destination(builder: *mut u64, x: u8) {
     call(12, &[x as u64], &[o(builder, 6)]);
 }
-pub unsafe fn hf_builder_build(builder: *const u64, place: *mut u64) {
+pub unsafe fn hf_raw_builder_build(builder: *const u64, place: *mut u64) {
     call(13, &[], &[i(builder, 6), o(place, 2)]);
 }
-pub unsafe fn hf_next_frame(builder: *const u64, index: u8, sent: usize, payload: *const u8, n: usize, data: *mut u8, frame: *mut u64, after: *mut u64) -> u32 {
+pub unsafe fn hf_raw_next_frame(builder: *const u64, index: u8, sent: usize, payload: *const u8, n: usize, data: *mut u8, frame: *mut u64, after: *mut u64) -> u32 {
     call(14, &[index as u64, sent as u64], &[i(builder, 6), i(payload, n), o(data, 8), o(frame, 3), o(after, 2)]) as u32
 }
-pub unsafe fn hf_frame_iterator_next(builder: *const u64, place: *mut u64, payload: *const u8, n: usize, data: *mut u8, frame: *mut u64) -> u32 {
+pub unsafe fn hf_raw_frame_iterator_next(builder: *const u64, place: *mut u64, payload: *const u8, n: usize, data: *mut u8, frame: *mut u64) -> u32 {
     call(15, &[], &[i(builder, 6), o(place, 2), i(payload, n), o(data, 8), o(frame, 3)]) as u32
 }
 pub unsafe fn hf_handles(pgns: *const u32, n: usize, pgn: u32) -> bool {
     call(16, &[pgn as u64], &[i(pgns, n)]) != 0
 }
-pub unsafe fn hf_pool_new(wanted: usize, heads: *mut u64, bytes: *mut u8, size: *mut usize) -> u32 {
+pub unsafe fn hf_raw_pool_new(wanted: usize, heads: *mut u64, bytes: *mut u8, size: *mut usize) -> u32 {
     call(17, &[wanted as u64], &[o(heads, 64), o(bytes, 1784), o(size, 1)]) as u32
 }
-pub unsafe fn hf_pool_default(heads: *mut u64, bytes: *mut u8, size: *mut usize) -> u32 {
+pub unsafe fn hf_raw_pool_default(heads: *mut u64, bytes: *mut u8, size: *mut usize) -> u32 {
     call(18, &[], &[o(heads, 64), o(bytes, 1784), o(size, 1)]) as u32
 }
-pub unsafe fn hf_process_frame(
+pub unsafe fn hf_raw_process_frame(
     size: usize, heads: *mut u64, bytes: *mut u8, counters: *mut u32, pgns: *const u32, n: usize, now: u64, pgn: u32, source: u8, data: *const u8, payload: *mut u8, length: *mut usize,
 ) -> u32 {
     call(19, &[size as u64, now, pgn as u64, source as u64], &[o(heads, 64), o(bytes, 1784), o(counters, 5), i(pgns, n), i(data, 8), o(payload, 223), o(length, 1)]) as u32
 }
-pub unsafe fn hf_process_frame_with_length(
+pub unsafe fn hf_raw_process_frame_with_length(
     size: usize, heads: *mut u64, bytes: *mut u8, counters: *mut u32, pgns: *const u32, n: usize, now: u64, pgn: u32, source: u8, data: *const u8, frame_length: usize, payload: *mut u8,
     length: *mut usize,
 ) -> u32 {
     call(20, &[size as u64, now, pgn as u64, source as u64, frame_length as u64], &[o(heads, 64), o(bytes, 1784), o(counters, 5), i(pgns, n), i(data, 8), o(payload, 223), o(length, 1)]) as u32
 }
-pub unsafe fn hf_process_frames(
+pub unsafe fn hf_raw_process_frames(
     size: usize, heads: *mut u64, bytes: *mut u8, counters: *mut u32, pgns: *const u32, pgns_n: usize, times: *const u64, times_n: usize, frame_pgns: *const u32, frame_pgns_n: usize,
     sources: *const u8, sources_n: usize, data: *const u8, data_n: usize, kinds: *mut u8, kinds_n: usize, lengths: *mut u8, lengths_n: usize, arena: *mut u8, arena_n: usize, counts: *mut u64,
 ) -> u32 {
@@ -163,7 +163,7 @@ pub unsafe fn hf_check_tx(
 ) -> u32 {
     call(24, &[source as u64, expected as u64, base as u64], &[i(ids, ids_n), i(bytes, bytes_n), i(lens, lens_n), o(values, 5)]) as u32
 }
-pub unsafe fn hf_receive(
+pub unsafe fn hf_raw_receive(
     size: usize, heads: *mut u64, bytes: *mut u8, counters: *mut u32, pgns: *const u32, n: usize, now: u64, pgn: u32, source: u8, data: *const u8, payload: *mut u8, length: *mut usize,
 ) -> u32 {
     call(25, &[size as u64, now, pgn as u64, source as u64], &[o(heads, 64), o(bytes, 1784), o(counters, 5), i(pgns, n), i(data, 8), o(payload, 223), o(length, 1)]) as u32

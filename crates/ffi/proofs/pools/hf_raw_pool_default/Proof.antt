@@ -1,13 +1,13 @@
--- `hf_pool_default` meets its contract: it passes on what its calls say. Assumes nothing.
+-- `hf_raw_pool_default` meets its contract: it passes on what its calls say. Assumes nothing.
 use borrow.Author.Needs.{needs}
 use mathlib.Core.Path.{ap}
 use Rattle.ffi.proofs.Laws.{made-by}
 use Rattle.numbers.specs.Pool.{plainly}
-use Rattle.ffi.proofs.pools.hf_pool_default.Statement.{statement}
-use Rattle.ffi.proofs.pools.hf_pool_default.Tie as tie
+use Rattle.ffi.proofs.pools.hf_raw_pool_default.Statement.{statement}
+use Rattle.ffi.proofs.pools.hf_raw_pool_default.Tie as tie
 
-pub hf-pool-default-spec : {M : Type 1} → statement M
-hf-pool-default-spec =
+pub hf-raw-pool-default-spec : {M : Type 1} → statement M
+hf-raw-pool-default-spec =
     tie.close
     (tie.spec
     (λ c κs. search needs)

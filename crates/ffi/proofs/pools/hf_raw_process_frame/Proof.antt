@@ -1,11 +1,11 @@
--- `hf_process_frame` meets its contract: it passes on what its calls say. Assumes nothing.
+-- `hf_raw_process_frame` meets its contract: it passes on what its calls say. Assumes nothing.
 use borrow.Author.Needs.{needs}
 use Rattle.ffi.proofs.Laws.{left-by, called-by}
-use Rattle.ffi.proofs.pools.hf_process_frame.Statement.{statement}
-use Rattle.ffi.proofs.pools.hf_process_frame.Tie as tie
+use Rattle.ffi.proofs.pools.hf_raw_process_frame.Statement.{statement}
+use Rattle.ffi.proofs.pools.hf_raw_process_frame.Tie as tie
 
-pub hf-process-frame-spec : {M : Type 1} → statement M
-hf-process-frame-spec =
+pub hf-raw-process-frame-spec : {M : Type 1} → statement M
+hf-raw-process-frame-spec =
     tie.close
     (tie.spec
     (λ c κs. search needs)

@@ -1,11 +1,11 @@
--- `hf_process_frames` meets its contract: it passes on what its calls say. Assumes nothing.
+-- `hf_raw_process_frames` meets its contract: it passes on what its calls say. Assumes nothing.
 use borrow.Author.Needs.{needs}
 use Rattle.ffi.proofs.Laws.{batch-same, batch-left}
-use Rattle.ffi.proofs.batches.hf_process_frames.Statement.{statement}
-use Rattle.ffi.proofs.batches.hf_process_frames.Tie as tie
+use Rattle.ffi.proofs.batches.hf_raw_process_frames.Statement.{statement}
+use Rattle.ffi.proofs.batches.hf_raw_process_frames.Tie as tie
 
-pub hf-process-frames-spec : {M : Type 1} → statement M
-hf-process-frames-spec =
+pub hf-raw-process-frames-spec : {M : Type 1} → statement M
+hf-raw-process-frames-spec =
     tie.close
     (tie.spec
     (λ c κs. search needs)

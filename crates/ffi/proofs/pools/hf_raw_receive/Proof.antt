@@ -1,11 +1,11 @@
--- `hf_receive` meets its contract: it passes on what its calls say. Assumes nothing.
+-- `hf_raw_receive` meets its contract: it passes on what its calls say. Assumes nothing.
 use borrow.Author.Needs.{needs}
 use Rattle.ffi.proofs.Laws.{left-by, called-by}
-use Rattle.ffi.proofs.pools.hf_receive.Statement.{statement}
-use Rattle.ffi.proofs.pools.hf_receive.Tie as tie
+use Rattle.ffi.proofs.pools.hf_raw_receive.Statement.{statement}
+use Rattle.ffi.proofs.pools.hf_raw_receive.Tie as tie
 
-pub hf-receive-spec : {M : Type 1} → statement M
-hf-receive-spec =
+pub hf-raw-receive-spec : {M : Type 1} → statement M
+hf-raw-receive-spec =
     tie.close
     (tie.spec
     (λ c κs. search needs)

@@ -1,11 +1,11 @@
--- `hf_frame_iterator_next` meets its contract: it passes on what its calls say. Assumes nothing.
+-- `hf_raw_frame_iterator_next` meets its contract: it passes on what its calls say. Assumes nothing.
 use borrow.Author.Needs.{needs}
 use Rattle.ffi.proofs.Laws.{told-by, turn-by, place-by}
-use Rattle.ffi.proofs.frames.hf_frame_iterator_next.Statement.{statement}
-use Rattle.ffi.proofs.frames.hf_frame_iterator_next.Tie as tie
+use Rattle.ffi.proofs.frames.hf_raw_frame_iterator_next.Statement.{statement}
+use Rattle.ffi.proofs.frames.hf_raw_frame_iterator_next.Tie as tie
 
-pub hf-frame-iterator-next-spec : {M : Type 1} → statement M
-hf-frame-iterator-next-spec =
+pub hf-raw-frame-iterator-next-spec : {M : Type 1} → statement M
+hf-raw-frame-iterator-next-spec =
     tie.close
     (tie.spec
     (λ c κs. search needs)

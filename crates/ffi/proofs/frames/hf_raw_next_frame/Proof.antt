@@ -1,13 +1,13 @@
--- `hf_next_frame` meets its contract: it passes on what its calls say. Assumes nothing.
+-- `hf_raw_next_frame` meets its contract: it passes on what its calls say. Assumes nothing.
 use borrow.Author.Needs.{needs}
 use mathlib.Core.Path.{ap, _∙_}
 use Rattle.numbers.specs.Frames.{stepAfter}
 use Rattle.ffi.proofs.Laws.{told-by, next-by}
-use Rattle.ffi.proofs.frames.hf_next_frame.Statement.{statement}
-use Rattle.ffi.proofs.frames.hf_next_frame.Tie as tie
+use Rattle.ffi.proofs.frames.hf_raw_next_frame.Statement.{statement}
+use Rattle.ffi.proofs.frames.hf_raw_next_frame.Tie as tie
 
-pub hf-next-frame-spec : {M : Type 1} → statement M
-hf-next-frame-spec =
+pub hf-raw-next-frame-spec : {M : Type 1} → statement M
+hf-raw-next-frame-spec =
     tie.close
     (tie.spec
     (λ c κs. search needs)
