@@ -11,12 +11,13 @@ pub fn answered(call: &'static str, answer: u32) {
     SEEN.with_borrow_mut(|seen| *seen.entry((call, answer)).or_default() += 1);
 }
 
-/// A run on this thread: says how many steps it compared, and which answers it saw.
+/// A run on this thread: says how many steps it compared, and which answers it saw, on lines of their own (the test harness puts a sign for each test
+/// between them).
 pub fn run(name: &str, compared: impl FnOnce() -> u64) {
     SEEN.take();
     let steps = compared();
     let seen: String = SEEN.take().iter().map(|((call, answer), n)| format!("\nseen {call} {} {n}", answer_name(call, *answer))).collect();
-    println!("{name}: {steps} steps alike{seen}");
+    println!("\n{name}: {steps} steps alike{seen}");
 }
 
 /// A kind by its name; a refusal by its number.

@@ -194,5 +194,5 @@ fn the_declarations_agree() {
         }
         assert_eq!(found.len(), rattle.len(), "{place} declares an entry twice");
     }
-    println!("the declarations of the entries, in Rattle, C and Rust: {} entries alike", rattle.len());
+    println!("\nthe declarations of the entries, in Rattle, C and Rust: {} entries alike", rattle.len());
 }
