@@ -1,12 +1,21 @@
-/* Hingefrost: NMEA 2000 Fast Packet for C. Every entry is total: no input is out of bounds, and an answer and all lent
- * memory are determined at every input. Link target/staticlib/libffi.a (x86-64 Linux).
+/* Hingefrost: NMEA 2000 Fast Packet for C and C++. Every function is total: no input is out of bounds, and the answer and all
+ * lent memory are determined at every input.
  *
- * A slice is a pointer and a length. A pointer with a number in brackets points to exactly that many elements, which the
- * caller owns; pointers that are written through must not overlap.
+ * Link target/host/libhingefrost.a, which host/archive proves and makes for the machine that it runs on: on x86-64 Linux rt's own
+ * archive, on Arm (aarch64) Linux the same module compiled for Arm. Of C's library it needs memcpy and memset.
  *
- * An entry that may refuse returns the refusal's number (1 to 37), or 0, or one of its own kinds from 256 on. A refusal changes
- * no lent memory but what the answer itself is put into (*value, *size, *length, `counts`, `values`, *frames, and of the next
- * frame `data`, `frame` and the progress that it makes). */
+ * Answers. A function that may refuse returns HF_OK, a refusal's number (1 to 99, docs/REFUSALS.md) or one of the kinds below.
+ * A refusal changes no lent memory but what the answer itself is put into (*value, *size, *length, a message's length, `counts`,
+ * `values`, *frames, and of the next frame `data`, `frame` and the progress that it makes).
+ *
+ * Pointers. A slice is a pointer and a length, in elements. A name with a number in brackets points to exactly that many
+ * elements. All of it is the caller's, aligned as its type is.
+ * - A slice of length 0 may have any pointer, NULL too. No other pointer may be NULL.
+ * - What a call writes through must not overlap anything else that the same call is given, read or written. What it only reads
+ *   may overlap.
+ * - Nothing is kept: once a call has returned, no pointer that it was given is used again. There is no memory of the library's
+ *   own, so calls are reentrant, and any threads may call at once on memory that is not shared.
+ * - A call takes at most HF_STACK_BYTES of stack, and no memory but that and what it is lent. */
 #ifndef HINGEFROST_H
 #define HINGEFROST_H
 
@@ -18,18 +27,82 @@
 extern "C" {
 #endif
 
-/* ---- identifiers: 29 bits, bits 29 to 31 are ignored where one is read */
+#define HF_STACK_BYTES 16384
+
+/* ---- the sizes of what is lent */
+
+#define HF_FRAME_BYTES 8               /* a CAN frame's bytes */
+#define HF_MAX_FAST_PACKET_PAYLOAD 223 /* a message's bytes, at most */
+#define HF_POOL_SLOTS 8                /* a pool's slots, at most */
+#define HF_DEFAULT_SLOTS 4             /* those of hf_pool_default */
+#define HF_SLOT_NUMBERS 8              /* the numbers of a slot, HF_SLOT_.. */
+#define HF_POOL_HEADS (HF_POOL_SLOTS * HF_SLOT_NUMBERS)
+#define HF_POOL_BYTES (HF_POOL_SLOTS * HF_MAX_FAST_PACKET_PAYLOAD)
+#define HF_COUNTERS 5                  /* HF_EXPIRED_SESSIONS .. */
+#define HF_BUILDER_NUMBERS 6           /* HF_BUILDER_PGN .. */
+#define HF_PLACE_NUMBERS 2             /* HF_PLACE_INDEX .. */
+#define HF_FRAME_NUMBERS 3             /* HF_FRAME_ID .. */
+#define HF_ID_PARTS 4                  /* HF_ID_PRIORITY .. */
+#define HF_COUNTS 2                    /* HF_COUNT_TAKEN .. */
+#define HF_VALUES 5                    /* what a refusal of the bench carries, in docs/REFUSALS.md's order, then zeros */
+#define HF_LIST_ROW 3                  /* of each message of the bench: sequence, start, length */
+
+/* ---- answers */
+
+#define HF_OK 0 /* done; of the next frame: here it is */
+
+/* The kinds of an answer that is no refusal. */
+#define HF_END 256               /* no frame is left */
+#define HF_IGNORED 256           /* a frame was heard, and nothing came of it but a counter */
+#define HF_FRAGMENT_CONSUMED 257 /* it was taken, and more of its message is missing */
+#define HF_MESSAGE_COMPLETE 258  /* it brought a message to its end */
+/* The kinds of a batch's row. */
+#define HF_ROW_IGNORED 0
+#define HF_ROW_FRAGMENT_CONSUMED 1
+#define HF_ROW_MESSAGE_COMPLETE 2
+
+/* Refusals; docs/REFUSALS.md says what each means and carries, and who gives it. */
+#define HF_REFUSED_IMPOSSIBLE_POOL 1
+#define HF_REFUSED_INVALID_DATA 2
+#define HF_REFUSED_INVALID_DESTINATION 3 /* of the original's list; no call gives it */
+#define HF_REFUSED_INVALID_FOR_BROADCAST 4
+#define HF_REFUSED_INVALID_FOR_FOCUSED_MESSAGE 5
+#define HF_REFUSED_PS_MUST_BE_NULL 6
+#define HF_REFUSED_EMPTY_PAYLOAD 7
+#define HF_REFUSED_FRAME_LENGTH 20
+#define HF_REFUSED_RESTARTED 21
+#define HF_REFUSED_ANNOUNCED 22
+#define HF_REFUSED_STRAY 23
+#define HF_REFUSED_ORDER 24
+#define HF_REFUSED_PADDING 25
+#define HF_REFUSED_INCOMPLETE 26
+#define HF_REFUSED_NO_ROOM 27
+#define HF_REFUSED_BAD_SPLIT 28
+#define HF_REFUSED_NO_COUNT 30
+#define HF_REFUSED_HOURS_OVER 31
+#define HF_REFUSED_NO_CLAIM 32
+#define HF_REFUSED_COUNT 33
+#define HF_REFUSED_SIZE 34
+#define HF_REFUSED_HOURS 35
+#define HF_REFUSED_PATTERN 36
+#define HF_REFUSED_SEQUENCE 37
+
+/* ---- identifiers: 29 bits; bits 29 to 31 are ignored where one is read */
 
 #define HF_NOBODY 256 /* in the place of a destination: none */
+#define HF_NOT_SET 256 /* in the place of a setter's priority: 6 stays */
+
+enum { HF_ID_PRIORITY, HF_ID_PGN, HF_ID_SOURCE, HF_ID_DESTINATION };
 
 uint8_t hf_can_id_priority(uint32_t id);
 uint32_t hf_can_id_pgn(uint32_t id);
 uint16_t hf_can_id_destination(uint32_t id); /* or HF_NOBODY */
 uint8_t hf_can_id_source_address(uint32_t id);
-/* All four in one call: priority, PGN, source, and destination or HF_NOBODY. */
-void hf_can_id_parts(uint32_t id, uint32_t parts[4]);
+/* All four in one call, the destination or HF_NOBODY. */
+void hf_can_id_parts(uint32_t id, uint32_t parts[HF_ID_PARTS]);
 
-/* 0 and the identifier in *value; or 2, 4, 5, 6, and in *value the PF that 5 carries (0 for the others). */
+/* HF_OK and the identifier in *value; or 2, 4, 5, 6, and in *value the PF that 5 carries (0 for the others). A destination of
+ * 256 or more is none. */
 uint32_t hf_can_id_build(uint8_t priority, uint32_t pgn, uint8_t source_address, uint16_t destination, uint32_t *value);
 /* The same by the setters, which keep a priority's low 3 bits; 256 or more leaves priority 6, or no destination. */
 uint32_t hf_can_id_build_with(uint32_t pgn, uint8_t source_address, uint16_t priority, uint16_t destination, uint32_t *value);
@@ -38,82 +111,198 @@ uint32_t hf_can_id_build_to(uint32_t pgn, uint8_t source_address, uint8_t priori
 /* ---- the PGN list (any order; empty and repeated are allowed), and a frame cut short */
 
 bool hf_is_listed(const uint32_t *pgns, size_t pgns_len, uint32_t pgn);
+/* The same, as the assembler asks it. */
+bool hf_handles(const uint32_t *pgns, size_t pgns_len, uint32_t pgn);
 /* Keeps the first min(len, 8) bytes and fills the rest with 0xFF. */
-void hf_fill_short(uint8_t data[8], size_t len);
+void hf_fill_short(uint8_t data[HF_FRAME_BYTES], size_t len);
 
-/* ---- from a payload to frames. A builder is PGN, source, destination, priority, sequence, fast (0 or 1). */
+/* ---- from a payload to frames, as arrays; the structs below are the same with less to write */
 
-#define HF_END 256
+/* The numbers of a builder (fast is 0 or 1), of a place in its message, and of a frame. */
+enum { HF_BUILDER_PGN, HF_BUILDER_SOURCE, HF_BUILDER_DESTINATION, HF_BUILDER_PRIORITY, HF_BUILDER_SEQUENCE, HF_BUILDER_FAST };
+enum { HF_PLACE_INDEX, HF_PLACE_SENT };
+enum { HF_FRAME_ID, HF_FRAME_LENGTH, HF_FRAME_CARRIED };
 
 /* Returns the number that the caller holds from now on. */
-uint8_t hf_builder_new(uint32_t pgn, uint8_t source_address, uint16_t destination, const uint8_t *payload, size_t payload_len,
-                       const uint32_t *pgns, size_t pgns_len, uint8_t sequence_id, uint64_t builder[6]);
+uint8_t hf_raw_builder_new(uint32_t pgn, uint8_t source_address, uint16_t destination, const uint8_t *payload, size_t payload_len,
+                           const uint32_t *pgns, size_t pgns_len, uint8_t sequence_id, uint64_t builder[HF_BUILDER_NUMBERS]);
 /* The setters refuse nothing and write all six numbers, each in the width of its field. */
-void hf_builder_with_sequence_id(uint64_t builder[6], uint8_t sequence_id);
-void hf_builder_with_priority(uint64_t builder[6], uint8_t priority);
-void hf_builder_to_destination(uint64_t builder[6], uint8_t destination);
+void hf_raw_builder_with_sequence_id(uint64_t builder[HF_BUILDER_NUMBERS], uint8_t sequence_id);
+void hf_raw_builder_with_priority(uint64_t builder[HF_BUILDER_NUMBERS], uint8_t priority);
+void hf_raw_builder_to_destination(uint64_t builder[HF_BUILDER_NUMBERS], uint8_t destination);
 
-/* 0 for a frame, HF_END, or a refusal. `frame` is identifier, length and what the refusal carries; `after` is the frame
- * index and the bytes sent that follow. Without a frame, `data`, identifier and length are zeros. */
-uint32_t hf_next_frame(const uint64_t builder[6], uint8_t frame_index, size_t bytes_sent, const uint8_t *payload, size_t payload_len,
-                       uint8_t data[8], uint64_t frame[3], uint64_t after[2]);
-/* The same with the place (frame index, bytes sent) kept by the caller, from the one that hf_builder_build gives. The index is
- * read modulo 256, and written only where it changes. */
-void hf_builder_build(const uint64_t builder[6], uint64_t place[2]);
-uint32_t hf_frame_iterator_next(const uint64_t builder[6], uint64_t place[2], const uint8_t *payload, size_t payload_len,
-                                uint8_t data[8], uint64_t frame[3]);
+/* HF_OK for a frame, HF_END, or a refusal. `frame` is identifier, length and what the refusal carries; `after` is the place that
+ * follows. Without a frame, `data`, identifier and length are zeros. */
+uint32_t hf_raw_next_frame(const uint64_t builder[HF_BUILDER_NUMBERS], uint8_t frame_index, size_t bytes_sent, const uint8_t *payload, size_t payload_len,
+                           uint8_t data[HF_FRAME_BYTES], uint64_t frame[HF_FRAME_NUMBERS], uint64_t after[HF_PLACE_NUMBERS]);
+/* The same with the place kept by the caller, from the one that hf_raw_builder_build gives. The index is read modulo 256, and
+ * written only where it changes. */
+void hf_raw_builder_build(const uint64_t builder[HF_BUILDER_NUMBERS], uint64_t place[HF_PLACE_NUMBERS]);
+uint32_t hf_raw_frame_iterator_next(const uint64_t builder[HF_BUILDER_NUMBERS], uint64_t place[HF_PLACE_NUMBERS], const uint8_t *payload, size_t payload_len,
+                                    uint8_t data[HF_FRAME_BYTES], uint64_t frame[HF_FRAME_NUMBERS]);
 
-/* ---- from frames to messages. A pool has up to 8 slots: slot k is eight numbers of `heads` from 8 * k on (in progress,
- * source, sequence, last index, PGN, expected size, current size, last time) and 223 of `bytes` from 223 * k on. The
- * counters are expired, exhausted, rejected, lost and unknown. */
+/* ---- from frames to messages, as arrays. Slot k of a pool is the numbers HF_SLOT_.. of `heads` from HF_SLOT_NUMBERS * k on,
+ * and its buffer HF_MAX_FAST_PACKET_PAYLOAD of `bytes` from HF_MAX_FAST_PACKET_PAYLOAD * k on. */
 
-#define HF_IGNORED 256
-#define HF_FRAGMENT_CONSUMED 257
-#define HF_MESSAGE_COMPLETE 258
+enum {
+    HF_SLOT_IN_PROGRESS, HF_SLOT_SOURCE, HF_SLOT_SEQUENCE, HF_SLOT_LAST_INDEX,
+    HF_SLOT_PGN, HF_SLOT_EXPECTED_SIZE, HF_SLOT_CURRENT_SIZE, HF_SLOT_LAST_TIME
+};
+enum { HF_EXPIRED_SESSIONS, HF_POOL_EXHAUSTED, HF_REJECTED_FRAMES, HF_LOST_FRAGMENTS, HF_UNKNOWN_PGN };
 
-bool hf_handles(const uint32_t *pgns, size_t pgns_len, uint32_t pgn);
-/* 0 and a fresh pool; above 8, 1 and *size 0, with `heads` and `bytes` as they were. */
-uint32_t hf_pool_new(size_t wanted, uint64_t heads[64], uint8_t bytes[1784], size_t *size);
-uint32_t hf_pool_default(uint64_t heads[64], uint8_t bytes[1784], size_t *size);
+/* HF_OK and a fresh pool; above HF_POOL_SLOTS, 1 and *size 0, with `heads` and `bytes` as they were. */
+uint32_t hf_raw_pool_new(size_t wanted, uint64_t heads[HF_POOL_HEADS], uint8_t bytes[HF_POOL_BYTES], size_t *size);
+uint32_t hf_raw_pool_default(uint64_t heads[HF_POOL_HEADS], uint8_t bytes[HF_POOL_BYTES], size_t *size);
 
 /* 1 and all lent memory but *length as it was, or one of the three kinds. Each number of `heads` is read in the width of its
  * field (a flag is any number but 0, a source is taken modulo 256), and written only where that field has changed. *length is
  * the message's length, or 0 without one; `payload` holds the message and zeros after it, and is not written without one. */
-uint32_t hf_process_frame(size_t size, uint64_t heads[64], uint8_t bytes[1784], uint32_t counters[5], const uint32_t *pgns, size_t pgns_len,
-                          uint64_t now_ms, uint32_t pgn, uint8_t source_address, const uint8_t data[8], uint8_t payload[223], size_t *length);
+uint32_t hf_raw_process_frame(size_t size, uint64_t heads[HF_POOL_HEADS], uint8_t bytes[HF_POOL_BYTES], uint32_t counters[HF_COUNTERS],
+                              const uint32_t *pgns, size_t pgns_len, uint64_t now_ms, uint32_t pgn, uint8_t source_address,
+                              const uint8_t data[HF_FRAME_BYTES], uint8_t payload[HF_MAX_FAST_PACKET_PAYLOAD], size_t *length);
 /* The same by the call that has the counters by value: fewer copies of the pool. */
-uint32_t hf_receive(size_t size, uint64_t heads[64], uint8_t bytes[1784], uint32_t counters[5], const uint32_t *pgns, size_t pgns_len, uint64_t now_ms,
-                    uint32_t pgn, uint8_t source_address, const uint8_t data[8], uint8_t payload[223], size_t *length);
+uint32_t hf_raw_receive(size_t size, uint64_t heads[HF_POOL_HEADS], uint8_t bytes[HF_POOL_BYTES], uint32_t counters[HF_COUNTERS],
+                        const uint32_t *pgns, size_t pgns_len, uint64_t now_ms, uint32_t pgn, uint8_t source_address,
+                        const uint8_t data[HF_FRAME_BYTES], uint8_t payload[HF_MAX_FAST_PACKET_PAYLOAD], size_t *length);
 /* Of the frame's eight bytes only the first min(frame_length, 8) count; 0xFF stands for the others. */
-uint32_t hf_process_frame_with_length(size_t size, uint64_t heads[64], uint8_t bytes[1784], uint32_t counters[5], const uint32_t *pgns,
-                                      size_t pgns_len, uint64_t now_ms, uint32_t pgn, uint8_t source_address, const uint8_t data[8],
-                                      size_t frame_length, uint8_t payload[223], size_t *length);
+uint32_t hf_raw_process_frame_with_length(size_t size, uint64_t heads[HF_POOL_HEADS], uint8_t bytes[HF_POOL_BYTES], uint32_t counters[HF_COUNTERS],
+                                          const uint32_t *pgns, size_t pgns_len, uint64_t now_ms, uint32_t pgn, uint8_t source_address,
+                                          const uint8_t data[HF_FRAME_BYTES], size_t frame_length, uint8_t payload[HF_MAX_FAST_PACKET_PAYLOAD],
+                                          size_t *length);
 
-/* Many frames in one call: rows of times, PGNs, sources and eight bytes a frame. 0, 1 for an impossible pool, 27 for a row
- * shorter than `times`, each with all lent memory but `counts` as it was. Of each frame taken, `kinds` gets 0 Ignored,
- * 1 FragmentConsumed or 2 MessageComplete and `lengths` the message's length; messages stand end to end from the arena's
- * start. It stops before the first frame whose message has no room. `counts` is the frames taken and the arena's bytes taken,
- * 0 and 0 with a refusal. The heads are written as by hf_process_frame. */
-uint32_t hf_process_frames(size_t size, uint64_t heads[64], uint8_t bytes[1784], uint32_t counters[5], const uint32_t *pgns, size_t pgns_len,
-                           const uint64_t *times, size_t times_len, const uint32_t *frame_pgns, size_t frame_pgns_len, const uint8_t *sources,
-                           size_t sources_len, const uint8_t *data, size_t data_len, uint8_t *kinds, size_t kinds_len, uint8_t *lengths,
-                           size_t lengths_len, uint8_t *arena, size_t arena_len, uint64_t counts[2]);
+/* Many frames in one call: rows of times, PGNs, sources and eight bytes a frame. HF_OK, 1 for an impossible pool, 27 for a row
+ * shorter than `times`, each refusal with all lent memory but `counts` as it was. Of each frame taken, `kinds` gets its kind and
+ * `lengths` the message's length; messages stand end to end from the arena's start. It stops before the first frame whose message
+ * has no room. `counts` is the frames taken and the arena's bytes taken, 0 and 0 with a refusal. The heads are written as by
+ * hf_raw_process_frame. */
+enum { HF_COUNT_TAKEN, HF_COUNT_USED };
+uint32_t hf_raw_process_frames(size_t size, uint64_t heads[HF_POOL_HEADS], uint8_t bytes[HF_POOL_BYTES], uint32_t counters[HF_COUNTERS],
+                               const uint32_t *pgns, size_t pgns_len, const uint64_t *times, size_t times_len,
+                               const uint32_t *frame_pgns, size_t frame_pgns_len, const uint8_t *sources, size_t sources_len,
+                               const uint8_t *data, size_t data_len, uint8_t *kinds, size_t kinds_len,
+                               uint8_t *lengths, size_t lengths_len, uint8_t *arena, size_t arena_len, uint64_t counts[HF_COUNTS]);
 
 /* ---- the bench, over rows of identifiers, eight bytes a frame and lengths; the shortest row decides. `values` gets what is
  * given or what the refusal carries, and zeros. */
 
-/* 0 and in values[0] the number of messages, or 20 to 27. The list gets sequence, start and length of each message, three
- * numbers a row; the arena their bytes, end to end. */
+/* HF_OK and in values[0] the number of messages, or 20 to 27. The list gets HF_LIST_ROW numbers of each message; the arena their
+ * bytes, end to end. */
 uint32_t hf_reassemble(const uint32_t *ids, size_t ids_len, const uint8_t *bytes, size_t bytes_len, const size_t *lens, size_t lens_len, uint8_t source,
-                       uint32_t pgn, size_t *list, size_t list_len, uint8_t *arena, size_t arena_len, uint64_t values[5]);
+                       uint32_t pgn, size_t *list, size_t list_len, uint8_t *arena, size_t arena_len, uint64_t values[HF_VALUES]);
 /* How many frames rows of these lengths hold. */
 size_t hf_frame_count(size_t ids, size_t bytes, size_t lens);
-/* 0 and the number of frames laid into the rows, or 27 or 28 and 0. */
+/* HF_OK and the number of frames laid into the rows, or 27 or 28 and 0. */
 uint32_t hf_fast_packet_frames(uint32_t id, uint8_t sequence, const uint8_t *payload, size_t payload_len, uint32_t *ids, size_t ids_len, uint8_t *bytes,
                                size_t bytes_len, size_t *lens, size_t lens_len, size_t *frames);
-/* 0, or 20 to 26 or 30 to 37. */
+/* HF_OK, or 20 to 26 or 30 to 37. */
 uint32_t hf_check_tx(const uint32_t *ids, size_t ids_len, const uint8_t *bytes, size_t bytes_len, const size_t *lens, size_t lens_len, uint8_t source,
-                     size_t expected, uint32_t hours_base, uint64_t values[5]);
+                     size_t expected, uint32_t hours_base, uint64_t values[HF_VALUES]);
+
+/* ---- the same as structs: what hf_raw_.. takes apart stands in one value */
+
+typedef struct hf_pool {
+    size_t size;
+    uint64_t heads[HF_POOL_HEADS];
+    uint8_t bytes[HF_POOL_BYTES];
+} hf_pool;
+
+/* counts[HF_LOST_FRAGMENTS], and so on; fresh ones are zeros. */
+typedef struct hf_counters {
+    uint32_t counts[HF_COUNTERS];
+} hf_counters;
+
+typedef struct hf_message {
+    size_t length;
+    uint8_t payload[HF_MAX_FAST_PACKET_PAYLOAD];
+} hf_message;
+
+typedef struct hf_builder {
+    uint64_t numbers[HF_BUILDER_NUMBERS];
+} hf_builder;
+
+/* A builder, its place, and the payload, which must live as long as frames are asked for. */
+typedef struct hf_frame_iterator {
+    hf_builder builder;
+    uint64_t place[HF_PLACE_NUMBERS];
+    const uint8_t *payload;
+    size_t payload_len;
+} hf_frame_iterator;
+
+/* What a refusal carries stands in `carried`. */
+typedef struct hf_frame {
+    uint32_t id;
+    uint8_t data[HF_FRAME_BYTES];
+    size_t length;
+    uint64_t carried;
+} hf_frame;
+
+/* HF_OK, or 1 above HF_POOL_SLOTS: the pool is then of size 0, its slots as they were. */
+static inline uint32_t hf_pool_new(hf_pool *pool, size_t wanted) {
+    return hf_raw_pool_new(wanted, pool->heads, pool->bytes, &pool->size);
+}
+static inline void hf_pool_default(hf_pool *pool) {
+    hf_raw_pool_default(pool->heads, pool->bytes, &pool->size);
+}
+static inline void hf_counters_new(hf_counters *counters) {
+    for (int i = 0; i < HF_COUNTERS; i++) counters->counts[i] = 0;
+}
+
+/* HF_IGNORED, HF_FRAGMENT_CONSUMED or HF_MESSAGE_COMPLETE; 1 for a pool that no call made. */
+static inline uint32_t hf_process_frame(hf_pool *pool, hf_counters *counters, const uint32_t *pgns, size_t pgns_len, uint64_t now_ms, uint32_t pgn,
+                                        uint8_t source_address, const uint8_t data[HF_FRAME_BYTES], hf_message *message) {
+    return hf_raw_process_frame(pool->size, pool->heads, pool->bytes, counters->counts, pgns, pgns_len, now_ms, pgn, source_address, data,
+                                message->payload, &message->length);
+}
+static inline uint32_t hf_receive(hf_pool *pool, hf_counters *counters, const uint32_t *pgns, size_t pgns_len, uint64_t now_ms, uint32_t pgn,
+                                  uint8_t source_address, const uint8_t data[HF_FRAME_BYTES], hf_message *message) {
+    return hf_raw_receive(pool->size, pool->heads, pool->bytes, counters->counts, pgns, pgns_len, now_ms, pgn, source_address, data, message->payload,
+                          &message->length);
+}
+static inline uint32_t hf_process_frame_with_length(hf_pool *pool, hf_counters *counters, const uint32_t *pgns, size_t pgns_len, uint64_t now_ms,
+                                                    uint32_t pgn, uint8_t source_address, const uint8_t data[HF_FRAME_BYTES], size_t frame_length,
+                                                    hf_message *message) {
+    return hf_raw_process_frame_with_length(pool->size, pool->heads, pool->bytes, counters->counts, pgns, pgns_len, now_ms, pgn, source_address, data,
+                                            frame_length, message->payload, &message->length);
+}
+/* Rows of `frames` elements each (`data` of 8 a frame), in and out. */
+static inline uint32_t hf_process_frames(hf_pool *pool, hf_counters *counters, const uint32_t *pgns, size_t pgns_len, size_t frames, const uint64_t *times,
+                                         const uint32_t *frame_pgns, const uint8_t *sources, const uint8_t *data, uint8_t *kinds, uint8_t *lengths,
+                                         uint8_t *arena, size_t arena_len, uint64_t counts[HF_COUNTS]) {
+    return hf_raw_process_frames(pool->size, pool->heads, pool->bytes, counters->counts, pgns, pgns_len, times, frames, frame_pgns, frames, sources, frames,
+                                 data, HF_FRAME_BYTES * frames, kinds, frames, lengths, frames, arena, arena_len, counts);
+}
+
+/* Returns the number that the caller holds from now on. */
+static inline uint8_t hf_builder_new(hf_builder *builder, uint32_t pgn, uint8_t source_address, uint16_t destination, const uint8_t *payload,
+                                     size_t payload_len, const uint32_t *pgns, size_t pgns_len, uint8_t sequence_id) {
+    return hf_raw_builder_new(pgn, source_address, destination, payload, payload_len, pgns, pgns_len, sequence_id, builder->numbers);
+}
+static inline void hf_builder_with_sequence_id(hf_builder *builder, uint8_t sequence_id) {
+    hf_raw_builder_with_sequence_id(builder->numbers, sequence_id);
+}
+static inline void hf_builder_with_priority(hf_builder *builder, uint8_t priority) {
+    hf_raw_builder_with_priority(builder->numbers, priority);
+}
+static inline void hf_builder_to_destination(hf_builder *builder, uint8_t destination) {
+    hf_raw_builder_to_destination(builder->numbers, destination);
+}
+/* The payload is the one that the builder was made with. */
+static inline void hf_builder_build(const hf_builder *builder, const uint8_t *payload, size_t payload_len, hf_frame_iterator *frames) {
+    frames->builder = *builder;
+    frames->payload = payload;
+    frames->payload_len = payload_len;
+    hf_raw_builder_build(builder->numbers, frames->place);
+}
+/* HF_OK and the next frame, HF_END, or a refusal. */
+static inline uint32_t hf_frame_iterator_next(hf_frame_iterator *frames, hf_frame *frame) {
+    uint64_t numbers[HF_FRAME_NUMBERS];
+    const uint32_t answer =
+        hf_raw_frame_iterator_next(frames->builder.numbers, frames->place, frames->payload, frames->payload_len, frame->data, numbers);
+    frame->id = (uint32_t)numbers[HF_FRAME_ID];
+    frame->length = (size_t)numbers[HF_FRAME_LENGTH];
+    frame->carried = numbers[HF_FRAME_CARRIED];
+    return answer;
+}
 
 #ifdef __cplusplus
 }

@@ -1,8 +1,9 @@
-/* The paper's bench values through the C header: identifiers, frames, messages. Prints what fails; exits with the number
- * of failures. */
+/* The paper's bench values through hingefrost.h, as structs and as arrays: identifiers, frames, messages; every entry, slices of
+ * no elements at NULL, and how much stack they take. Prints what fails; exits with the number of failures. */
 #include "../hingefrost.h"
 #include <stdio.h>
 #include <string.h>
+#include <ucontext.h>
 
 static int failed;
 static void expect(int holds, const char *what) {
@@ -16,111 +17,181 @@ static const uint32_t LIST[] = {127489};
 
 static void identifiers(void) {
     uint32_t v = 0;
-    expect(hf_can_id_build(6, 127489, 35, HF_NOBODY, &v) == 0 && v == 0x19F20123, "P1");
-    expect(hf_can_id_build(6, 60928, 35, 255, &v) == 0 && v == 0x18EEFF23, "P2");
-    expect(hf_can_id_build(3, 126208, 35, 16, &v) == 0 && v == 0x0DED1023, "P3");
+    expect(hf_can_id_build(6, 127489, 35, HF_NOBODY, &v) == HF_OK && v == 0x19F20123, "P1");
+    expect(hf_can_id_build(6, 60928, 35, 255, &v) == HF_OK && v == 0x18EEFF23, "P2");
+    expect(hf_can_id_build(3, 126208, 35, 16, &v) == HF_OK && v == 0x0DED1023, "P3");
     expect(hf_can_id_priority(v) == 3 && hf_can_id_pgn(v) == 126208 && hf_can_id_destination(v) == 16 && hf_can_id_source_address(v) == 35, "P3 read back");
     expect(hf_can_id_destination(0x19F20123) == HF_NOBODY, "P1 has no destination");
-    uint32_t parts[4];
+    uint32_t parts[HF_ID_PARTS];
     hf_can_id_parts(v, parts);
-    expect(parts[0] == 3 && parts[1] == 126208 && parts[2] == 35 && parts[3] == 16, "P3 read back in one call");
+    expect(parts[HF_ID_PRIORITY] == 3 && parts[HF_ID_PGN] == 126208 && parts[HF_ID_SOURCE] == 35 && parts[HF_ID_DESTINATION] == 16, "P3 read back in one call");
     hf_can_id_parts(0x19F20123, parts);
-    expect(parts[0] == 6 && parts[1] == 127489 && parts[2] == 35 && parts[3] == HF_NOBODY, "P1 read back in one call");
-    expect(hf_can_id_build(6, 127489, 35, 16, &v) == 5 && v == 242, "P4");
-    expect(hf_can_id_build(6, 60928, 35, HF_NOBODY, &v) == 4, "P5");
-    expect(hf_can_id_build(6, 60929, 35, 255, &v) == 6, "P6");
-    expect(hf_can_id_build(6, 0x40000, 35, HF_NOBODY, &v) == 2, "P7");
-    expect(hf_can_id_build_with(127489, 35, 256, HF_NOBODY, &v) == 0 && v == 0x19F20123, "priority 6 by default");
-    expect(hf_can_id_build_to(126208, 35, 11, 16, &v) == 0 && v == 0x0DED1023, "a priority's low 3 bits");
+    expect(parts[HF_ID_PRIORITY] == 6 && parts[HF_ID_PGN] == 127489 && parts[HF_ID_SOURCE] == 35 && parts[HF_ID_DESTINATION] == HF_NOBODY, "P1 read back in one call");
+    expect(hf_can_id_build(6, 127489, 35, 16, &v) == HF_REFUSED_INVALID_FOR_FOCUSED_MESSAGE && v == 242, "P4");
+    expect(hf_can_id_build(6, 60928, 35, HF_NOBODY, &v) == HF_REFUSED_INVALID_FOR_BROADCAST && v == 0, "P5");
+    expect(hf_can_id_build(6, 60929, 35, 255, &v) == HF_REFUSED_PS_MUST_BE_NULL && v == 0, "P6");
+    expect(hf_can_id_build(6, 0x40000, 35, HF_NOBODY, &v) == HF_REFUSED_INVALID_DATA && v == 0, "P7");
+    expect(hf_can_id_build_with(127489, 35, HF_NOT_SET, HF_NOBODY, &v) == HF_OK && v == 0x19F20123, "priority 6 by default");
+    expect(hf_can_id_build_to(126208, 35, 11, 16, &v) == HF_OK && v == 0x0DED1023, "a priority's low 3 bits");
+}
+
+static void lists(void) {
+    static const uint32_t any[] = {130824, 127489, 127489, 0};
+    expect(hf_is_listed(any, 4, 0) && hf_is_listed(any, 4, 127489) && !hf_is_listed(any, 3, 0), "a list in any order");
+    expect(hf_handles(any, 4, 0) && hf_handles(LIST, 1, 127489) && !hf_handles(LIST, 1, 5), "the list, as the assembler asks it");
+    expect(!hf_is_listed(NULL, 0, 0) && !hf_handles(NULL, 0, 0), "no list at all");
+    uint8_t data[HF_FRAME_BYTES] = {1, 2, 3, 4, 5, 6, 7, 8};
+    hf_fill_short(data, 8);
+    expect(!memcmp(data, "\1\2\3\4\5\6\7\10", 8), "a whole frame");
+    hf_fill_short(data, 2);
+    expect(!memcmp(data, "\1\2\xFF\xFF\xFF\xFF\xFF\xFF", 8), "a frame of two bytes");
 }
 
 static void frames(void) {
-    uint64_t b[6], frame[3], after[2], place[2];
-    uint8_t data[8], payload[223];
-    for (int i = 0; i < 223; i++) payload[i] = (uint8_t)(i + 1);
-    expect(hf_builder_new(127489, 35, HF_NOBODY, payload, 3, LIST, 1, 2, b) == 3, "the number that the caller holds");
-    expect(hf_next_frame(b, 0, 0, payload, 3, data, frame, after) == 0 && !memcmp(data, "\x40\x03\x01\x02\x03\xFF\xFF\xFF", 8), "P8");
-    expect(frame[0] == 0x19F20123 && frame[1] == 8 && after[0] == 1 && after[1] == 3, "P8's identifier, length and progress");
-    hf_builder_new(60928, 35, 255, payload, 8, LIST, 1, 0, b);
-    expect(hf_next_frame(b, 0, 0, payload, 8, data, frame, after) == 0 && !memcmp(data, payload, 8), "eight bytes, unlisted: raw");
+    hf_builder b;
+    hf_frame_iterator it;
+    hf_frame f;
+    uint8_t payload[HF_MAX_FAST_PACKET_PAYLOAD];
+    for (int i = 0; i < HF_MAX_FAST_PACKET_PAYLOAD; i++) payload[i] = (uint8_t)(i + 1);
+    expect(hf_builder_new(&b, 127489, 35, HF_NOBODY, payload, 3, LIST, 1, 2) == 3, "the number that the caller holds");
+    hf_builder_build(&b, payload, 3, &it);
+    expect(hf_frame_iterator_next(&it, &f) == HF_OK && !memcmp(f.data, "\x40\x03\x01\x02\x03\xFF\xFF\xFF", 8), "P8");
+    expect(f.id == 0x19F20123 && f.length == 8 && it.place[HF_PLACE_INDEX] == 1 && it.place[HF_PLACE_SENT] == 3, "P8's identifier, length and progress");
+    uint8_t data[HF_FRAME_BYTES];
+    uint64_t frame[HF_FRAME_NUMBERS], after[HF_PLACE_NUMBERS];
+    expect(hf_raw_next_frame(b.numbers, 0, 0, payload, 3, data, frame, after) == HF_OK && !memcmp(data, f.data, 8) && frame[HF_FRAME_ID] == f.id
+               && frame[HF_FRAME_LENGTH] == 8 && after[HF_PLACE_INDEX] == 1 && after[HF_PLACE_SENT] == 3, "P8 by its place");
+    hf_builder_new(&b, 60928, 35, 255, payload, 8, LIST, 1, 0);
+    hf_builder_build(&b, payload, 8, &it);
+    expect(hf_frame_iterator_next(&it, &f) == HF_OK && !memcmp(f.data, payload, 8), "eight bytes, unlisted: raw");
     int n = 0;
-    hf_builder_new(127489, 35, HF_NOBODY, payload, 223, LIST, 1, 7, b);
-    hf_builder_build(b, place);
-    while (hf_frame_iterator_next(b, place, payload, 223, data, frame) == 0) n++;
-    expect(n == 32 && place[0] == 32 && place[1] == 223, "223 bytes: 32 frames");
-    expect(hf_frame_iterator_next(b, place, payload, 223, data, frame) == HF_END, "and then End");
-    expect(hf_next_frame(b, 0, 0, payload, 0, data, frame, after) == 7 && after[0] == 1, "no payload: 7");
+    hf_builder_new(&b, 127489, 35, HF_NOBODY, payload, HF_MAX_FAST_PACKET_PAYLOAD, LIST, 1, 7);
+    hf_builder_build(&b, payload, HF_MAX_FAST_PACKET_PAYLOAD, &it);
+    while (hf_frame_iterator_next(&it, &f) == HF_OK) n++;
+    expect(n == 32 && it.place[HF_PLACE_INDEX] == 32 && it.place[HF_PLACE_SENT] == HF_MAX_FAST_PACKET_PAYLOAD, "223 bytes: 32 frames");
+    expect(hf_frame_iterator_next(&it, &f) == HF_END, "and then End");
+    hf_builder_with_sequence_id(&b, 9);
+    hf_builder_with_priority(&b, 11);
+    hf_builder_to_destination(&b, 16);
+    expect(b.numbers[HF_BUILDER_SEQUENCE] == 1 && b.numbers[HF_BUILDER_PRIORITY] == 3 && b.numbers[HF_BUILDER_DESTINATION] == 16, "the setters");
+    hf_builder_build(&b, payload, 10, &it);
+    expect(hf_frame_iterator_next(&it, &f) == HF_REFUSED_INVALID_FOR_FOCUSED_MESSAGE && f.carried == 242 && f.id == 0 && f.length == 0, "a refusal, and its PF");
+    hf_builder_new(&b, 127489, 35, HF_NOBODY, NULL, 0, NULL, 0, 0);
+    hf_builder_build(&b, NULL, 0, &it);
+    expect(hf_frame_iterator_next(&it, &f) == HF_REFUSED_EMPTY_PAYLOAD && hf_frame_iterator_next(&it, &f) == HF_END, "no payload and no list, at NULL: 7, and then End");
+    expect(hf_raw_next_frame(b.numbers, 0, 0, NULL, 0, data, frame, after) == HF_REFUSED_EMPTY_PAYLOAD && after[HF_PLACE_INDEX] == 1, "the same by its place");
+}
+
+static hf_pool pool;
+static hf_counters counters;
+static hf_message message;
+
+static uint32_t hear(uint64_t now_ms, const char *data) {
+    return hf_process_frame(&pool, &counters, LIST, 1, now_ms, 127489, 35, (const uint8_t *)data, &message);
 }
 
 static void messages(void) {
-    uint64_t heads[64];
-    uint8_t bytes[1784], payload[223];
-    uint32_t counters[5] = {0, 0, 0, 0, 0};
-    size_t size, length;
-    expect(hf_pool_new(9, heads, bytes, &size) == 1 && size == 0, "a pool of nine: 1");
-    expect(hf_pool_default(heads, bytes, &size) == 0 && size == 4, "four slots by default");
-    expect(hf_pool_new(1, heads, bytes, &size) == 0 && size == 1, "one slot");
-#define HEAR(now, text) hf_process_frame(size, heads, bytes, counters, LIST, 1, now, 127489, 35, (const uint8_t *)(text), payload, &length)
-    expect(HEAR(0, "\x00\x00......") == HF_IGNORED && counters[2] == 1, "P9: announced 0");
-    expect(HEAR(0, "\x00\xE0......") == HF_IGNORED && counters[2] == 2, "P9: announced 224");
-    expect(HEAR(1000, "\x00\x07" "abcdef") == HF_FRAGMENT_CONSUMED, "P10: opened");
-    expect(HEAR(1500, "\x01g......") == HF_MESSAGE_COMPLETE && length == 7 && !memcmp(payload, "abcdefg\0", 8), "P10 and P11: taken after 500 ms");
-    expect(HEAR(1000, "\x00\x07" "abcdef") == HF_FRAGMENT_CONSUMED && HEAR(1501, "\x01g......") == HF_IGNORED && counters[3] == 1 && heads[0] == 1, "P11: a stray after 501 ms");
-    expect(HEAR(1000, "\x00\x0E" "abcdef") == HF_FRAGMENT_CONSUMED && HEAR(0, "\x01g......") == HF_FRAGMENT_CONSUMED && heads[7] == 0, "P12: continued at 0");
-    expect(HEAR(0, "\x20\x07......") == HF_IGNORED && counters[1] == 1, "one slot, another key: exhausted");
-    expect(HEAR(501, "\x20\x07......") == HF_FRAGMENT_CONSUMED && counters[0] == 1, "silent 501: expired");
-    expect(hf_process_frame_with_length(size, heads, bytes, counters, LIST, 1, 600, 127489, 35, (const uint8_t *)"\x00\x06" "ab....", 4, payload, &length) == HF_MESSAGE_COMPLETE
-               && length == 6 && !memcmp(payload, "ab\xFF\xFF\xFF\xFF", 6), "a frame of four bytes");
-    heads[2] = 8;
-    payload[0] = 0xEE;
-    expect(HEAR(0, "\x00\x06......") == 1 && length == 0 && payload[0] == 0xEE, "an impossible pool: 1, and the payload as it was");
-    expect(hf_pool_new(9, heads, bytes, &size) == 1 && size == 0 && heads[2] == 8, "a pool of nine leaves the heads as they were");
-    heads[0] = 2;
-    heads[1] = 300;
-    size = 9;
-    expect(HEAR(0, "\x00\x06......") == 1 && heads[0] == 2 && heads[1] == 300, "a refusal leaves numbers wider than their fields");
-    expect(hf_handles(LIST, 1, 127489) && !hf_handles(LIST, 1, 5) && !hf_handles(LIST, 0, 5), "the list");
+    hf_counters_new(&counters);
+    expect(hf_pool_new(&pool, HF_POOL_SLOTS + 1) == HF_REFUSED_IMPOSSIBLE_POOL && pool.size == 0, "a pool of nine: 1");
+    hf_pool_default(&pool);
+    expect(pool.size == HF_DEFAULT_SLOTS, "four slots by default");
+    expect(hf_pool_new(&pool, 1) == HF_OK && pool.size == 1, "one slot");
+    expect(hear(0, "\x00\x00......") == HF_IGNORED && counters.counts[HF_REJECTED_FRAMES] == 1, "P9: announced 0");
+    expect(hear(0, "\x00\xE0......") == HF_IGNORED && counters.counts[HF_REJECTED_FRAMES] == 2, "P9: announced 224");
+    expect(hear(1000, "\x00\x07" "abcdef") == HF_FRAGMENT_CONSUMED, "P10: opened");
+    expect(hear(1500, "\x01g......") == HF_MESSAGE_COMPLETE && message.length == 7 && !memcmp(message.payload, "abcdefg\0", 8), "P10 and P11: taken after 500 ms");
+    expect(hear(1000, "\x00\x07" "abcdef") == HF_FRAGMENT_CONSUMED && hear(1501, "\x01g......") == HF_IGNORED && counters.counts[HF_LOST_FRAGMENTS] == 1
+               && pool.heads[HF_SLOT_IN_PROGRESS] == 1, "P11: a stray after 501 ms");
+    expect(hear(1000, "\x00\x0E" "abcdef") == HF_FRAGMENT_CONSUMED && hear(0, "\x01g......") == HF_FRAGMENT_CONSUMED && pool.heads[HF_SLOT_LAST_TIME] == 0, "P12: continued at 0");
+    expect(hear(0, "\x20\x07......") == HF_IGNORED && counters.counts[HF_POOL_EXHAUSTED] == 1, "one slot, another key: exhausted");
+    expect(hear(501, "\x20\x07......") == HF_FRAGMENT_CONSUMED && counters.counts[HF_EXPIRED_SESSIONS] == 1, "silent 501: expired");
+    expect(hf_process_frame(&pool, &counters, NULL, 0, 600, 127489, 35, (const uint8_t *)"\x00\x06......", &message) == HF_IGNORED && counters.counts[HF_UNKNOWN_PGN] == 1,
+           "an empty list, at NULL: unknown");
+    expect(hf_process_frame_with_length(&pool, &counters, LIST, 1, 600, 127489, 35, (const uint8_t *)"\x00\x06" "ab....", 4, &message) == HF_MESSAGE_COMPLETE
+               && message.length == 6 && !memcmp(message.payload, "ab\xFF\xFF\xFF\xFF", 6), "a frame of four bytes");
+    expect(hf_receive(&pool, &counters, LIST, 1, 600, 127489, 35, (const uint8_t *)"\x00\x02" "ab....", &message) == HF_MESSAGE_COMPLETE
+               && message.length == 2 && !memcmp(message.payload, "ab\0", 3), "by value");
+    pool.heads[HF_SLOT_SEQUENCE] = 8;
+    message.payload[0] = 0xEE;
+    expect(hear(0, "\x00\x06......") == HF_REFUSED_IMPOSSIBLE_POOL && message.length == 0 && message.payload[0] == 0xEE, "an impossible pool: 1, and the payload as it was");
+    expect(hf_pool_new(&pool, 9) == HF_REFUSED_IMPOSSIBLE_POOL && pool.size == 0 && pool.heads[HF_SLOT_SEQUENCE] == 8, "a pool of nine leaves the heads as they were");
+    pool.heads[HF_SLOT_IN_PROGRESS] = 2;
+    pool.heads[HF_SLOT_SOURCE] = 300;
+    pool.size = 9;
+    expect(hear(0, "\x00\x06......") == HF_REFUSED_IMPOSSIBLE_POOL && pool.heads[HF_SLOT_IN_PROGRESS] == 2 && pool.heads[HF_SLOT_SOURCE] == 300,
+           "a refusal leaves numbers wider than their fields");
 }
 
 static void bench(void) {
     uint32_t ids[8];
     uint8_t bytes[64], arena[64], payload[26] = {0};
-    size_t lens[8], frames, list[6];
-    uint64_t values[5];
+    size_t lens[8], laid, list[2 * HF_LIST_ROW];
+    uint64_t values[HF_VALUES];
     payload[11] = 5;
     payload[19] = 0xFF;
     ids[0] = 0x18EEFF23;
     lens[0] = 8;
     memset(bytes, 0, 8);
-    expect(hf_fast_packet_frames(0x19F20123, 3, payload, 26, ids + 1, 7, bytes + 8, 56, lens + 1, 7, &frames) == 0 && frames == 4, "26 bytes: 4 frames");
-    expect(hf_fast_packet_frames(0x19F20123, 8, payload, 26, ids + 1, 7, bytes + 8, 56, lens + 1, 7, &frames) == 28 && frames == 0, "sequence 8: 28");
-    expect(hf_fast_packet_frames(0x19F20123, 3, payload, 26, ids + 1, 3, bytes + 8, 56, lens + 1, 7, &frames) == 27 && frames == 0, "a short row: 27");
-    expect(hf_reassemble(ids, 5, bytes, 40, lens, 5, 35, 127489, list, 6, arena, 64, values) == 0 && values[0] == 1 && list[0] == 3 && list[1] == 0 && list[2] == 26
+    expect(hf_frame_count(5, 39, 6) == 4, "39 bytes hold 4 frames");
+    expect(hf_fast_packet_frames(0x19F20123, 3, payload, 26, ids + 1, 7, bytes + 8, 56, lens + 1, 7, &laid) == HF_OK && laid == 4, "26 bytes: 4 frames");
+    expect(hf_fast_packet_frames(0x19F20123, 8, payload, 26, ids + 1, 7, bytes + 8, 56, lens + 1, 7, &laid) == HF_REFUSED_BAD_SPLIT && laid == 0, "sequence 8: 28");
+    expect(hf_fast_packet_frames(0x19F20123, 3, NULL, 0, NULL, 0, NULL, 0, NULL, 0, &laid) == HF_REFUSED_BAD_SPLIT && laid == 0, "no payload and no rows, at NULL: 28");
+    expect(hf_fast_packet_frames(0x19F20123, 3, payload, 26, ids + 1, 3, bytes + 8, 56, lens + 1, 7, &laid) == HF_REFUSED_NO_ROOM && laid == 0, "a short row: 27");
+    expect(hf_reassemble(ids, 5, bytes, 40, lens, 5, 35, 127489, list, 6, arena, 64, values) == HF_OK && values[0] == 1 && list[0] == 3 && list[1] == 0 && list[2] == 26
                && !memcmp(arena, payload, 26), "reassembled");
-    expect(hf_reassemble(ids, 4, bytes, 40, lens, 5, 35, 127489, list, 6, arena, 64, values) == 26 && values[0] == 26, "a frame less: 26");
-    expect(hf_check_tx(ids, 5, bytes, 40, lens, 5, 35, 1, 5, values) == 0, "the transmit check");
-    expect(hf_check_tx(ids, 5, bytes, 40, lens, 5, 35, 1, 6, values) == 35 && values[0] == 0, "other hours: 35");
-    expect(hf_check_tx(ids, 5, bytes, 40, lens, 5, 35, 2, 5, values) == 33 && values[0] == 1, "another count: 33");
+    expect(hf_reassemble(ids, 4, bytes, 40, lens, 5, 35, 127489, list, 6, arena, 64, values) == HF_REFUSED_INCOMPLETE && values[0] == 26, "a frame less: 26");
+    expect(hf_reassemble(NULL, 0, NULL, 0, NULL, 0, 35, 127489, NULL, 0, NULL, 0, values) == HF_OK && values[0] == 0, "no rows at all, at NULL: no message");
+    expect(hf_check_tx(ids, 5, bytes, 40, lens, 5, 35, 1, 5, values) == HF_OK, "the transmit check");
+    expect(hf_check_tx(ids, 5, bytes, 40, lens, 5, 35, 1, 6, values) == HF_REFUSED_HOURS && values[0] == 0, "other hours: 35");
+    expect(hf_check_tx(ids, 5, bytes, 40, lens, 5, 35, 2, 5, values) == HF_REFUSED_COUNT && values[0] == 1, "another count: 33");
+    expect(hf_check_tx(NULL, 0, NULL, 0, NULL, 0, 35, 1, 5, values) == HF_REFUSED_NO_CLAIM, "no rows at all, at NULL: 32");
 }
 
 static void batch(void) {
-    uint64_t heads[64], counts[2], times[2] = {0, 1};
-    uint8_t bytes[1784], sources[2] = {35, 35}, kinds[2], lengths[2], arena[16];
-    uint32_t counters[5] = {0, 0, 0, 0, 0}, pgns[2] = {127489, 127489};
-    size_t size;
-    hf_pool_new(4, heads, bytes, &size);
+    uint64_t counts[HF_COUNTS], times[2] = {0, 1};
+    uint8_t sources[2] = {35, 35}, kinds[2], lengths[2], arena[16];
+    uint32_t pgns[2] = {127489, 127489};
     const uint8_t *data = (const uint8_t *)"\x00\x07" "abcdef" "\x01g......";
-#define BATCH(room) hf_process_frames(size, heads, bytes, counters, LIST, 1, times, 2, pgns, 2, sources, 2, data, 16, kinds, 2, lengths, 2, arena, room, counts)
-    expect(BATCH(6) == 0 && counts[0] == 1 && counts[1] == 0 && kinds[0] == 1, "a batch stops where the arena is full");
-    expect(BATCH(16) == 0 && counts[0] == 2 && counts[1] == 7 && kinds[1] == 2 && lengths[1] == 7 && !memcmp(arena, "abcdefg", 7), "a batch");
+    hf_counters_new(&counters);
+    hf_pool_new(&pool, 4);
+    expect(hf_process_frames(&pool, &counters, LIST, 1, 2, times, pgns, sources, data, kinds, lengths, arena, 6, counts) == HF_OK && counts[HF_COUNT_TAKEN] == 1
+               && counts[HF_COUNT_USED] == 0 && kinds[0] == HF_ROW_FRAGMENT_CONSUMED, "a batch stops where the arena is full");
+    expect(hf_process_frames(&pool, &counters, LIST, 1, 2, times, pgns, sources, data, kinds, lengths, arena, 16, counts) == HF_OK && counts[HF_COUNT_TAKEN] == 2
+               && counts[HF_COUNT_USED] == 7 && kinds[1] == HF_ROW_MESSAGE_COMPLETE && lengths[1] == 7 && !memcmp(arena, "abcdefg", 7), "a batch");
+    expect(hf_process_frames(&pool, &counters, NULL, 0, 2, times, pgns, sources, data, kinds, lengths, NULL, 0, counts) == HF_OK && counts[HF_COUNT_TAKEN] == 2
+               && kinds[1] == HF_ROW_IGNORED && counters.counts[HF_UNKNOWN_PGN] == 2, "a batch with no list and no arena, at NULL");
+    expect(hf_process_frames(&pool, &counters, NULL, 0, 0, NULL, NULL, NULL, NULL, NULL, NULL, NULL, 0, counts) == HF_OK && counts[HF_COUNT_TAKEN] == 0, "a batch of no frames, at NULL");
+    expect(hf_raw_process_frames(pool.size, pool.heads, pool.bytes, counters.counts, LIST, 1, times, 2, pgns, 1, sources, 2, data, 16, kinds, 2, lengths, 2, arena, 16, counts)
+               == HF_REFUSED_NO_ROOM && counts[HF_COUNT_TAKEN] == 0, "a row too short: 27");
 }
 
-int main(void) {
+/* All of the above on a stack of its own, painted first: what is not the paint any more was used. */
+static _Alignas(64) uint8_t stack[4 * HF_STACK_BYTES];
+static void calls(void) {
     identifiers();
+    lists();
     frames();
     messages();
     batch();
     bench();
-    if (!failed) printf("C: the paper's values through hingefrost.h: all alike\n");
+}
+static size_t stack_of(void (*run)(void)) {
+    ucontext_t here, there;
+    memset(stack, 0xA5, sizeof stack);
+    getcontext(&there);
+    there.uc_stack.ss_sp = stack;
+    there.uc_stack.ss_size = sizeof stack;
+    there.uc_link = &here;
+    makecontext(&there, run, 0);
+    swapcontext(&here, &there);
+    size_t untouched = 0;
+    while (untouched < sizeof stack && stack[untouched] == 0xA5) untouched++;
+    return sizeof stack - untouched;
+}
+
+int main(void) {
+    size_t used = stack_of(calls);
+    expect(used <= HF_STACK_BYTES, "a call took more stack than HF_STACK_BYTES");
+    if (!failed) printf("C: the paper's values through hingefrost.h: all alike, with at most %zu bytes of stack\n", used);
     return failed;
 }

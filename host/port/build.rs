@@ -6,9 +6,9 @@ fn main() {
         return;
     }
     let dir = Path::new(env!("CARGO_MANIFEST_DIR")).join("../../target/host");
-    let archive = dir.join("libffi.a");
+    let archive = dir.join("libhingefrost.a");
     println!("cargo:rerun-if-changed={}", archive.display());
-    assert!(archive.exists(), "no {}: run host/archive ffi first", archive.display());
+    assert!(archive.exists(), "no {}: run host/archive first", archive.display());
     println!("cargo:rustc-link-search=native={}", dir.display());
-    println!("cargo:rustc-link-lib=static=ffi");
+    println!("cargo:rustc-link-lib=static=hingefrost");
 }

@@ -3,7 +3,8 @@
 //!
 //! cargo run --offline --profile speed --bin bench [repetitions] [frames] [receiving, building, identifiers or oracle]
 mod workloads;
-use port::assembler::{Answer, Pool, ProcessResult as Ours, Rows, Told};
+use port::assembler::{Rows, Told};
+use port::raw::{self, Pool};
 use reference::error::CanIdBuildError;
 use reference::oracle as bench_oracle;
 use reference::protocol::messages::stand_for;
@@ -21,10 +22,10 @@ fn original<const N: usize>(list: &'static [u32], w: &Rows, t: &mut Told) -> usi
     for i in 0..w.len() {
         let d: &[u8; 8] = w.data[i * 8..i * 8 + 8].try_into().unwrap();
         match a.process_frame(w.times[i], w.pgns[i], w.sources[i], d) {
-            ProcessResult::Ignored => (t.kinds[i], t.lengths[i]) = (0, 0),
-            ProcessResult::FragmentConsumed => (t.kinds[i], t.lengths[i]) = (1, 0),
+            ProcessResult::Ignored => (t.kinds[i], t.lengths[i]) = (raw::ROW_IGNORED, 0),
+            ProcessResult::FragmentConsumed => (t.kinds[i], t.lengths[i]) = (raw::ROW_FRAGMENT_CONSUMED, 0),
             ProcessResult::MessageComplete(m) => {
-                (t.kinds[i], t.lengths[i]) = (2, m.len as u8);
+                (t.kinds[i], t.lengths[i]) = (raw::ROW_MESSAGE_COMPLETE, m.len as u8);
                 t.arena[at..at + m.len].copy_from_slice(&m.payload[..m.len]);
                 at += m.len;
             }
@@ -36,43 +37,50 @@ fn original<const N: usize>(list: &'static [u32], w: &Rows, t: &mut Told) -> usi
 /// The port, one call a frame.
 #[inline(never)]
 fn one_by_one(size: usize, list: &[u32], w: &Rows, by_value: bool, t: &mut Told) -> usize {
-    let (mut p, mut c) = (Pool::new(size).1, [0; 5]);
-    let mut a = Answer { result: Ours::Ignored, payload: [0; 223], length: 0 };
+    let (mut p, mut c) = (fresh(size), [0; 5]);
+    let (mut payload, mut length) = ([0; 223], 0);
     let mut at = 0;
     for i in 0..w.len() {
         let d: &[u8; 8] = w.data[i * 8..i * 8 + 8].try_into().unwrap();
-        if by_value {
-            p.receive_into(&mut c, list, w.times[i], w.pgns[i], w.sources[i], d, &mut a);
+        let kind = if by_value {
+            p.receive(&mut c, list, w.times[i], w.pgns[i], w.sources[i], d, &mut payload, &mut length)
         } else {
-            p.process_frame_into(&mut c, list, w.times[i], w.pgns[i], w.sources[i], d, &mut a);
-        }
-        match a.result {
-            Ours::Ignored => (t.kinds[i], t.lengths[i]) = (0, 0),
-            Ours::FragmentConsumed => (t.kinds[i], t.lengths[i]) = (1, 0),
-            Ours::MessageComplete => {
-                (t.kinds[i], t.lengths[i]) = (2, a.length as u8);
-                t.arena[at..at + a.length].copy_from_slice(&a.payload[..a.length]);
-                at += a.length;
+            p.process_frame(&mut c, list, w.times[i], w.pgns[i], w.sources[i], d, &mut payload, &mut length)
+        };
+        match kind {
+            raw::IGNORED => (t.kinds[i], t.lengths[i]) = (raw::ROW_IGNORED, 0),
+            raw::FRAGMENT_CONSUMED => (t.kinds[i], t.lengths[i]) = (raw::ROW_FRAGMENT_CONSUMED, 0),
+            raw::MESSAGE_COMPLETE => {
+                (t.kinds[i], t.lengths[i]) = (raw::ROW_MESSAGE_COMPLETE, length as u8);
+                t.arena[at..at + length].copy_from_slice(&payload[..length]);
+                at += length;
             }
-            Ours::Refused(n) => panic!("refused by {n}"),
+            number => panic!("refused by {number}"),
         }
     }
     at
 }
 
+fn fresh(size: usize) -> Pool {
+    let mut p = Pool::ZEROS;
+    assert_eq!(p.made_anew(size), 0);
+    p
+}
+
 /// The port, in batches of `chunk` frames.
 #[inline(never)]
 fn in_batches(size: usize, list: &[u32], w: &Rows, chunk: usize, t: &mut Told) -> usize {
-    let (mut p, mut c) = (Pool::new(size).1, [0; 5]);
+    let (mut p, mut c) = (fresh(size), [0; 5]);
     let (mut i, mut at) = (0, 0);
     while i < w.len() {
         let end = (i + chunk).min(w.len());
-        let (number, taken, used) = p.process_frames_in(
-            &mut c, list, &w.times[i..end], &w.pgns[i..end], &w.sources[i..end], &w.data[8 * i..8 * end], &mut t.kinds[i..end], &mut t.lengths[i..end], &mut t.arena[at..],
+        let mut counts = [0; 2];
+        let number = p.process_frames(
+            &mut c, list, &w.times[i..end], &w.pgns[i..end], &w.sources[i..end], &w.data[8 * i..8 * end], &mut t.kinds[i..end], &mut t.lengths[i..end], &mut t.arena[at..], &mut counts,
         );
-        assert!(number == 0 && taken == end - i);
+        assert!(number == 0 && counts[0] as usize == end - i);
         i = end;
-        at += used;
+        at += counts[1] as usize;
     }
     at
 }
@@ -183,7 +191,7 @@ fn identifiers(reps: usize, n: usize) {
         ("original", &mut || for &id in black_box(&ids) { let _ = black_box(build_one(priority, id >> 8 & 0x3_FFFF, id as u8, nobody)); }),
         ("port", &mut || for &id in black_box(&ids) {
             let mut value = 0;
-            let number = port::can_id::build_into(priority, id >> 8 & 0x3_FFFF, id as u8, none, &mut value);
+            let number = raw::hf_can_id_build(priority, id >> 8 & 0x3_FFFF, id as u8, none, &mut value);
             black_box((number, value));
         }),
     ]);
@@ -202,23 +210,22 @@ fn building(reps: usize, n: usize) {
                 for f in FastPacketBuilder::new(pgn, 35, None, black_box(p)).build() { black_box(f.unwrap()); }
             }),
             ("step", &mut || {
-                let (mut held, mut data, mut frame) = (0, [0; 8], [0; 3]);
+                let (mut held, mut b, mut data, mut frame) = (0, [0; 6], [0; 8], [0; 3]);
                 for _ in 0..times {
-                    let (b, next) = port::builder::FastPacketBuilder::new(pgn, 35, None, black_box(p), &[127_489], held);
-                    held = next;
+                    held = raw::builder_new(pgn, 35, raw::NONE, black_box(p), &[127_489], held, &mut b);
                     let mut after = [0, 0];
-                    while b.next_frame_into(after[0] as u8, after[1] as usize, p, &mut data, &mut frame, &mut after) == 0 {
+                    while raw::next_frame(&b, after[0] as u8, after[1] as usize, p, &mut data, &mut frame, &mut after) == 0 {
                         black_box((&data, &frame));
                     }
                 }
             }),
             ("iterator", &mut || {
-                let (mut held, mut data, mut frame) = (0, [0; 8], [0; 3]);
+                let (mut held, mut b, mut data, mut frame) = (0, [0; 6], [0; 8], [0; 3]);
                 for _ in 0..times {
-                    let (b, next) = port::builder::FastPacketBuilder::new(pgn, 35, None, black_box(p), &[127_489], held);
-                    held = next;
-                    let mut it = b.build();
-                    while it.next_into(p, &mut data, &mut frame) == 0 {
+                    held = raw::builder_new(pgn, 35, raw::NONE, black_box(p), &[127_489], held, &mut b);
+                    let mut place = [0, 0];
+                    raw::hf_raw_builder_build(&b, &mut place);
+                    while raw::frame_iterator_next(&b, &mut place, p, &mut data, &mut frame) == 0 {
                         black_box((&data, &frame));
                     }
                 }

@@ -1,7 +1,9 @@
 //! The bench: strict reassembly, the splitter, the transmit check. The original's texts are read back as document 01's numbers.
 use crate::rng::Rng;
+use crate::tally::answered;
+use port::error::Refusal;
 use port::oracle::{self as ours, Frames};
-use port::Refusal;
+use port::raw;
 use reference::oracle::{check_tx, fast_packet_frames, reassemble, Frame};
 
 /// A frame's eight bytes, and its length; the original keeps as many bytes as the length says.
@@ -59,13 +61,60 @@ fn numbered(text: &str) -> Refusal<5> {
     }
 }
 
+/// The entry of strict reassembly, put over what stood there: beside a number of messages stand zeros.
+fn reassembled(p: &Frames, source: u8, pgn: u32, list: &mut [usize], arena: &mut [u8]) -> Result<usize, Refusal<5>> {
+    let mut values = [0xEE; 5];
+    let number = raw::reassemble(p, source, pgn, list, arena, &mut values);
+    answered("reassemble", number);
+    if number == 0 {
+        assert_eq!(values[1..], [0; 4]);
+        Ok(values[0] as usize)
+    } else {
+        Err(Refusal { number, carried: values })
+    }
+}
+
+/// The same of the transmit check.
+fn checked(p: &Frames, source: u8, expected: usize, base: u32) -> Result<(), Refusal<5>> {
+    let mut values = [0xEE; 5];
+    let number = raw::check_tx(p, source, expected, base, &mut values);
+    answered("check", number);
+    if number == 0 {
+        assert_eq!(values, [0; 5]);
+        Ok(())
+    } else {
+        Err(Refusal { number, carried: values })
+    }
+}
+
+/// The same of the splitter: 0 frames beside a refusal.
+fn laid(id: u32, sequence: u8, payload: &[u8], row: &mut Frames) -> Result<usize, u32> {
+    let mut frames = 0xEE;
+    let number = raw::fast_packet_frames(id, sequence, payload, row, &mut frames);
+    answered("split", number);
+    if number == 0 {
+        Ok(frames)
+    } else {
+        assert_eq!(frames, 0);
+        Err(number)
+    }
+}
+
+/// A row as it is lent.
+fn lent(n: usize) -> Frames {
+    Frames { ids: vec![0xEEEE_EEEE; n], bytes: vec![0xEE; 8 * n], lens: vec![0xEE; n] }
+}
+
 /// Strict reassembly, with `short` numbers of the list and bytes of the arena missing from what is needed.
 pub fn judge(row: &Row, source: u8, pgn: u32, list_room: usize, arena_room: usize) -> u32 {
     let (o, p) = rows(row);
     let want = reassemble(&o, source, pgn);
     let (mut list, mut arena) = (vec![0xEE; list_room], vec![0xEE; arena_room]);
     let (list0, arena0) = (list.clone(), arena.clone());
-    let got = ours::reassemble(&p, source, pgn, &mut list, &mut arena);
+    let got = reassembled(&p, source, pgn, &mut list, &mut arena);
+    let mut safe = (list0.clone(), arena0.clone());
+    assert_eq!(ours::reassemble(&p, source, pgn, &mut safe.0, &mut safe.1), got);
+    assert_eq!((&safe.0, &safe.1), (&list, &arena), "the safe call");
     match want {
         Err(text) => {
             let want = numbered(&text);
@@ -80,7 +129,7 @@ pub fn judge(row: &Row, source: u8, pgn: u32, list_room: usize, arena_room: usiz
                 assert_eq!((list, arena), (list0, arena0), "a refusal changes no lent memory");
                 return 27;
             }
-            assert_eq!(got, Ok(messages.len() as u64));
+            assert_eq!(got, Ok(messages.len()));
             let (mut want_list, mut want_arena) = (list0, arena0);
             let mut at = 0;
             for (k, m) in messages.iter().enumerate() {
@@ -97,7 +146,8 @@ pub fn judge(row: &Row, source: u8, pgn: u32, list_room: usize, arena_room: usiz
 /// The transmit check. Document 01 gives 31, before 32 to 37, where the original would trap or give those.
 pub fn transmit(row: &Row, source: u8, expected: usize, base: u32) -> u32 {
     let (o, p) = rows(row);
-    let got = ours::check_tx(&p, source, expected, base);
+    let got = checked(&p, source, expected, base);
+    assert_eq!(ours::check_tx(&p, source, expected, base), got);
     if expected > 0 && base as u128 + expected as u128 - 1 > u32::MAX as u128 {
         assert_eq!(got, Err(Refusal { number: 31, carried: [0; 5] }));
         return 31;
@@ -109,9 +159,12 @@ pub fn transmit(row: &Row, source: u8, expected: usize, base: u32) -> u32 {
 
 /// The splitter, into a row of `room` frames.
 pub fn split(id: u32, sequence: u8, payload: &[u8], room: usize) -> u32 {
-    let mut row = Frames::room(room);
+    let mut row = lent(room);
     let before = row.clone();
-    let got = ours::fast_packet_frames(id, sequence, payload, &mut row);
+    let got = laid(id, sequence, payload, &mut row);
+    let mut safe = before.clone();
+    assert_eq!(ours::fast_packet_frames(id, sequence, payload, &mut safe).map_err(|e| e.number), got);
+    assert_eq!(safe, row, "the safe call");
     if payload.is_empty() || payload.len() > 223 || sequence > 7 {
         assert_eq!((got, row), (Err(28), before), "28 where the original traps");
         return 28;
@@ -136,7 +189,8 @@ pub fn split(id: u32, sequence: u8, payload: &[u8], room: usize) -> u32 {
 pub fn every_split() -> u64 {
     let mut steps = 0;
     for (ids, bytes, lens) in (0..9).flat_map(|a| (0..70).flat_map(move |b| (0..9).map(move |c| (a, b, c)))) {
-        assert_eq!(ours::frame_count(ids, bytes, lens), ids.min(bytes / 8).min(lens), "the shortest row decides");
+        let rows = Frames { ids: vec![0; ids], bytes: vec![0; bytes], lens: vec![0; lens] };
+        assert_eq!((raw::hf_frame_count(ids, bytes, lens), rows.len()), (ids.min(bytes / 8).min(lens), ids.min(bytes / 8).min(lens)), "the shortest row decides");
         steps += 1;
     }
     let payload: Vec<u8> = (0..300).map(|i| (i * 11 + 3) as u8).collect();
@@ -272,11 +326,52 @@ fn transmission(r: &mut Rng) -> (Row, u8, usize, u32) {
     (row, 35, expected, base)
 }
 
-/// Random captures, transmissions and payloads; `seen` counts the answers by their number.
-pub fn random(seed: u64, steps: u64, seen: &mut [u64; 64]) -> u64 {
+/// Rows of unequal lengths: the same answers and the same lent memory as the rows cut to the shortest, which are held to the original.
+fn unequal(r: &mut Rng, row: &Row, source: u8, pgn: u32) {
+    let (_, p) = rows(row);
+    let mut long = p.clone();
+    for _ in 0..r.below(3) {
+        long.ids.push(0x19F2_0123);
+    }
+    let more = r.below(20) as usize;
+    long.bytes.extend(r.vec(more));
+    long.lens.resize(p.lens.len() + r.below(3) as usize, 8);
+    match r.below(3) {
+        0 => long.ids.truncate(p.ids.len()),
+        1 => long.bytes.truncate(p.bytes.len() + 7),
+        _ => long.lens.truncate(p.lens.len()),
+    }
+    let ((mut list, mut arena), (mut list1, mut arena1)) = ((vec![0xEE; 30], vec![0xEE; 1200]), (vec![0xEE; 30], vec![0xEE; 1200]));
+    assert_eq!(reassembled(&long, source, pgn, &mut list1, &mut arena1), reassembled(&p, source, pgn, &mut list, &mut arena));
+    assert_eq!((list1, arena1), (list, arena), "the shortest row decides");
+    let (expected, base) = (r.below(4) as usize, r.pick(&[0, 1000]));
+    assert_eq!(checked(&long, source, expected, base), checked(&p, source, expected, base), "the shortest row decides");
+    // the splitter lays into the shortest, and leaves the rest of the others
+    let len = 1 + r.below(223) as usize;
+    let payload = r.vec(len);
+    let (mut short, mut over) = (lent(p.len()), Frames { ids: vec![0xEEEE_EEEE; long.ids.len()], bytes: vec![0xEE; long.bytes.len()], lens: vec![0xEE; long.lens.len()] });
+    assert_eq!(laid(5, 3, &payload, &mut over), laid(5, 3, &payload, &mut short), "the shortest row decides");
+    let n = p.len();
+    assert_eq!((&over.ids[..n], &over.bytes[..8 * n], &over.lens[..n]), (&short.ids[..], &short.bytes[..], &short.lens[..]));
+    assert!(over.ids[n..].iter().all(|&x| x == 0xEEEE_EEEE) && over.bytes[8 * n..].iter().all(|&x| x == 0xEE) && over.lens[n..].iter().all(|&x| x == 0xEE));
+}
+
+/// Rows of unequal lengths, at random.
+pub fn unequal_rows(seed: u64, steps: u64) -> u64 {
     let mut r = Rng::new(seed);
     for _ in 0..steps {
-        let number = match r.below(8) {
+        let spoil = r.below(2);
+        let (row, source, pgn) = if r.one_in(3) { let (row, source, _, _) = transmission(&mut r); (row, source, 127_489) } else { capture(&mut r, spoil) };
+        unequal(&mut r, &row, source, pgn);
+    }
+    steps
+}
+
+/// Random captures, transmissions and payloads.
+pub fn random(seed: u64, steps: u64) -> u64 {
+    let mut r = Rng::new(seed);
+    for _ in 0..steps {
+        match r.below(8) {
             0..=3 => {
                 let spoil = r.below(3);
                 let (row, source, pgn) = capture(&mut r, spoil);
@@ -293,7 +388,6 @@ pub fn random(seed: u64, steps: u64, seen: &mut [u64; 64]) -> u64 {
                 split(r.next() as u32, r.below(9) as u8, &payload, r.below(40) as usize)
             }
         };
-        seen[number as usize] += 1;
     }
     steps
 }

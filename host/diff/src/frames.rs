@@ -1,7 +1,8 @@
 //! The frame builder: made, set, and stepped at any index and bytes sent.
-use crate::ids::numbered;
+use crate::ids::{named, numbered};
 use crate::rng::Rng;
-use port::builder as ours;
+use crate::tally::answered;
+use port::{builder as ours, can_frame, can_id, error, fast_packet, raw};
 use reference::error::CanIdBuildError;
 use reference::hooks::{GlobalSequence, Here, Parts, Progress};
 use reference::protocol::messages::stand_for;
@@ -22,39 +23,72 @@ const PGNS: [u32; 12] = [127_489, 60_928, 126_208, 126_720, 129_029, 0, 1, 0xEF0
 /// Payload lengths at the edges of the framing.
 const EDGES: [usize; 19] = [0, 1, 2, 5, 6, 7, 8, 9, 12, 13, 14, 20, 62, 221, 222, 223, 224, 255, 300];
 
-fn told(item: Option<Result<CanFrame, CanIdBuildError>>) -> ours::Item {
-    item.map(|r| r.map(|f| ours::CanFrame { id: f.id.0, data: f.data, len: f.len }).map_err(|e| numbered(&e)))
+/// What asking for the next frame leaves: the answer, eight bytes, and the identifier, length and what a refusal carries.
+type Told = (u32, [u8; 8], [u64; 3]);
+
+fn told(item: &Option<Result<CanFrame, CanIdBuildError>>) -> Told {
+    match item {
+        Some(Ok(f)) => (0, f.data, [f.id.0 as u64, f.len as u64, 0]),
+        Some(Err(e)) => refused(numbered(e)),
+        None => (raw::END, [0; 8], [0; 3]),
+    }
+}
+
+/// A refusal: zeros in the frame's place.
+fn refused((number, carried): (u32, u64)) -> Told {
+    (number, [0; 8], [0, 0, carried])
+}
+
+/// The original's item, with the port's types.
+fn as_ours(item: Option<Result<CanFrame, CanIdBuildError>>) -> Option<Result<can_frame::CanFrame, error::CanIdBuildError>> {
+    item.map(|r| r.map(|f| can_frame::CanFrame { id: can_id::CanId(f.id.0), data: f.data, len: f.len }).map_err(|e| named(&e)))
 }
 
 fn numbers(p: Parts) -> [u64; 6] {
     [p.pgn as u64, p.source as u64, p.destination.map_or(256, u64::from), p.priority as u64, p.sequence as u64, p.fast as u64]
 }
 
+/// The entry of the iterator, put over what stood there; the place goes on.
+fn turn(b: &[u64; 6], place: &mut [u64; 2], payload: &[u8]) -> Told {
+    let (mut data, mut frame) = ([0xEE; 8], [0xEE; 3]);
+    let answer = raw::frame_iterator_next(b, place, payload, &mut data, &mut frame);
+    answered("frame", answer);
+    (answer, data, frame)
+}
+
+/// The place before the first frame.
+fn placed(b: &[u64; 6]) -> [u64; 2] {
+    let mut place = [0xEE; 2];
+    raw::hf_raw_builder_build(b, &mut place);
+    place
+}
+
 /// One step of any builder. Document 01 gives refusal 2 where the original traps: not fast with over 8 bytes.
 pub fn step(parts: Parts, index: u8, sent: usize, payload: &[u8]) {
-    let b = ours::FastPacketBuilder(numbers(parts));
-    let got = b.next_frame(index, sent, payload);
-    let mut at = b.build();
-    assert_eq!(at.place, [0, 0]);
-    at.place = [index as u64, sent as u64];
-    let item = at.next(payload);
-    assert_eq!((&item, at.place), (&got.0, [got.1 as u64, got.2 as u64]), "the iterator and the step");
+    let b = numbers(parts);
+    let (mut data, mut frame, mut after) = ([0xEE; 8], [0xEE; 3], [0xEE; 2]);
+    let answer = raw::next_frame(&b, index, sent, payload, &mut data, &mut frame, &mut after);
+    answered("frame", answer);
+    let got = (answer, data, frame);
+    assert_eq!(placed(&b), [0, 0]);
+    let mut place = [index as u64, sent as u64];
+    assert_eq!((turn(&b, &mut place, payload), place), (got, after), "the iterator and the step");
     // an index in a number wider than its field, which is written only where the index changes
     let wide = index as u64 + 300 * 256;
-    at.place = [wide, sent as u64];
-    assert_eq!(at.next(payload), item);
-    assert_eq!(at.place, [if got.1 == index { wide } else { got.1 as u64 }, got.2 as u64], "a wide place");
+    place = [wide, sent as u64];
+    assert_eq!(turn(&b, &mut place, payload), got);
+    assert_eq!(place, [if after[0] == index as u64 { wide } else { after[0] }, after[1]], "a wide place");
     let want = if traps(parts, sent, payload) {
-        (Some(Err(port::Refusal { number: 2, carried: [0] })), index, payload.len())
+        (refused((2, 0)), [index as u64, payload.len() as u64])
     } else {
         stand_for(&[]);
         let mut it = FastPacketBuilder::new(0, 0, None, payload).build();
         it.set_parts(parts);
         it.set_progress(index, sent);
-        let item = told(it.next());
-        (item, it.progress().0, it.progress().1)
+        let item = told(&it.next());
+        (item, [it.progress().0 as u64, it.progress().1 as u64])
     };
-    assert_eq!(got, want, "{parts:?}, index {index}, sent {sent}, {} bytes", payload.len());
+    assert_eq!((got, after), want, "{parts:?}, index {index}, sent {sent}, {} bytes", payload.len());
 }
 
 /// Where the original would copy over 8 bytes into a raw frame.
@@ -70,12 +104,16 @@ pub fn message(pgn: u32, source: u8, destination: Option<u8>, payload: &[u8], li
     Here::set(held % 8);
     let mut o = FastPacketBuilder::new(pgn, source, destination, payload);
     let (mut p, next) = ours::FastPacketBuilder::new(pgn, source, destination, payload, list, held);
-    assert_eq!(next, Here::get(), "the number held from {held}");
+    let mut b = [0xEE; 6];
+    assert_eq!((next, raw::builder_new(pgn, source, raw::address(destination), payload, list, held, &mut b)), (Here::get(), Here::get()), "the number held from {held}");
+    assert_eq!(fast_packet::is_listed(list, pgn), list.binary_search(&pgn).is_ok(), "{pgn} in {list:?}");
     if let Some(s) = sequence {
         (o, p) = (o.with_sequence_id(s), p.with_sequence_id(s));
+        raw::hf_raw_builder_with_sequence_id(&mut b, s);
     }
     if let Some(x) = priority {
         (o, p) = (o.with_priority(x), p.with_priority(x));
+        raw::hf_raw_builder_with_priority(&mut b, x);
     }
     let mut it = o.build();
     // The original has no setter for the destination: its field is set through the door.
@@ -83,16 +121,18 @@ pub fn message(pgn: u32, source: u8, destination: Option<u8>, payload: &[u8], li
         let parts = it.parts();
         it.set_parts(Parts { destination: Some(d), ..parts });
         p = p.to_destination(d);
+        raw::hf_raw_builder_to_destination(&mut b, d);
     }
-    assert_eq!(p.0, numbers(it.parts()), "the builder of {pgn:#X}, {source}, {destination:?}, {} bytes", payload.len());
-    let mut at = p.build();
+    assert_eq!(b, numbers(it.parts()), "the builder of {pgn:#X}, {source}, {destination:?}, {} bytes", payload.len());
+    let (mut at, mut place) = (p.build(), placed(&b));
     let mut steps = 0;
     let mut over = 0;
     while over < 3 {
-        let (want, got) = (told(it.next()), at.next(payload));
-        assert_eq!(got, want, "frame {steps} of {pgn:#X}, {source}, {destination:?}, {} bytes", payload.len());
-        assert_eq!(at.place, [it.progress().0 as u64, it.progress().1 as u64]);
+        let want = it.next();
+        assert_eq!(turn(&b, &mut place, payload), told(&want), "frame {steps} of {pgn:#X}, {source}, {destination:?}, {} bytes", payload.len());
+        assert_eq!(place, [it.progress().0 as u64, it.progress().1 as u64]);
         over += want.is_none() as u32;
+        assert_eq!(at.next(), as_ours(want), "frame {steps} of {pgn:#X}, {source}, {destination:?}, {} bytes", payload.len());
         steps += 1;
     }
     steps

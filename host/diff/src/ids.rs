@@ -1,25 +1,55 @@
 //! Identifiers: read and built.
 use crate::rng::Rng;
+use crate::tally::answered;
 use port::can_id as ours;
-use port::Refusal;
+use port::error::CanIdBuildError as OurError;
+use port::raw;
 use reference::error::CanIdBuildError;
 use reference::protocol::transport::can_id::{CanId, CanIdBuilder};
 
 /// Document 01's number for each of the original's errors, and what it carries.
-pub fn numbered(e: &CanIdBuildError) -> Refusal<1> {
-    let (number, carried) = match *e {
+pub fn numbered(e: &CanIdBuildError) -> (u32, u64) {
+    match *e {
         CanIdBuildError::InvalidData => (2, 0),
         CanIdBuildError::InvalidDestination => (3, 0),
         CanIdBuildError::InvalidForBroadcast => (4, 0),
         CanIdBuildError::InvalidForFocusedMessage { pgn } => (5, pgn as u64),
         CanIdBuildError::PsFocusMessageMustBeNull => (6, 0),
         CanIdBuildError::EmptyPayload => (7, 0),
-    };
-    Refusal { number, carried: [carried] }
+    }
 }
 
-fn told(r: Result<CanId, CanIdBuildError>) -> ours::Built {
-    r.map(|id| ours::CanId(id.0)).map_err(|e| numbered(&e))
+/// The original's error under its name in the port.
+pub fn named(e: &CanIdBuildError) -> OurError {
+    match *e {
+        CanIdBuildError::InvalidData => OurError::InvalidData,
+        CanIdBuildError::InvalidDestination => OurError::InvalidDestination,
+        CanIdBuildError::InvalidForBroadcast => OurError::InvalidForBroadcast,
+        CanIdBuildError::InvalidForFocusedMessage { pgn } => OurError::InvalidForFocusedMessage { pgn },
+        CanIdBuildError::PsFocusMessageMustBeNull => OurError::PsFocusMessageMustBeNull,
+        CanIdBuildError::EmptyPayload => OurError::EmptyPayload,
+    }
+}
+
+/// The original's answer as the entries give it: a number, and the identifier or what the refusal carries.
+fn told(r: &Result<CanId, CanIdBuildError>) -> (u32, u32) {
+    match r {
+        Ok(id) => (0, id.0),
+        Err(e) => (numbered(e).0, numbered(e).1 as u32),
+    }
+}
+
+/// The answer of an entry, put over what stood there.
+fn entry(call: impl FnOnce(&mut u32) -> u32) -> (u32, u32) {
+    let mut value = 0xEEEE_EEEE;
+    let number = call(&mut value);
+    answered("identifier", number);
+    (number, value)
+}
+
+/// The original's answer, with the port's types.
+fn as_ours(r: Result<CanId, CanIdBuildError>) -> Result<ours::CanId, OurError> {
+    r.map(|id| ours::CanId(id.0)).map_err(|e| named(&e))
 }
 
 pub fn read(id: u32) {
@@ -35,22 +65,29 @@ pub fn read(id: u32) {
 
 /// From public fields, which the original lets a caller set to anything.
 pub fn build(priority: u8, pgn: u32, source_address: u8, destination: Option<u8>) {
-    let want = told(CanIdBuilder { priority, pgn, source_address, destination }.build());
-    assert_eq!(ours::build(priority, pgn, source_address, destination), want, "building {priority} {pgn:#X} {source_address} {destination:?}");
+    let want = CanIdBuilder { priority, pgn, source_address, destination }.build();
+    let got = entry(|value| raw::hf_can_id_build(priority, pgn, source_address, raw::address(destination), value));
+    assert_eq!(got, told(&want), "building {priority} {pgn:#X} {source_address} {destination:?}");
+    assert_eq!(ours::CanIdBuilder { priority, pgn, source_address, destination }.build(), as_ours(want), "building {priority} {pgn:#X} {source_address} {destination:?}");
 }
 
 /// By the setters, under both of their names.
 pub fn build_with(pgn: u32, source: u8, priority: Option<u8>, destination: Option<u8>) {
-    let mut b = CanId::builder(pgn, source);
-    if let Some(p) = priority {
-        b = b.with_priority(p);
+    let (mut b, mut p) = (CanId::builder(pgn, source), ours::CanId::builder(pgn, source));
+    if let Some(x) = priority {
+        (b, p) = (b.with_priority(x), p.with_priority(x));
     }
-    if let Some(d) = destination {
-        b = b.to_destination(d);
+    if let Some(x) = destination {
+        (b, p) = (b.to_destination(x), p.to_destination(x));
     }
-    assert_eq!(ours::build_with(pgn, source, priority, destination), told(b.build()), "setting {pgn:#X} {source} {priority:?} {destination:?}");
-    if let (Some(p), Some(d)) = (priority, destination) {
-        assert_eq!(ours::build_to(pgn, source, p, d), told(CanIdBuilder::new(pgn, source).priority(p).destination(d).build()), "setting {pgn:#X} {source} {p} {d}");
+    let want = b.build();
+    let got = entry(|value| raw::hf_can_id_build_with(pgn, source, raw::address(priority), raw::address(destination), value));
+    assert_eq!(got, told(&want), "setting {pgn:#X} {source} {priority:?} {destination:?}");
+    assert_eq!(p.build(), as_ours(want), "setting {pgn:#X} {source} {priority:?} {destination:?}");
+    if let (Some(x), Some(d)) = (priority, destination) {
+        let want = CanIdBuilder::new(pgn, source).priority(x).destination(d).build();
+        assert_eq!(entry(|value| raw::hf_can_id_build_to(pgn, source, x, d, value)), told(&want), "setting {pgn:#X} {source} {x} {d}");
+        assert_eq!(ours::CanIdBuilder::new(pgn, source).priority(x).destination(d).build(), as_ours(want), "setting {pgn:#X} {source} {x} {d}");
     }
 }
 

@@ -5,3 +5,4 @@ pub mod frames;
 pub mod ids;
 pub mod receive;
 pub mod rng;
+pub mod tally;

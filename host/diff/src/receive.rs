@@ -1,7 +1,10 @@
 //! The receive call: one frame on any pool, and runs of frames. Compared after every call: answer, payload (all 223
 //! bytes), length, counters, and every slot left behind with its buffer, those past the size too.
 use crate::rng::Rng;
-use port::assembler::{handles, Answer, Counters, Pool, ProcessResult as Ours, Rows, Told};
+use crate::tally::answered;
+use port::assembler::{self as ours, handles, Rows, Told};
+use port::fast_packet;
+use port::raw::{self, Counters, Pool};
 use reference::hooks::{PoolState, Slot};
 use reference::protocol::transport::fast_packet::assembler::{FastPacketAssembler, ProcessResult};
 
@@ -52,17 +55,40 @@ fn original(size: usize, list: &'static [u32]) -> Box<dyn Original> {
     [with::<0>, with::<1>, with::<2>, with::<3>, with::<4>, with::<5>, with::<6>, with::<7>, with::<8>][size](list)
 }
 
+/// What a call leaves: a refusal's number or a kind, and the message's bytes and length.
+#[derive(Clone, Debug, PartialEq, Eq)]
+pub struct Answer {
+    kind: u32,
+    payload: [u8; 223],
+    length: usize,
+}
+
 /// An answer as it is lent to the port.
-const LENT: Answer = Answer { result: Ours::Ignored, payload: [0xEE; 223], length: 0xEE };
+const LENT: Answer = Answer { kind: 0xEE, payload: [0xEE; 223], length: 0xEE };
+/// What is left with refusal 1: the payload as it was lent, and length 0.
+const REFUSED: Answer = Answer { kind: 1, payload: LENT.payload, length: 0 };
+
+/// Rows as they are lent to a batch.
+fn lent(frames: usize, arena: usize) -> Told {
+    Told { kinds: vec![0xEE; frames], lengths: vec![0xEE; frames], arena: vec![0xEE; arena] }
+}
 
 /// The original's answer in the port's words: without a message, the payload as it was lent and length 0.
 fn told(r: &ProcessResult) -> Answer {
-    let (result, payload, length) = match r {
-        ProcessResult::Ignored => (Ours::Ignored, LENT.payload, 0),
-        ProcessResult::FragmentConsumed => (Ours::FragmentConsumed, LENT.payload, 0),
-        ProcessResult::MessageComplete(m) => (Ours::MessageComplete, m.payload, m.len),
-    };
-    Answer { result, payload, length }
+    match r {
+        ProcessResult::Ignored => Answer { kind: raw::IGNORED, payload: LENT.payload, length: 0 },
+        ProcessResult::FragmentConsumed => Answer { kind: raw::FRAGMENT_CONSUMED, payload: LENT.payload, length: 0 },
+        ProcessResult::MessageComplete(m) => Answer { kind: raw::MESSAGE_COMPLETE, payload: m.payload, length: m.len },
+    }
+}
+
+/// The original's answer, with the port's types.
+fn as_ours(r: ProcessResult) -> ours::ProcessResult {
+    match r {
+        ProcessResult::Ignored => ours::ProcessResult::Ignored,
+        ProcessResult::FragmentConsumed => ours::ProcessResult::FragmentConsumed,
+        ProcessResult::MessageComplete(m) => ours::ProcessResult::MessageComplete(ours::CompletedMessage { payload: m.payload, len: m.len }),
+    }
 }
 
 pub fn lay(p: &mut Pool, k: usize, s: &Slot) {
@@ -88,12 +114,37 @@ pub fn impossible(size: usize, slots: &[Slot]) -> bool {
 /// One call of the port: with a length, by the lent counters, or by the counters by value.
 fn called(p: &mut Pool, counters: &mut Counters, list: &[u32], h: &Heard, length: Option<usize>, by_value: bool) -> Answer {
     let mut a = LENT.clone();
-    match length {
-        Some(n) => p.process_frame_with_length_into(counters, list, h.now, h.pgn, h.source, &h.data, n, &mut a),
-        None if by_value => p.receive_into(counters, list, h.now, h.pgn, h.source, &h.data, &mut a),
-        None => p.process_frame_into(counters, list, h.now, h.pgn, h.source, &h.data, &mut a),
-    }
+    let (payload, left) = (&mut a.payload, &mut a.length);
+    let (call, kind) = match length {
+        Some(n) => ("receive_with_length", p.process_frame_with_length(counters, list, h.now, h.pgn, h.source, &h.data, n, payload, left)),
+        None if by_value => ("receive_by_value", p.receive(counters, list, h.now, h.pgn, h.source, &h.data, payload, left)),
+        None => ("receive", p.process_frame(counters, list, h.now, h.pgn, h.source, &h.data, payload, left)),
+    };
+    answered(call, kind);
+    a.kind = kind;
     a
+}
+
+/// The same of a batch: a refusal's number or 0, the frames taken and the arena's bytes taken.
+#[allow(clippy::too_many_arguments)]
+fn batched_in(
+    p: &mut Pool, counters: &mut Counters, list: &[u32], times: &[u64], pgns: &[u32], sources: &[u8], data: &[u8], kinds: &mut [u8], lengths: &mut [u8], arena: &mut [u8],
+) -> (u32, usize, usize) {
+    let mut counts = [0xEE; 2];
+    let number = p.process_frames(counters, list, times, pgns, sources, data, kinds, lengths, arena, &mut counts);
+    answered("batch", number);
+    (number, counts[0] as usize, counts[1] as usize)
+}
+
+fn batched(p: &mut Pool, counters: &mut Counters, list: &[u32], rows: &Rows, told: &mut Told) -> (u32, usize, usize) {
+    batched_in(p, counters, list, &rows.times, &rows.pgns, &rows.sources, &rows.data, &mut told.kinds, &mut told.lengths, &mut told.arena)
+}
+
+/// A pool made by the entry over numbers that stood there.
+fn made(p: &mut Pool, size: usize) -> u32 {
+    let number = p.made_anew(size);
+    answered("pool", number);
+    number
 }
 
 /// Both sides, with the list that the port is lent and the strictly ascending one that the original takes.
@@ -117,13 +168,14 @@ fn sorted(list: &[u32]) -> &'static [u32] {
 impl Pair {
     /// Fresh pools.
     pub fn fresh(size: usize, list: &[u32]) -> Pair {
-        let (number, p) = Pool::new(size);
-        assert_eq!((number, p.size), (0, size));
+        let mut p = Pool { size: 0xEE, heads: [0xEE << 32; 64], bytes: [0xEE; 1784] };
+        assert_eq!((made(&mut p, size), p.size), (0, size));
         for k in 0..8 {
             assert!(stands(&p, k, &Slot::FRESH), "a fresh slot");
         }
         if size == 4 {
-            assert_eq!(p, Pool::default_pool());
+            let mut by_default = Pool { size: 0xEE, heads: [0xEE << 32; 64], bytes: [0xEE; 1784] };
+            assert_eq!((by_default.made_by_default(), &by_default), (0, &p));
         }
         Pair { size, list: list.to_vec(), o: original(size, sorted(list)), p, counters: [0; 5], past: vec![Slot::FRESH; 8 - size] }
     }
@@ -159,6 +211,7 @@ impl Pair {
             let mut data = [0xFF; 8];
             let len = n.min(8);
             data[..len].copy_from_slice(&h.data[..len]);
+            assert_eq!(fast_packet::fill_short(h.data, n), data, "{:?} cut to {n}", h.data);
             heard.data = data;
         }
         let want = told(&self.o.process(&heard));
@@ -172,7 +225,7 @@ impl Pair {
     }
     /// Compares the list test of this list.
     pub fn ask(&self, pgn: u32) {
-        assert_eq!(handles(&self.list, pgn), self.o.handles(pgn), "{pgn} in {:?}", self.list);
+        assert_eq!((handles(&self.list, pgn), fast_packet::is_listed(&self.list, pgn)), (self.o.handles(pgn), self.o.handles(pgn)), "{pgn} in {:?}", self.list);
     }
 }
 
@@ -185,7 +238,7 @@ pub fn refused(size: usize, slots: &[Slot; 8], counters: Counters, list: &[u32],
     let before = p.clone();
     let mut c = counters;
     let got = called(&mut p, &mut c, list, h, length, h.now % 2 == 0);
-    assert_eq!(got, Answer { result: Ours::Refused(1), length: 0, ..LENT }, "size {size}, {slots:?}");
+    assert_eq!(got, REFUSED, "size {size}, {slots:?}");
     assert_eq!(p, before, "the pool comes back unchanged with 1");
     assert_eq!(c, counters);
 }
@@ -270,13 +323,19 @@ pub fn two_slots() -> u64 {
 pub fn making() -> u64 {
     let mut steps = 0;
     for size in (0..1000).chain([usize::MAX, 1 << 32, 8 | 1 << 40]) {
-        let (number, p) = Pool::new(size);
+        let mut p = Pool::ZEROS;
+        let number = made(&mut p, size);
         assert_eq!((number, p.size), if size > 8 { (1, 0) } else { (0, size) });
         assert_eq!((p.heads, p.bytes), ([0; 64], [0; 1784]));
+        let ours = ours::Pool::new(size);
+        assert_eq!(ours.as_ref().map(|p| p.size()).map_err(|e| e.number), if size > 8 { Err(1) } else { Ok(size) });
+        if size == 4 {
+            assert_eq!(ours, Ok(ours::Pool::default()));
+        }
         // over a pool that was in use: every number and byte, or with a refusal none
         let lent = Pool { size: 3, heads: [300 << 32; 64], bytes: [0xEE; 1784] };
         let mut q = lent.clone();
-        assert_eq!(q.made_anew(size), number);
+        assert_eq!(made(&mut q, size), number);
         assert_eq!(q, if size > 8 { Pool { size: 0, ..lent } } else { p });
         steps += 2;
     }
@@ -299,9 +358,9 @@ fn originally<const N: usize>(slots: &[Slot; 8], counters: Counters, list: &'sta
         let data: &[u8; 8] = rows.data[8 * i..8 * i + 8].try_into().unwrap();
         let r = next.process_frame(rows.times[i], rows.pgns[i], rows.sources[i], data);
         let (kind, length) = match &r {
-            ProcessResult::Ignored => (0, 0),
-            ProcessResult::FragmentConsumed => (1, 0),
-            ProcessResult::MessageComplete(m) => (2, m.len),
+            ProcessResult::Ignored => (raw::ROW_IGNORED, 0),
+            ProcessResult::FragmentConsumed => (raw::ROW_FRAGMENT_CONSUMED, 0),
+            ProcessResult::MessageComplete(m) => (raw::ROW_MESSAGE_COMPLETE, m.len),
         };
         if used + length > told.arena.len() {
             break;
@@ -325,16 +384,23 @@ const ORIGINALLY: [Originally; 9] =
 /// One batch on any possible pool, and all that it leaves: answers, messages, the rest of the lent rows, counters, slots.
 pub fn batch(size: usize, slots: &[Slot; 8], counters: Counters, list: &[u32], sorted: &'static [u32], rows: &Rows, room: usize, spare: usize) -> (usize, usize, [Slot; 8], Counters) {
     let n = rows.len();
-    let (mut got, mut want) = (Told::room(n + spare, room), Told::room(n + spare, room));
+    let (mut got, mut want) = (lent(n + spare, room), lent(n + spare, room));
     let mut p = Pool { size, heads: [0; 64], bytes: [0; 1784] };
     for (k, s) in slots.iter().enumerate() {
         lay(&mut p, k, s);
     }
     let mut c = counters;
-    let (number, taken, used) = p.process_frames(&mut c, list, rows, 0, &mut got);
+    let (number, taken, used) = batched(&mut p, &mut c, list, rows, &mut got);
     let left = ORIGINALLY[size](slots, counters, sorted, rows, &mut want);
     assert_eq!((number, taken, used), (0, left.0, left.1), "frames and bytes taken of {n}, room {room}");
     assert_eq!(got, want, "kinds, lengths, arena");
+    for kind in &want.kinds[..taken] {
+        answered("batch_row", match *kind {
+            raw::ROW_IGNORED => raw::IGNORED,
+            raw::ROW_FRAGMENT_CONSUMED => raw::FRAGMENT_CONSUMED,
+            _ => raw::MESSAGE_COMPLETE,
+        });
+    }
     assert_eq!(c, left.3, "counters");
     for (k, s) in left.2.iter().enumerate() {
         assert!(stands(&p, k, s), "slot {k}: {s:?}, {:?}", &p.heads[8 * k..8 * k + 8]);
@@ -351,12 +417,12 @@ pub fn batch_refused(size: usize, slots: &[Slot; 8], counters: Counters, list: &
     }
     let before = p.clone();
     let mut c = counters;
-    let mut told = Told::room(n, 500);
+    let mut told = lent(n, 500);
     let all = told.clone();
     let short = |k: usize, len: usize| if cut == k { len.saturating_sub(1) } else { len };
     let (kinds, lengths) = (short(3, n), short(4, n));
-    let (number, taken, used) = p.process_frames_in(
-        &mut c, list, &rows.times, &rows.pgns[..short(0, n)], &rows.sources[..short(1, n)], &rows.data[..short(2, 8 * n)],
+    let (number, taken, used) = batched_in(
+        &mut p, &mut c, list, &rows.times, &rows.pgns[..short(0, n)], &rows.sources[..short(1, n)], &rows.data[..short(2, 8 * n)],
         &mut told.kinds[..kinds], &mut told.lengths[..lengths], &mut told.arena,
     );
     let want = if impossible(size, slots) { 1 } else { 27 };
@@ -454,7 +520,7 @@ fn laid_on(old: &[u64; 64], new: &[u64; 64]) -> [u64; 64] {
 }
 
 fn heads_of(slots: &[Slot; 8]) -> [u64; 64] {
-    let mut p = Pool { size: 0, heads: [0; 64], bytes: [0; 1784] };
+    let mut p = Pool::ZEROS;
     slots.iter().enumerate().for_each(|(k, s)| lay(&mut p, k, s));
     p.heads
 }
@@ -480,12 +546,12 @@ pub fn wide_numbers(seed: u64, steps: u64) -> u64 {
             let before = Pool { size, heads: widened(&mut r, &heads_of(&slots)), bytes: bytes(&slots) };
             let (mut p, mut c) = (before.clone(), counters);
             let got = called(&mut p, &mut c, list, &h, length, by_value);
-            assert_eq!((got, &p, c), (Answer { result: Ours::Refused(1), length: 0, ..LENT }, &before, counters), "a refusal changes no lent memory");
+            assert_eq!((got, &p, c), (REFUSED, &before, counters), "a refusal changes no lent memory");
             let mut rows = Rows::default();
             rows.push(h.now, h.pgn, h.source, h.data);
-            let mut told = Told::room(1, 300);
-            assert_eq!(p.process_frames(&mut c, list, &rows, 0, &mut told), (1, 0, 0));
-            assert_eq!((p, c, told), (before, counters, Told::room(1, 300)), "nor does a batch's");
+            let mut told = lent(1, 300);
+            assert_eq!(batched(&mut p, &mut c, list, &rows, &mut told), (1, 0, 0));
+            assert_eq!((p, c, told), (before, counters, lent(1, 300)), "nor does a batch's");
             seen[0] += 1;
             continue;
         }
@@ -498,11 +564,11 @@ pub fn wide_numbers(seed: u64, steps: u64) -> u64 {
             let got = called(&mut p, &mut c, list, &h, length, by_value);
             assert_eq!((&got, c, p.bytes), (&want, pair.counters(), pair.p.bytes), "{h:?}");
             assert_eq!(p.heads, laid_on(&before.heads, &pair.p.heads), "the numbers of {:?} after {h:?}", before.heads);
-            seen[match got.result {
-                Ours::Refused(_) => unreachable!("the pool is possible"),
-                Ours::Ignored => 1,
-                Ours::FragmentConsumed => 2,
-                Ours::MessageComplete => 3,
+            seen[match got.kind {
+                raw::IGNORED => 1,
+                raw::FRAGMENT_CONSUMED => 2,
+                raw::MESSAGE_COMPLETE => 3,
+                number => panic!("the pool is possible, and was refused by {number}"),
             }] += 1;
         } else {
             let mut rows = Rows::default();
@@ -511,16 +577,16 @@ pub fn wide_numbers(seed: u64, steps: u64) -> u64 {
                 rows.push(h.now, h.pgn, h.source, h.data);
             }
             let n = rows.len();
-            let (mut p, mut c, mut told) = (before.clone(), counters, Told::room(n, 1000));
+            let (mut p, mut c, mut told) = (before.clone(), counters, lent(n, 1000));
             if n > 0 && r.one_in(3) {
                 // refusal 27
-                let number = p.process_frames_in(&mut c, list, &rows.times, &rows.pgns, &rows.sources[..n - 1], &rows.data, &mut told.kinds, &mut told.lengths, &mut told.arena);
-                assert_eq!((number, p, c, told), ((27, 0, 0), before, counters, Told::room(n, 1000)), "a refusal changes no lent memory");
+                let number = batched_in(&mut p, &mut c, list, &rows.times, &rows.pgns, &rows.sources[..n - 1], &rows.data, &mut told.kinds, &mut told.lengths, &mut told.arena);
+                assert_eq!((number, p, c, told), ((27, 0, 0), before, counters, lent(n, 1000)), "a refusal changes no lent memory");
                 seen[4] += 1;
                 continue;
             }
             let left = batch(size, &slots, counters, list, sorted(list), &rows, 1000, 0);
-            assert_eq!(p.process_frames(&mut c, list, &rows, 0, &mut told), (0, left.0, left.1));
+            assert_eq!(batched(&mut p, &mut c, list, &rows, &mut told), (0, left.0, left.1));
             assert_eq!((p.heads, p.bytes, c), (laid_on(&before.heads, &heads_of(&left.2)), bytes(&left.2), left.3), "the numbers of {:?} after a batch", before.heads);
             seen[5] += 1;
         }
@@ -644,11 +710,11 @@ pub fn counters_at_the_end() -> u64 {
     ] {
         for at in [u32::MAX - 2, u32::MAX - 1, u32::MAX] {
             let busy = Slot { in_progress: true, source: 1, pgn: 127_489, expected: 7, current: 6, ..Slot::FRESH };
-            let mut p = Pool::new(1).1;
+            let mut p = Pool { size: 1, ..Pool::ZEROS };
             lay(&mut p, 0, &busy);
             let mut c = [7; 5];
             c[which] = at;
-            p.process_frame(&mut c, &[127_489], h.now, h.pgn, h.source, &h.data);
+            called(&mut p, &mut c, &[127_489], &h, None, false);
             let mut want = [7; 5];
             want[which] = at.saturating_add(1);
             assert_eq!(c, want, "{h:?}");
@@ -699,4 +765,91 @@ pub fn traffic(seed: u64, steps: u64) -> u64 {
         }
     }
     done
+}
+
+// ---- the safe API
+
+/// The original's slot k beside the one that the port's method reads.
+fn reads(p: &ours::Pool, o: &dyn Original, k: usize) -> bool {
+    let (s, b) = (p.slot(k), o.slot(k));
+    s == Some(ours::Slot {
+        in_progress: b.in_progress, source_address: b.source, sequence_id: b.sequence, last_frame_index: b.last_index, pgn: b.pgn, expected_size: b.expected, current_size: b.current,
+        last_seen_ms: b.last_time, buffer: &b.bytes,
+    })
+}
+
+/// Pools as a program holds them, from fresh on: each of the calls in turn, and after each all that the methods read.
+pub fn safe_pools(seed: u64, steps: u64) -> u64 {
+    let mut r = Rng::new(seed);
+    let mut done = 0;
+    while done < steps {
+        let size = r.below(9) as usize;
+        let list = LISTS[1 + r.below(5) as usize];
+        let (mut o, mut p) = (original(size, sorted(list)), ours::Pool::new(size).unwrap());
+        let mut now = r.pick(&[0, 1000, u64::MAX - 5_000_000]);
+        for _ in 0..500 {
+            let slots: Vec<Slot> = (0..size).map(|k| o.slot(k)).collect();
+            now = if r.one_in(20) { now.saturating_sub(600) } else { now.saturating_add(r.pick(&[0, 1, 5, 5, 5, 500, 501])) };
+            let h = heard(&mut r, &slots, now);
+            match r.below(4) {
+                0 => assert_eq!(p.process_frame(list, h.now, h.pgn, h.source, &h.data), as_ours(o.process(&h))),
+                1 => assert_eq!(p.receive(list, h.now, h.pgn, h.source, &h.data), as_ours(o.process(&h))),
+                2 => {
+                    let n = r.below(10) as usize;
+                    let cut = Heard { data: std::array::from_fn(|i| if i < n { h.data[i] } else { 0xFF }), ..h };
+                    assert_eq!(p.process_frame_with_length(list, h.now, h.pgn, h.source, &h.data, n), as_ours(o.process(&cut)));
+                }
+                _ => {
+                    let (mut rows, mut want) = (Rows::default(), vec![]);
+                    for k in 0..r.below(6) as usize {
+                        let h = heard(&mut r, &slots, now);
+                        rows.push(h.now, h.pgn, h.source, h.data);
+                        if let ProcessResult::MessageComplete(m) = o.process(&h) {
+                            want.push((k, m.payload[..m.len].to_vec()));
+                        }
+                    }
+                    let mut told = Told::room(rows.len(), 223 * rows.len());
+                    let taken = p.process_frames(list, &rows, 0, &mut told).unwrap();
+                    assert_eq!((taken.frames, taken.used), (rows.len(), want.iter().map(|m| m.1.len()).sum()));
+                    assert_eq!(told.messages(taken).map(|(k, m)| (k, m.to_vec())).collect::<Vec<_>>(), want);
+                }
+            }
+            assert_eq!([p.expired_sessions(), p.pool_exhausted(), p.rejected_frames(), p.lost_fragments(), p.unknown_pgn()], o.counters());
+            assert!((0..size).all(|k| reads(&p, &*o, k)) && p.slot(size).is_none() && p.size() == size, "slots after {h:?}");
+            done += 1;
+        }
+    }
+    done
+}
+
+/// Batches of rows of any lengths, from any frame on: a panic is a difference. 27 exactly where a row is shorter than the times, and
+/// then nothing has changed.
+pub fn any_rows(seed: u64, steps: u64) -> u64 {
+    let mut r = Rng::new(seed);
+    for _ in 0..steps {
+        let list = LISTS[r.below(6) as usize];
+        let mut p = ours::Pool::new(r.below(9) as usize).unwrap();
+        let mut length = |most| r.below(most) as usize;
+        let (times, pgns, sources, data) = (length(6), length(6), length(6), length(50));
+        let mut told = lent(length(6), 0);
+        (told.lengths, told.arena) = (vec![0xEE; length(6)], vec![0xEE; length(40)]);
+        let from = if r.one_in(10) { r.next() as usize } else { r.below(8) as usize };
+        let rows = Rows { times: vec![7; times], pgns: (0..pgns).map(|_| r.pick(&PGNS)).collect(), sources: vec![1; sources], data: r.vec(data).iter().map(|b| b % 12).collect() };
+        let n = times.saturating_sub(from);
+        let left = |len: usize, each: usize| len.saturating_sub(from.saturating_mul(each)) / each;
+        let short = [left(pgns, 1), left(sources, 1), left(data, 8), told.kinds.len(), told.lengths.len()].into_iter().any(|len| len < n);
+        let before = (p.clone(), told.clone());
+        match p.process_frames(list, &rows, from, &mut told) {
+            Ok(taken) => {
+                assert!(!short && taken.frames <= n && taken.used <= told.arena.len());
+                assert_eq!(told.messages(taken).map(|(_, m)| m.len()).sum::<usize>(), taken.used);
+                answered("rows", 0);
+            }
+            Err(e) => {
+                assert!(short && e.number == 27 && (p, told) == before, "{e}");
+                answered("rows", e.number);
+            }
+        }
+    }
+    steps
 }

@@ -1,20 +1,21 @@
-use diff::bench;
+use diff::{bench, tally::run};
 
 #[test]
 fn every_payload_is_split_as_the_original_does() {
-    println!("the splitter, every length: {} steps alike", bench::every_split());
+    run("the splitter, every length", bench::every_split);
 }
 
 #[test]
 fn every_message_is_judged_as_the_original_does() {
-    println!("strict reassembly, every length: {} steps alike", bench::every_message());
+    run("strict reassembly, every length", bench::every_message);
 }
 
 #[test]
 fn random_captures_are_judged_as_the_original_does() {
-    let mut seen = [0; 64];
-    println!("the bench, random: {} steps alike", bench::random(6, 300_000, &mut seen));
-    for number in [0, 20, 21, 22, 23, 24, 25, 26, 27, 28, 30, 31, 32, 33, 34, 35, 36, 37] {
-        assert!(seen[number] > 0, "answer {number} was never seen");
-    }
+    run("the bench, random", || bench::random(6, 300_000));
+}
+
+#[test]
+fn the_shortest_row_decides() {
+    run("the bench, rows of unequal lengths", || bench::unequal_rows(9, 100_000));
 }

@@ -1,30 +1,37 @@
-//! One engine record, PGN 127489, sent frame by frame and heard into a pool of four.
-//!
-//! host/archive ffi && cargo run --offline --release -p port --example engine_hours   (the second in host/)
 use port::assembler::{Pool, ProcessResult};
 use port::builder::FastPacketBuilder;
 
 const ENGINE: u32 = 127_489;
 
-fn main() {
+fn main() -> Result<(), Box<dyn std::error::Error>> {
     let mut record = [0; 26];
     record[11..15].copy_from_slice(&1_245_185_u32.to_le_bytes());
     let (builder, held) = FastPacketBuilder::new(ENGINE, 35, None, &record, &[ENGINE], 0);
-    println!("the number for the next message: {held}");
 
-    let (refused, mut pool) = Pool::new(4);
-    assert_eq!(refused, 0);
-    let mut counters = [0; 5];
-    let mut frames = builder.build();
+    let mut pool = Pool::new(4)?; // refused above 8
     let mut now_ms = 0;
-    while let Some(Ok(frame)) = frames.next(&record) {
-        let answer = pool.process_frame(&mut counters, &[ENGINE], now_ms, ENGINE, 35, &frame.data);
-        print!("{:08X} {:02X?}: {:?}", frame.id, frame.data, answer.result);
-        if answer.result == ProcessResult::MessageComplete {
-            let hours = u32::from_le_bytes(answer.payload[11..15].try_into().unwrap());
-            print!(", {} bytes, engine hours {hours} s", answer.length);
+    for frame in builder.build() {
+        let frame = frame?;
+        print!("{:08X} {:02X?}: ", frame.id.0, frame.data);
+        match pool.process_frame(&[ENGINE], now_ms, ENGINE, 35, &frame.data) {
+            ProcessResult::Ignored => println!("Ignored"),
+            ProcessResult::FragmentConsumed => println!("FragmentConsumed"),
+            ProcessResult::MessageComplete(message) => {
+                let hours = u32::from_le_bytes(message.payload[11..15].try_into()?);
+                println!("MessageComplete, {} bytes, engine hours {hours} s", message.len);
+            }
         }
-        println!();
         now_ms += 10;
     }
+    println!("lost fragments: {}, number for the next message: {held}", pool.lost_fragments());
+
+    // This PGN goes to everybody, so a destination is refused: once, and no frame follows.
+    let (builder, _) = FastPacketBuilder::new(ENGINE, 35, Some(16), &record, &[ENGINE], held);
+    for frame in builder.build() {
+        match frame {
+            Ok(frame) => println!("{:08X}", frame.id.0),
+            Err(refusal) => println!("refusal {}: {refusal}", refusal.number()),
+        }
+    }
+    Ok(())
 }

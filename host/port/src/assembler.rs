@@ -1,130 +1,154 @@
-//! The receive call: the Rust's `FastPacketAssembler`, with pool and counters in the caller's hands.
-use crate::entries::*;
+//! From frames to messages: the original's `FastPacketAssembler`, but for the PGN list, which is lent to each call.
+use crate::error::Refusal;
+use crate::fast_packet::MAX_FAST_PACKET_PAYLOAD;
+use crate::raw;
 
-/// Slot k: eight numbers of `heads` from 8 * k on (in progress, source, sequence, last index, PGN, expected size, current
-/// size, last time) and 223 of `bytes` from 223 * k on.
+/// A pool of sessions and its five counters, as the calls leave them: no other way leads to one, so none is impossible.
 #[derive(Clone, Debug, PartialEq, Eq)]
 pub struct Pool {
-    pub size: usize,
-    pub heads: [u64; 64],
-    pub bytes: [u8; 1784],
+    numbers: raw::Pool,
+    counters: raw::Counters,
 }
 
-/// Expired, exhausted, rejected, lost, unknown.
-pub type Counters = [u32; 5];
-
+#[allow(clippy::large_enum_variant)]
 #[derive(Clone, Debug, PartialEq, Eq)]
 pub enum ProcessResult {
-    Refused(u32),
+    /// Nothing came of the frame but a counter.
     Ignored,
+    /// The frame was taken, and more of its message is missing.
     FragmentConsumed,
-    MessageComplete,
+    MessageComplete(CompletedMessage),
 }
 
-/// The answer, with the payload's 223 bytes and its length. Without a message the length is 0, and the payload is as it was
-/// lent: zeros, where the call makes the answer.
 #[derive(Clone, Debug, PartialEq, Eq)]
-pub struct Answer {
-    pub result: ProcessResult,
-    pub payload: [u8; 223],
-    pub length: usize,
+pub struct CompletedMessage {
+    /// The message, and zeros after it.
+    pub payload: [u8; MAX_FAST_PACKET_PAYLOAD],
+    pub len: usize,
 }
 
-fn result(code: u32) -> ProcessResult {
-    match code {
-        256 => ProcessResult::Ignored,
-        257 => ProcessResult::FragmentConsumed,
-        258 => ProcessResult::MessageComplete,
-        number => ProcessResult::Refused(number),
-    }
+/// What a slot of the pool holds. An idle slot keeps its last source, buffer and time.
+#[derive(Clone, Copy, Debug, PartialEq, Eq)]
+pub struct Slot<'a> {
+    pub in_progress: bool,
+    pub source_address: u8,
+    pub sequence_id: u8,
+    pub last_frame_index: u8,
+    pub pgn: u32,
+    pub expected_size: usize,
+    pub current_size: usize,
+    pub last_seen_ms: u64,
+    pub buffer: &'a [u8],
+}
+
+/// How many frames a batch took, and how many bytes of the arena.
+#[derive(Clone, Copy, Debug, PartialEq, Eq)]
+pub struct Taken {
+    pub frames: usize,
+    pub used: usize,
 }
 
 pub fn handles(pgns: &[u32], pgn: u32) -> bool {
-    unsafe { hf_handles(pgns.as_ptr(), pgns.len(), pgn) }
+    raw::handles(pgns, pgn)
 }
 
 impl Pool {
-    /// The refusal's number, or 0, and the pool: a fresh one, of size 0 with a refusal.
-    pub fn new(size: usize) -> (u32, Pool) {
-        let mut p = Pool { size: 0, heads: [0; 64], bytes: [0; 1784] };
-        (p.made_anew(size), p)
+    /// A fresh pool of up to 8 slots, counters at 0; more slots are refused by 1.
+    pub fn new(size: usize) -> Result<Self, Refusal<0>> {
+        let mut pool = Self { numbers: raw::Pool::ZEROS, counters: [0; raw::COUNTERS] };
+        match pool.numbers.made_anew(size) {
+            0 => Ok(pool),
+            number => Err(Refusal { number, carried: [] }),
+        }
     }
-    /// The same into a pool that the caller keeps: a refusal leaves its heads and bytes.
-    pub fn made_anew(&mut self, size: usize) -> u32 {
-        unsafe { hf_pool_new(size, self.heads.as_mut_ptr(), self.bytes.as_mut_ptr(), &mut self.size) }
+
+    pub fn size(&self) -> usize {
+        self.numbers.size
     }
-    pub fn default_pool() -> Pool {
-        let mut p = Pool { size: 0xEE, heads: [0xEE << 32; 64], bytes: [0xEE; 1784] };
-        assert_eq!(unsafe { hf_pool_default(p.heads.as_mut_ptr(), p.bytes.as_mut_ptr(), &mut p.size) }, 0);
-        p
+    pub fn expired_sessions(&self) -> u32 {
+        self.counters[0]
     }
-    pub fn process_frame(&mut self, counters: &mut Counters, pgns: &[u32], now_ms: u64, pgn: u32, source_address: u8, data: &[u8; 8]) -> Answer {
-        let mut a = Answer { result: ProcessResult::Ignored, payload: [0; 223], length: 0 };
-        self.process_frame_into(counters, pgns, now_ms, pgn, source_address, data, &mut a);
-        a
+    pub fn pool_exhausted(&self) -> u32 {
+        self.counters[1]
     }
-    /// The same into an answer that the caller keeps: its payload is written where a message is complete.
-    #[allow(clippy::too_many_arguments)]
-    #[inline]
-    pub fn process_frame_into(&mut self, counters: &mut Counters, pgns: &[u32], now_ms: u64, pgn: u32, source_address: u8, data: &[u8; 8], a: &mut Answer) {
-        a.result = result(unsafe {
-            hf_process_frame(
-                self.size, self.heads.as_mut_ptr(), self.bytes.as_mut_ptr(), counters.as_mut_ptr(), pgns.as_ptr(), pgns.len(), now_ms, pgn, source_address, data.as_ptr(),
-                a.payload.as_mut_ptr(), &mut a.length,
-            )
-        });
+    pub fn rejected_frames(&self) -> u32 {
+        self.counters[2]
     }
-    /// The same by the call that has the counters by value.
-    #[allow(clippy::too_many_arguments)]
-    #[inline]
-    pub fn receive_into(&mut self, counters: &mut Counters, pgns: &[u32], now_ms: u64, pgn: u32, source_address: u8, data: &[u8; 8], a: &mut Answer) {
-        a.result = result(unsafe {
-            hf_receive(
-                self.size, self.heads.as_mut_ptr(), self.bytes.as_mut_ptr(), counters.as_mut_ptr(), pgns.as_ptr(), pgns.len(), now_ms, pgn, source_address, data.as_ptr(),
-                a.payload.as_mut_ptr(), &mut a.length,
-            )
-        });
+    pub fn lost_fragments(&self) -> u32 {
+        self.counters[3]
     }
-    pub fn process_frame_with_length(
-        &mut self, counters: &mut Counters, pgns: &[u32], now_ms: u64, pgn: u32, source_address: u8, data: &[u8; 8], frame_length: usize,
-    ) -> Answer {
-        let mut a = Answer { result: ProcessResult::Ignored, payload: [0; 223], length: 0 };
-        self.process_frame_with_length_into(counters, pgns, now_ms, pgn, source_address, data, frame_length, &mut a);
-        a
+    pub fn unknown_pgn(&self) -> u32 {
+        self.counters[4]
     }
-    #[allow(clippy::too_many_arguments)]
-    pub fn process_frame_with_length_into(
-        &mut self, counters: &mut Counters, pgns: &[u32], now_ms: u64, pgn: u32, source_address: u8, data: &[u8; 8], frame_length: usize, a: &mut Answer,
-    ) {
-        a.result = result(unsafe {
-            hf_process_frame_with_length(
-                self.size, self.heads.as_mut_ptr(), self.bytes.as_mut_ptr(), counters.as_mut_ptr(), pgns.as_ptr(), pgns.len(), now_ms, pgn, source_address, data.as_ptr(),
-                frame_length, a.payload.as_mut_ptr(), &mut a.length,
-            )
-        });
+    /// Slot k of the pool's size.
+    pub fn slot(&self, k: usize) -> Option<Slot<'_>> {
+        if k >= self.numbers.size {
+            return None;
+        }
+        let head = self.numbers.heads.chunks_exact(raw::SLOT_NUMBERS).nth(k)?;
+        Some(Slot {
+            in_progress: head[0] != 0,
+            source_address: head[1] as u8,
+            sequence_id: head[2] as u8,
+            last_frame_index: head[3] as u8,
+            pgn: head[4] as u32,
+            expected_size: head[5] as usize,
+            current_size: head[6] as usize,
+            last_seen_ms: head[7],
+            buffer: self.numbers.bytes.chunks_exact(MAX_FAST_PACKET_PAYLOAD).nth(k)?,
+        })
     }
-    /// Many frames in one call. Returns the refusal's number, or 0, the frames taken and the arena's bytes taken.
-    pub fn process_frames(&mut self, counters: &mut Counters, pgns: &[u32], rows: &Rows, from: usize, told: &mut Told) -> (u32, usize, usize) {
-        self.process_frames_in(counters, pgns, &rows.times[from..], &rows.pgns[from..], &rows.sources[from..], &rows.data[8 * from..], &mut told.kinds, &mut told.lengths, &mut told.arena)
+
+    pub fn process_frame(&mut self, pgns: &[u32], now_ms: u64, pgn: u32, source_address: u8, data: &[u8; 8]) -> ProcessResult {
+        answer(|payload, length| self.numbers.process_frame(&mut self.counters, pgns, now_ms, pgn, source_address, data, payload, length))
     }
-    #[allow(clippy::too_many_arguments)]
-    pub fn process_frames_in(
-        &mut self, counters: &mut Counters, pgns: &[u32], times: &[u64], frame_pgns: &[u32], sources: &[u8], data: &[u8], kinds: &mut [u8], lengths: &mut [u8], arena: &mut [u8],
-    ) -> (u32, usize, usize) {
-        let mut counts = [0xEE; 2];
-        let number = unsafe {
-            hf_process_frames(
-                self.size, self.heads.as_mut_ptr(), self.bytes.as_mut_ptr(), counters.as_mut_ptr(), pgns.as_ptr(), pgns.len(), times.as_ptr(), times.len(),
-                frame_pgns.as_ptr(), frame_pgns.len(), sources.as_ptr(), sources.len(), data.as_ptr(), data.len(),
-                kinds.as_mut_ptr(), kinds.len(), lengths.as_mut_ptr(), lengths.len(), arena.as_mut_ptr(), arena.len(), counts.as_mut_ptr(),
-            )
-        };
-        (number, counts[0] as usize, counts[1] as usize)
+    /// The same by the call that has the counters by value: fewer copies of the pool.
+    pub fn receive(&mut self, pgns: &[u32], now_ms: u64, pgn: u32, source_address: u8, data: &[u8; 8]) -> ProcessResult {
+        answer(|payload, length| self.numbers.receive(&mut self.counters, pgns, now_ms, pgn, source_address, data, payload, length))
+    }
+    /// Of the frame's bytes only the first min(frame_length, 8) count; 0xFF stands for the others.
+    pub fn process_frame_with_length(&mut self, pgns: &[u32], now_ms: u64, pgn: u32, source_address: u8, data: &[u8; 8], frame_length: usize) -> ProcessResult {
+        answer(|payload, length| self.numbers.process_frame_with_length(&mut self.counters, pgns, now_ms, pgn, source_address, data, frame_length, payload, length))
+    }
+    /// Many frames in one call, those of `rows` from `from` on; past the end there are none. It stops before the first frame whose
+    /// message has no room in the arena. 27 where a row is shorter than that of the times.
+    pub fn process_frames(&mut self, pgns: &[u32], rows: &Rows, from: usize, told: &mut Told) -> Result<Taken, Refusal<0>> {
+        fn rest<T>(row: &[T], from: usize) -> &[T] {
+            row.get(from..).unwrap_or(&[])
+        }
+        let mut counts = [0; raw::COUNTS];
+        let number = self.numbers.process_frames(
+            &mut self.counters, pgns, rest(&rows.times, from), rest(&rows.pgns, from), rest(&rows.sources, from), rest(&rows.data, from.saturating_mul(8)),
+            &mut told.kinds, &mut told.lengths, &mut told.arena, &mut counts,
+        );
+        match number {
+            0 => Ok(Taken { frames: counts[0] as usize, used: counts[1] as usize }),
+            number => Err(Refusal { number, carried: [] }),
+        }
+    }
+}
+
+impl Default for Pool {
+    /// Four slots.
+    fn default() -> Self {
+        let mut pool = Self { numbers: raw::Pool::ZEROS, counters: [0; raw::COUNTERS] };
+        pool.numbers.made_by_default();
+        pool
+    }
+}
+
+/// A call's kind with its message. The refusal, 1, is for pools that no value of `Pool` is; it has no case of its own.
+fn answer(call: impl FnOnce(&mut [u8; MAX_FAST_PACKET_PAYLOAD], &mut usize) -> u32) -> ProcessResult {
+    let (mut payload, mut len) = ([0; MAX_FAST_PACKET_PAYLOAD], 0);
+    match call(&mut payload, &mut len) {
+        raw::MESSAGE_COMPLETE => ProcessResult::MessageComplete(CompletedMessage { payload, len }),
+        raw::FRAGMENT_CONSUMED => ProcessResult::FragmentConsumed,
+        _ => ProcessResult::Ignored,
     }
 }
 
 /// Rows of frames: a time, a PGN, a source and eight bytes of `data` each.
-#[derive(Clone, Debug, Default)]
+#[derive(Clone, Debug, Default, PartialEq, Eq)]
 pub struct Rows {
     pub times: Vec<u64>,
     pub pgns: Vec<u32>,
@@ -147,7 +171,7 @@ impl Rows {
     }
 }
 
-/// Rows for the answers: a kind (0 Ignored, 1 FragmentConsumed, 2 MessageComplete) and a length a frame, messages end to end.
+/// Rows for a batch's answers: a kind and a message's length for each frame, and the messages end to end.
 #[derive(Clone, Debug, PartialEq, Eq)]
 pub struct Told {
     pub kinds: Vec<u8>,
@@ -157,6 +181,16 @@ pub struct Told {
 
 impl Told {
     pub fn room(frames: usize, arena: usize) -> Told {
-        Told { kinds: vec![0xEE; frames], lengths: vec![0xEE; frames], arena: vec![0xEE; arena] }
+        Told { kinds: vec![0; frames], lengths: vec![0; frames], arena: vec![0; arena] }
+    }
+    /// The messages of the frames that a batch took: which of them brought it to its end, and its bytes.
+    pub fn messages(&self, taken: Taken) -> impl Iterator<Item = (usize, &[u8])> {
+        let rows = self.kinds.iter().zip(&self.lengths).take(taken.frames).enumerate();
+        let complete = rows.filter(|(_, (kind, _))| **kind == raw::ROW_MESSAGE_COMPLETE);
+        complete.scan(0, |at, (row, (_, length))| {
+            let message = self.arena.get(*at..*at + *length as usize)?;
+            *at += message.len();
+            Some((row, message))
+        })
     }
 }

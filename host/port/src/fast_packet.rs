@@ -1,11 +1,16 @@
-//! The PGN list and the filling of a short frame.
-use crate::entries::*;
+//! What the builder and the assembler share: the limit, the PGN list, and a frame cut short.
+use crate::raw;
 
+/// A message's bytes, at most.
+pub const MAX_FAST_PACKET_PAYLOAD: usize = 223;
+
+/// Whether the PGN stands anywhere in the list.
 pub fn is_listed(pgns: &[u32], pgn: u32) -> bool {
-    unsafe { hf_is_listed(pgns.as_ptr(), pgns.len(), pgn) }
+    raw::is_listed(pgns, pgn)
 }
 
+/// The first min(len, 8) bytes, and 0xFF for the rest.
 pub fn fill_short(mut data: [u8; 8], len: usize) -> [u8; 8] {
-    unsafe { hf_fill_short(data.as_mut_ptr(), len) };
+    raw::hf_fill_short(&mut data, len);
     data
 }

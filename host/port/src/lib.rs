@@ -3,13 +3,10 @@
 mod entries;
 pub mod assembler;
 pub mod builder;
+pub mod can_frame;
 pub mod can_id;
+pub mod error;
 pub mod fast_packet;
 pub mod oracle;
-
-/// A refusal: document 01's number, and what it carries.
-#[derive(Clone, Copy, Debug, PartialEq, Eq)]
-pub struct Refusal<const N: usize> {
-    pub number: u32,
-    pub carried: [u64; N],
-}
+#[doc(hidden)]
+pub mod raw;

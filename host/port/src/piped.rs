@@ -4,8 +4,11 @@
 //! A call is: the entry's number, its numbers, its slices (with a flag where they come back). The answer is what the entry
 //! returned, and the slices that come back. Everything is little-endian.
 #![allow(clippy::missing_safety_doc, clippy::too_many_arguments)]
+use crate::fast_packet::MAX_FAST_PACKET_PAYLOAD;
+use crate::raw::{POOL_BYTES, POOL_HEADS};
 use std::io::{BufReader, BufWriter, Read, Write};
 use std::process::{Child, ChildStdin, ChildStdout, Command, Stdio};
+use std::sync::atomic::{AtomicU64, Ordering};
 use std::sync::Mutex;
 
 struct Driver {
@@ -29,6 +32,7 @@ enum Slice {
     Back(*mut u8, usize),
 }
 
+/// A slice of n elements, which the caller answers for.
 unsafe fn i<T>(p: *const T, n: usize) -> Slice {
     Slice::In(p.cast(), n * std::mem::size_of::<T>())
 }
@@ -37,7 +41,23 @@ unsafe fn o<T>(p: *mut T, n: usize) -> Slice {
     Slice::Back(p.cast(), n * std::mem::size_of::<T>())
 }
 
-unsafe fn call(entry: u64, numbers: &[u64], slices: &[Slice]) -> u64 {
+fn lent<T>(x: &T) -> Slice {
+    Slice::In((x as *const T).cast(), std::mem::size_of::<T>())
+}
+
+fn back<T>(x: &mut T) -> Slice {
+    Slice::Back((x as *mut T).cast(), std::mem::size_of::<T>())
+}
+
+/// How often each entry was called.
+static CALLS: [AtomicU64; 28] = [const { AtomicU64::new(0) }; 28];
+
+pub fn calls() -> [u64; 28] {
+    std::array::from_fn(|entry| CALLS[entry].load(Ordering::Relaxed))
+}
+
+fn call(entry: u64, numbers: &[u64], slices: &[Slice]) -> u64 {
+    CALLS[entry as usize].fetch_add(1, Ordering::Relaxed);
     let mut guard = DRIVER.lock().unwrap();
     let d = guard.get_or_insert_with(start);
     let mut word = |x: u64| d.to.write_all(&x.to_le_bytes()).unwrap();
@@ -52,7 +72,7 @@ unsafe fn call(entry: u64, numbers: &[u64], slices: &[Slice]) -> u64 {
         };
         d.to.write_all(&(n as u64).to_le_bytes()).unwrap();
         d.to.write_all(&u64::to_le_bytes(back)).unwrap();
-        d.to.write_all(std::slice::from_raw_parts(if n == 0 { std::ptr::dangling() } else { p }, n)).unwrap();
+        d.to.write_all(unsafe { std::slice::from_raw_parts(if n == 0 { std::ptr::dangling() } else { p }, n) }).unwrap();
     }
     d.to.flush().unwrap();
     let mut r = [0; 8];
@@ -60,114 +80,120 @@ unsafe fn call(entry: u64, numbers: &[u64], slices: &[Slice]) -> u64 {
     for s in slices {
         if let Slice::Back(p, n) = *s {
             if n > 0 {
-                d.from.read_exact(std::slice::from_raw_parts_mut(p, n)).expect("the driver answers");
+                d.from.read_exact(unsafe { std::slice::from_raw_parts_mut(p, n) }).expect("the driver answers");
             }
         }
     }
     u64::from_le_bytes(r)
 }
 
-pub unsafe fn hf_can_id_priority(id: u32) -> u8 {
+pub fn hf_can_id_priority(id: u32) -> u8 {
     call(0, &[id as u64], &[]) as u8
 }
-pub unsafe fn hf_can_id_pgn(id: u32) -> u32 {
+pub fn hf_can_id_pgn(id: u32) -> u32 {
     call(1, &[id as u64], &[]) as u32
 }
-pub unsafe fn hf_can_id_destination(id: u32) -> u16 {
+pub fn hf_can_id_destination(id: u32) -> u16 {
     call(2, &[id as u64], &[]) as u16
 }
-pub unsafe fn hf_can_id_source_address(id: u32) -> u8 {
+pub fn hf_can_id_source_address(id: u32) -> u8 {
     call(3, &[id as u64], &[]) as u8
 }
-pub unsafe fn hf_can_id_parts(id: u32, parts: *mut u32) {
-    call(27, &[id as u64], &[o(parts, 4)]);
+pub fn hf_can_id_parts(id: u32, parts: &mut [u32; 4]) {
+    call(27, &[id as u64], &[back(parts)]);
 }
-pub unsafe fn hf_can_id_build(priority: u8, pgn: u32, source: u8, destination: u16, value: *mut u32) -> u32 {
-    call(4, &[priority as u64, pgn as u64, source as u64, destination as u64], &[o(value, 1)]) as u32
+pub fn hf_can_id_build(priority: u8, pgn: u32, source_address: u8, destination: u16, value: &mut u32) -> u32 {
+    call(4, &[priority as u64, pgn as u64, source_address as u64, destination as u64], &[back(value)]) as u32
 }
-pub unsafe fn hf_can_id_build_with(pgn: u32, source: u8, priority: u16, destination: u16, value: *mut u32) -> u32 {
-    call(5, &[pgn as u64, source as u64, priority as u64, destination as u64], &[o(value, 1)]) as u32
+pub fn hf_can_id_build_with(pgn: u32, source_address: u8, priority: u16, destination: u16, value: &mut u32) -> u32 {
+    call(5, &[pgn as u64, source_address as u64, priority as u64, destination as u64], &[back(value)]) as u32
 }
-pub unsafe fn hf_can_id_build_to(pgn: u32, source: u8, priority: u8, destination: u8, value: *mut u32) -> u32 {
-    call(6, &[pgn as u64, source as u64, priority as u64, destination as u64], &[o(value, 1)]) as u32
+pub fn hf_can_id_build_to(pgn: u32, source_address: u8, priority: u8, destination: u8, value: &mut u32) -> u32 {
+    call(6, &[pgn as u64, source_address as u64, priority as u64, destination as u64], &[back(value)]) as u32
 }
-pub unsafe fn hf_is_listed(pgns: *const u32, n: usize, pgn: u32) -> bool {
-    call(7, &[pgn as u64], &[i(pgns, n)]) != 0
+pub unsafe fn hf_is_listed(pgns: *const u32, pgns_len: usize, pgn: u32) -> bool {
+    call(7, &[pgn as u64], &[i(pgns, pgns_len)]) != 0
 }
-pub unsafe fn hf_fill_short(data: *mut u8, len: usize) {
-    call(8, &[len as u64], &[o(data, 8)]);
+pub fn hf_fill_short(data: &mut [u8; 8], len: usize) {
+    call(8, &[len as u64], &[back(data)]);
 }
-pub unsafe fn hf_builder_new(pgn: u32, source: u8, destination: u16, payload: *const u8, payload_n: usize, pgns: *const u32, pgns_n: usize, sequence: u8, builder: *mut u64) -> u8 {
-    call(9, &[pgn as u64, source as u64, destination as u64, sequence as u64], &[i(payload, payload_n), i(pgns, pgns_n), o(builder, 6)]) as u8
+pub unsafe fn hf_raw_builder_new(
+    pgn: u32, source_address: u8, destination: u16, payload: *const u8, payload_len: usize, pgns: *const u32, pgns_len: usize, sequence_id: u8, builder: &mut [u64; 6],
+) -> u8 {
+    call(9, &[pgn as u64, source_address as u64, destination as u64, sequence_id as u64], &[i(payload, payload_len), i(pgns, pgns_len), back(builder)]) as u8
 }
-pub unsafe fn hf_builder_with_sequence_id(builder: *mut u64, x: u8) {
-    call(10, &[x as u64], &[o(builder, 6)]);
+pub fn hf_raw_builder_with_sequence_id(builder: &mut [u64; 6], sequence_id: u8) {
+    call(10, &[sequence_id as u64], &[back(builder)]);
 }
-pub unsafe fn hf_builder_with_priority(builder: *mut u64, x: u8) {
-    call(11, &[x as u64], &[o(builder, 6)]);
+pub fn hf_raw_builder_with_priority(builder: &mut [u64; 6], priority: u8) {
+    call(11, &[priority as u64], &[back(builder)]);
 }
-pub unsafe fn hf_builder_to_destination(builder: *mut u64, x: u8) {
-    call(12, &[x as u64], &[o(builder, 6)]);
+pub fn hf_raw_builder_to_destination(builder: &mut [u64; 6], destination: u8) {
+    call(12, &[destination as u64], &[back(builder)]);
 }
-pub unsafe fn hf_builder_build(builder: *const u64, place: *mut u64) {
-    call(13, &[], &[i(builder, 6), o(place, 2)]);
+pub fn hf_raw_builder_build(builder: &[u64; 6], place: &mut [u64; 2]) {
+    call(13, &[], &[lent(builder), back(place)]);
 }
-pub unsafe fn hf_next_frame(builder: *const u64, index: u8, sent: usize, payload: *const u8, n: usize, data: *mut u8, frame: *mut u64, after: *mut u64) -> u32 {
-    call(14, &[index as u64, sent as u64], &[i(builder, 6), i(payload, n), o(data, 8), o(frame, 3), o(after, 2)]) as u32
-}
-pub unsafe fn hf_frame_iterator_next(builder: *const u64, place: *mut u64, payload: *const u8, n: usize, data: *mut u8, frame: *mut u64) -> u32 {
-    call(15, &[], &[i(builder, 6), o(place, 2), i(payload, n), o(data, 8), o(frame, 3)]) as u32
-}
-pub unsafe fn hf_handles(pgns: *const u32, n: usize, pgn: u32) -> bool {
-    call(16, &[pgn as u64], &[i(pgns, n)]) != 0
-}
-pub unsafe fn hf_pool_new(wanted: usize, heads: *mut u64, bytes: *mut u8, size: *mut usize) -> u32 {
-    call(17, &[wanted as u64], &[o(heads, 64), o(bytes, 1784), o(size, 1)]) as u32
-}
-pub unsafe fn hf_pool_default(heads: *mut u64, bytes: *mut u8, size: *mut usize) -> u32 {
-    call(18, &[], &[o(heads, 64), o(bytes, 1784), o(size, 1)]) as u32
-}
-pub unsafe fn hf_process_frame(
-    size: usize, heads: *mut u64, bytes: *mut u8, counters: *mut u32, pgns: *const u32, n: usize, now: u64, pgn: u32, source: u8, data: *const u8, payload: *mut u8, length: *mut usize,
+pub unsafe fn hf_raw_next_frame(
+    builder: &[u64; 6], frame_index: u8, bytes_sent: usize, payload: *const u8, payload_len: usize, data: &mut [u8; 8], frame: &mut [u64; 3], after: &mut [u64; 2],
 ) -> u32 {
-    call(19, &[size as u64, now, pgn as u64, source as u64], &[o(heads, 64), o(bytes, 1784), o(counters, 5), i(pgns, n), i(data, 8), o(payload, 223), o(length, 1)]) as u32
+    call(14, &[frame_index as u64, bytes_sent as u64], &[lent(builder), i(payload, payload_len), back(data), back(frame), back(after)]) as u32
 }
-pub unsafe fn hf_process_frame_with_length(
-    size: usize, heads: *mut u64, bytes: *mut u8, counters: *mut u32, pgns: *const u32, n: usize, now: u64, pgn: u32, source: u8, data: *const u8, frame_length: usize, payload: *mut u8,
-    length: *mut usize,
-) -> u32 {
-    call(20, &[size as u64, now, pgn as u64, source as u64, frame_length as u64], &[o(heads, 64), o(bytes, 1784), o(counters, 5), i(pgns, n), i(data, 8), o(payload, 223), o(length, 1)]) as u32
+pub unsafe fn hf_raw_frame_iterator_next(builder: &[u64; 6], place: &mut [u64; 2], payload: *const u8, payload_len: usize, data: &mut [u8; 8], frame: &mut [u64; 3]) -> u32 {
+    call(15, &[], &[lent(builder), back(place), i(payload, payload_len), back(data), back(frame)]) as u32
 }
-pub unsafe fn hf_process_frames(
-    size: usize, heads: *mut u64, bytes: *mut u8, counters: *mut u32, pgns: *const u32, pgns_n: usize, times: *const u64, times_n: usize, frame_pgns: *const u32, frame_pgns_n: usize,
-    sources: *const u8, sources_n: usize, data: *const u8, data_n: usize, kinds: *mut u8, kinds_n: usize, lengths: *mut u8, lengths_n: usize, arena: *mut u8, arena_n: usize, counts: *mut u64,
+pub unsafe fn hf_handles(pgns: *const u32, pgns_len: usize, pgn: u32) -> bool {
+    call(16, &[pgn as u64], &[i(pgns, pgns_len)]) != 0
+}
+pub fn hf_raw_pool_new(wanted: usize, heads: &mut [u64; POOL_HEADS], bytes: &mut [u8; POOL_BYTES], size: &mut usize) -> u32 {
+    call(17, &[wanted as u64], &[back(heads), back(bytes), back(size)]) as u32
+}
+pub fn hf_raw_pool_default(heads: &mut [u64; POOL_HEADS], bytes: &mut [u8; POOL_BYTES], size: &mut usize) -> u32 {
+    call(18, &[], &[back(heads), back(bytes), back(size)]) as u32
+}
+pub unsafe fn hf_raw_process_frame(
+    size: usize, heads: &mut [u64; POOL_HEADS], bytes: &mut [u8; POOL_BYTES], counters: &mut [u32; 5], pgns: *const u32, pgns_len: usize, now_ms: u64, pgn: u32,
+    source_address: u8, data: &[u8; 8], payload: &mut [u8; MAX_FAST_PACKET_PAYLOAD], length: &mut usize,
 ) -> u32 {
-    call(21, &[size as u64], &[
-        o(heads, 64), o(bytes, 1784), o(counters, 5), i(pgns, pgns_n), i(times, times_n), i(frame_pgns, frame_pgns_n), i(sources, sources_n), i(data, data_n), o(kinds, kinds_n),
-        o(lengths, lengths_n), o(arena, arena_n), o(counts, 2),
-    ]) as u32
+    call(19, &[size as u64, now_ms, pgn as u64, source_address as u64], &[back(heads), back(bytes), back(counters), i(pgns, pgns_len), lent(data), back(payload), back(length)]) as u32
+}
+pub unsafe fn hf_raw_receive(
+    size: usize, heads: &mut [u64; POOL_HEADS], bytes: &mut [u8; POOL_BYTES], counters: &mut [u32; 5], pgns: *const u32, pgns_len: usize, now_ms: u64, pgn: u32,
+    source_address: u8, data: &[u8; 8], payload: &mut [u8; MAX_FAST_PACKET_PAYLOAD], length: &mut usize,
+) -> u32 {
+    call(25, &[size as u64, now_ms, pgn as u64, source_address as u64], &[back(heads), back(bytes), back(counters), i(pgns, pgns_len), lent(data), back(payload), back(length)]) as u32
+}
+pub unsafe fn hf_raw_process_frame_with_length(
+    size: usize, heads: &mut [u64; POOL_HEADS], bytes: &mut [u8; POOL_BYTES], counters: &mut [u32; 5], pgns: *const u32, pgns_len: usize, now_ms: u64, pgn: u32,
+    source_address: u8, data: &[u8; 8], frame_length: usize, payload: &mut [u8; MAX_FAST_PACKET_PAYLOAD], length: &mut usize,
+) -> u32 {
+    call(20, &[size as u64, now_ms, pgn as u64, source_address as u64, frame_length as u64], &[back(heads), back(bytes), back(counters), i(pgns, pgns_len), lent(data), back(payload), back(length)]) as u32
+}
+pub unsafe fn hf_raw_process_frames(
+    size: usize, heads: &mut [u64; POOL_HEADS], bytes: &mut [u8; POOL_BYTES], counters: &mut [u32; 5], pgns: *const u32, pgns_len: usize, times: *const u64, times_len: usize,
+    frame_pgns: *const u32, frame_pgns_len: usize, sources: *const u8, sources_len: usize, data: *const u8, data_len: usize, kinds: *mut u8, kinds_len: usize,
+    lengths: *mut u8, lengths_len: usize, arena: *mut u8, arena_len: usize, counts: &mut [u64; 2],
+) -> u32 {
+    call(21, &[size as u64], &[back(heads), back(bytes), back(counters), i(pgns, pgns_len), i(times, times_len), i(frame_pgns, frame_pgns_len), i(sources, sources_len), i(data, data_len), o(kinds, kinds_len), o(lengths, lengths_len), o(arena, arena_len), back(counts)]) as u32
 }
 pub unsafe fn hf_reassemble(
-    ids: *const u32, ids_n: usize, bytes: *const u8, bytes_n: usize, lens: *const usize, lens_n: usize, source: u8, pgn: u32, list: *mut usize, list_n: usize, arena: *mut u8, arena_n: usize,
-    values: *mut u64,
+    ids: *const u32, ids_len: usize, bytes: *const u8, bytes_len: usize, lens: *const usize, lens_len: usize, source: u8, pgn: u32, list: *mut usize, list_len: usize,
+    arena: *mut u8, arena_len: usize, values: &mut [u64; 5],
 ) -> u32 {
-    call(22, &[source as u64, pgn as u64], &[i(ids, ids_n), i(bytes, bytes_n), i(lens, lens_n), o(list, list_n), o(arena, arena_n), o(values, 5)]) as u32
+    call(22, &[source as u64, pgn as u64], &[i(ids, ids_len), i(bytes, bytes_len), i(lens, lens_len), o(list, list_len), o(arena, arena_len), back(values)]) as u32
+}
+pub fn hf_frame_count(ids: usize, bytes: usize, lens: usize) -> usize {
+    call(26, &[ids as u64, bytes as u64, lens as u64], &[]) as usize
 }
 pub unsafe fn hf_fast_packet_frames(
-    id: u32, sequence: u8, payload: *const u8, n: usize, ids: *mut u32, ids_n: usize, bytes: *mut u8, bytes_n: usize, lens: *mut usize, lens_n: usize, frames: *mut usize,
+    id: u32, sequence: u8, payload: *const u8, payload_len: usize, ids: *mut u32, ids_len: usize, bytes: *mut u8, bytes_len: usize, lens: *mut usize, lens_len: usize,
+    frames: &mut usize,
 ) -> u32 {
-    call(23, &[id as u64, sequence as u64], &[i(payload, n), o(ids, ids_n), o(bytes, bytes_n), o(lens, lens_n), o(frames, 1)]) as u32
+    call(23, &[id as u64, sequence as u64], &[i(payload, payload_len), o(ids, ids_len), o(bytes, bytes_len), o(lens, lens_len), back(frames)]) as u32
 }
 pub unsafe fn hf_check_tx(
-    ids: *const u32, ids_n: usize, bytes: *const u8, bytes_n: usize, lens: *const usize, lens_n: usize, source: u8, expected: usize, base: u32, values: *mut u64,
+    ids: *const u32, ids_len: usize, bytes: *const u8, bytes_len: usize, lens: *const usize, lens_len: usize, source: u8, expected: usize, hours_base: u32,
+    values: &mut [u64; 5],
 ) -> u32 {
-    call(24, &[source as u64, expected as u64, base as u64], &[i(ids, ids_n), i(bytes, bytes_n), i(lens, lens_n), o(values, 5)]) as u32
-}
-pub unsafe fn hf_receive(
-    size: usize, heads: *mut u64, bytes: *mut u8, counters: *mut u32, pgns: *const u32, n: usize, now: u64, pgn: u32, source: u8, data: *const u8, payload: *mut u8, length: *mut usize,
-) -> u32 {
-    call(25, &[size as u64, now, pgn as u64, source as u64], &[o(heads, 64), o(bytes, 1784), o(counters, 5), i(pgns, n), i(data, 8), o(payload, 223), o(length, 1)]) as u32
-}
-pub unsafe fn hf_frame_count(ids: usize, bytes: usize, lens: usize) -> usize {
-    call(26, &[ids as u64, bytes as u64, lens as u64], &[]) as usize
+    call(24, &[source as u64, expected as u64, hours_base as u64], &[i(ids, ids_len), i(bytes, bytes_len), i(lens, lens_len), back(values)]) as u32
 }

@@ -24,7 +24,7 @@ fn main() {
                         steps += receive::impossible_pools(k, SHARE / 20);
                         steps += frames::random(k, SHARE / 20);
                         steps += ids::random(k, SHARE / 20);
-                        steps += bench::random(k, SHARE / 20, &mut [0; 64]);
+                        steps += bench::random(k, SHARE / 20);
                         done.fetch_add(steps, Ordering::SeqCst);
                     }
                 })

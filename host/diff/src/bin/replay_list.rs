@@ -88,7 +88,7 @@ fn build(r: &mut Rng, calls: &mut String, answers: &mut String) {
     it.set_progress(index, sent);
     let (what, id, data, n) = match it.next() {
         None => ("End".to_string(), 0, [0; 8], 0),
-        Some(Err(e)) => (format!("Refused {}", ids::numbered(&e).number), 0, [0; 8], 0),
+        Some(Err(e)) => (format!("Refused {}", ids::numbered(&e).0), 0, [0; 8], 0),
         Some(Ok(f)) => ("Frame".to_string(), f.id.0, f.data, f.len),
     };
     writeln!(answers, "{what} {id} {} {n} {} {}", hex(&data), it.progress().0, it.progress().1).unwrap();

@@ -1,0 +1,34 @@
+//! What a run compared: its steps, and of each call how often it gave each kind of answer. host/test holds both to host/floors.
+use std::cell::RefCell;
+use std::collections::BTreeMap;
+
+thread_local! {
+    static SEEN: RefCell<BTreeMap<(&'static str, u32), u64>> = const { RefCell::new(BTreeMap::new()) };
+}
+
+/// One answer of a call was compared: a refusal's number, or a kind.
+pub fn answered(call: &'static str, answer: u32) {
+    SEEN.with_borrow_mut(|seen| *seen.entry((call, answer)).or_default() += 1);
+}
+
+/// A run on this thread: says how many steps it compared, and which answers it saw, on lines of their own (the test harness puts a sign for each test
+/// between them).
+pub fn run(name: &str, compared: impl FnOnce() -> u64) {
+    SEEN.take();
+    let steps = compared();
+    let seen: String = SEEN.take().iter().map(|((call, answer), n)| format!("\nseen {call} {} {n}", answer_name(call, *answer))).collect();
+    println!("\n{name}: {steps} steps alike{seen}");
+}
+
+/// A kind by its name; a refusal by its number.
+fn answer_name(call: &str, answer: u32) -> String {
+    use port::raw::{END, FRAGMENT_CONSUMED, IGNORED, MESSAGE_COMPLETE};
+    match answer {
+        0 => "given".into(),
+        END if call == "frame" => "End".into(),
+        IGNORED => "Ignored".into(),
+        FRAGMENT_CONSUMED => "FragmentConsumed".into(),
+        MESSAGE_COMPLETE => "MessageComplete".into(),
+        number => number.to_string(),
+    }
+}

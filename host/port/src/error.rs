@@ -1,0 +1,78 @@
+//! Refusals: the original's errors, and document 01's numbers where the original has none.
+use std::fmt;
+
+/// Why an identifier or a frame was not built.
+#[derive(Clone, Copy, Debug, PartialEq, Eq)]
+pub enum CanIdBuildError {
+    /// A PGN over 18 bits, a priority over 7, or a payload over 223 bytes.
+    InvalidData,
+    /// Of the original's list; no call gives it.
+    InvalidDestination,
+    /// No destination, and PF below 240.
+    InvalidForBroadcast,
+    /// A destination, and PF 240 or more; `pgn` is the PF, as in the original.
+    InvalidForFocusedMessage { pgn: u8 },
+    /// A destination, and a PGN whose low byte is not 0.
+    PsFocusMessageMustBeNull,
+    /// A payload of no bytes.
+    EmptyPayload,
+}
+
+impl CanIdBuildError {
+    /// Document 01's number.
+    pub fn number(self) -> u32 {
+        match self {
+            Self::InvalidData => 2,
+            Self::InvalidDestination => 3,
+            Self::InvalidForBroadcast => 4,
+            Self::InvalidForFocusedMessage { .. } => 5,
+            Self::PsFocusMessageMustBeNull => 6,
+            Self::EmptyPayload => 7,
+        }
+    }
+    /// The other way round; 2 to 7 is all that the entries give.
+    pub(crate) fn from_number(number: u32, carried: u64) -> Self {
+        match number {
+            3 => Self::InvalidDestination,
+            4 => Self::InvalidForBroadcast,
+            5 => Self::InvalidForFocusedMessage { pgn: carried as u8 },
+            6 => Self::PsFocusMessageMustBeNull,
+            7 => Self::EmptyPayload,
+            _ => Self::InvalidData,
+        }
+    }
+}
+
+impl fmt::Display for CanIdBuildError {
+    fn fmt(&self, f: &mut fmt::Formatter) -> fmt::Result {
+        match self {
+            Self::InvalidData => f.write_str("PGN, priority or payload is too large"),
+            Self::InvalidDestination => f.write_str("the destination is not allowed"),
+            Self::InvalidForBroadcast => f.write_str("this PGN wants a destination: its PF is below 240"),
+            Self::InvalidForFocusedMessage { pgn } => write!(f, "this PGN takes no destination: its PF is {pgn}"),
+            Self::PsFocusMessageMustBeNull => f.write_str("a PGN with a destination ends in a byte of 0"),
+            Self::EmptyPayload => f.write_str("the payload is empty"),
+        }
+    }
+}
+
+impl std::error::Error for CanIdBuildError {}
+
+/// A refusal: document 01's number, and what it carries (docs/REFUSALS.md), then zeros.
+#[derive(Clone, Copy, Debug, PartialEq, Eq)]
+pub struct Refusal<const N: usize> {
+    pub number: u32,
+    pub carried: [u64; N],
+}
+
+impl<const N: usize> fmt::Display for Refusal<N> {
+    fn fmt(&self, f: &mut fmt::Formatter) -> fmt::Result {
+        write!(f, "refusal {}", self.number)?;
+        if N > 0 {
+            write!(f, ", {:?}", self.carried)?;
+        }
+        Ok(())
+    }
+}
+
+impl<const N: usize> std::error::Error for Refusal<N> {}
