@@ -25,8 +25,10 @@ use Rattle.batch.specs.Rows.{Rows, runOf, leaves, refusedBy, batchOf, Batches}
 use Rattle.ledger.specs.Ledger.{Message, Entry, Ledger, tellOne, tell, tells, written, blank, ledgerOf, briefly, delivery, saying, sayingDue, Saying}
 use Rattle.ledger.specs.Ledger as book
 use Rattle.ledger.specs.Demand3.{Seen, Agreed, Closes}
+use Rattle.ledger.specs.Rows.{RowsDue}
 use Rattle.ledger.specs.Runs.{Empty, State, start, sourcesOf, seenIn, afterCall, afterBatch, callsOf, Called, batched, Ran, stop, on}
 use Rattle.ledger.specs.Assemblers.{Receive, receives}
+use Rattle.ledger.proofs.Rows.{batch-rows}
 use Rattle.ledger.proofs.Demand3.{demand-3, ran-taken, pool-possible}
 use mathlib.Core.Option.{Option, none, some}
 
@@ -129,12 +131,15 @@ batch-not-impossible p e {cs} {y} run l {list} {times} {pgns} {sources} {bytes} 
     let refused : r .refused ≡ batchOf base list w (y .pool) (y .counters) kinds lengths arena .answer .refused = ap (λ (b : Batch). b .refused) (h .answer) in
     omega (arith, one, refused, by-length list w (y .pool) (y .counters) kinds lengths arena (pool-possible p e run l))
 
--- a batch after any run: it leaves the pool and counters that its frames call for; and what its rows of kinds and lengths and its arena say, with what was said
--- before, is what the ledger with those frames calls for
+-- a batch after any run: what is seen then closes with the ledger of its frames too, and its rows of kinds and lengths and its arena hold what the ledger's
+-- newest entries call for
 pub demand-3-batch : (p : Pool) → Empty p → {cs : List Call} {y : State} → Ran (start p) cs y
     → {list times pgns sources bytes kinds lengths arena : List ℕ} {r : Batch} {kinds′ lengths′ arena′ : List ℕ} → ((i : ℕ) → getD bytes i 0 < 256)
     → Batches list times pgns sources bytes (y .pool) (y .counters) kinds lengths arena r kinds′ lengths′ arena′
-    → length (cs ++ callsOf list (record { times = times; pgns = pgns; sources = sources; bytes = bytes }) (r .taken) 0) ≤ 4294967295
-    → Closes base (seenIn (afterBatch y r kinds′ lengths′ arena′)) (ledgerOf base (sourcesOf p) (cs ++ callsOf list (record { times = times; pgns = pgns; sources = sources; bytes = bytes }) (r .taken) 0))
-demand-3-batch p e {y = y} run small h l =
-    demand-3 p e (ran-append run (ran-one (batched small h))) l
+    → (ds : List Call) → ds ≡ cs ++ callsOf list (record { times = times; pgns = pgns; sources = sources; bytes = bytes }) (r .taken) 0 → length ds ≤ 4294967295
+    → Closes base (seenIn (afterBatch y r kinds′ lengths′ arena′)) (ledgerOf base (sourcesOf p) ds) × RowsDue (r .taken) (map sayingDue (ledgerOf base (sourcesOf p) ds .entries)) kinds lengths arena kinds′ lengths′ arena′
+unfolding seenIn
+demand-3-batch p e {y = y} run {r = r} {kinds′ = kinds′} {lengths′ = lengths′} {arena′ = arena′} small h ds is l =
+    let whole : Ran (start p) ds (afterBatch y r kinds′ lengths′ arena′) = rw is (ran-append run (ran-one (batched small h))) in
+    let c = demand-3 p e whole l in
+    (c, rw (← c .agreed .answers) (batch-rows y small h))

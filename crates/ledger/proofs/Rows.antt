@@ -29,6 +29,7 @@ use Rattle.batch.specs.Rows.{Rows, frameInRows, took, answerIn, runOf, over, le
 use Rattle.batch.specs.Calls.{callEach, joined}
 use Rattle.batch.proofs.Continues.{as-far}
 use Rattle.batch.proofs.Promised.{batched-by}
+use Rattle.ledger.specs.Rows.{rowOf, itsKind, itsLength, itsMessage, RowsDue}
 use Rattle.ledger.specs.Runs.{State, sayingOf, afterCall, call, callsOf, kindOfNumber, saidInRows, afterBatch}
 use Rattle.ledger.specs.Assemblers.{AllOk, none, more, receives}
 
@@ -130,6 +131,32 @@ module _ (R : Rules) (l : List ℕ) (w : Rows) where
       let h = told R l (frameInRows w i) (z .pool) (z .counters) (x .messages ++ arena) in
       rw (first-joined n i (z .pool) (z .counters)) (rw (append-assoc (take (a .length) (a .payload)) (x .messages) arena, h .same, h .rest) (rows-say n (suc i) (afterCall z a) kinds lengths arena))
 
+  -- ---- the rows are those of what was said, call by call
+
+  record RowsOf (m : ℕ) (x : rows.Run) (z : State) : Type 0 where
+    pool : x .pool ≡ z .pool
+    counters : x .counters ≡ z .counters
+    kinds : x .kinds ≡ rowOf itsKind m (z .said)
+    lengths : x .lengths ≡ rowOf itsLength m (z .said)
+    messages : x .messages ≡ rowOf itsMessage m (z .said)
+
+  rows-one : (m : ℕ) (x : rows.Run) (z : State) (f : Heard) → RowsOf m x z → RowsOf (suc m) (took x (answerIn R l x f)) (afterCall z (receiveOf R l f (z .pool) (z .counters)))
+  unfolding took answerIn afterCall sayingOf rowOf itsKind itsLength itsMessage
+  rows-one m x z f h = rw (h .pool, h .counters, h .kinds, h .lengths, h .messages) (record { pool = refl; counters = refl; kinds = refl; lengths = refl; messages = refl })
+
+  rows-all : (m n i : ℕ) (x : rows.Run) (z : State) → RowsOf m x z → RowsOf (m + n) (callEach R l w n i x) (receives (receiveOf R) z (callsOf l w n i))
+  unfolding callEach receives callsOf
+  rows-all m zero i x z h =
+      let k : m + 0 ≡ m = omega arith in
+      rw k h
+  rows-all m (suc n) i x z h =
+      let k : m + suc n ≡ suc m + n = omega arith in
+      rw k (rows-all (suc m) n (suc i) (took x (answerIn R l x (frameInRows w i))) (afterCall z (receiveOf R l (frameInRows w i) (z .pool) (z .counters))) (rows-one m x z (frameInRows w i) h))
+
+  rows-none : (z : State) → RowsOf 0 (rows.emptyRun (z .pool) (z .counters)) z
+  unfolding rows.emptyRun rowOf
+  rows-none z = record { pool = refl; counters = refl; kinds = refl; lengths = refl; messages = refl }
+
 -- ---- the frames that a batch takes
 
 -- each has eight bytes, where the row of bytes is long enough
@@ -160,16 +187,20 @@ pub record Taken (z y : State) (cs : List Call) : Type 0 where
   pub is : y ≡ receives (receiveOf base) z cs
   pub oks : AllOk cs
 
+-- ... and what the rows of a batch then hold
+abbrev RowsAfter : State → BatchLeft → List ℕ → List ℕ → List ℕ → Type 0
+RowsAfter y b kinds lengths arena = RowsDue (b .answer .taken) (y .said) kinds lengths arena (b .kinds) (b .lengths) (b .arena)
+
 module _ (l : List ℕ) (w : Rows) (z : State) (kinds lengths arena : List ℕ) (small : (i : ℕ) → getD (w .bytes) i 0 < 256) where
   after : BatchLeft → State
   after b = afterBatch z (b .answer) (b .kinds) (b .lengths) (b .arena)
 
   abbrev Good : BatchLeft → Type 0
-  Good b = Taken z (after b) (callsOf l w (b .answer .taken) 0)
+  Good b = Taken z (after b) (callsOf l w (b .answer .taken) 0) × RowsAfter (receives (receiveOf base) z (callsOf l w (b .answer .taken) 0)) b kinds lengths arena
 
   good-refused : (n : ℕ) → Good (refusedBy n (z .pool) (z .counters) kinds lengths arena)
-  unfolding after refusedBy afterBatch callsOf receives saidInRows
-  good-refused n = record { is = refl; oks = none }
+  unfolding after refusedBy afterBatch callsOf receives saidInRows rowOf over
+  good-refused n = (record { is = refl; oks = none }, record { told = refl; measured = refl; delivered = refl })
 
   good-run : tooShort (length (w .times)) (length (w .pgns)) (length (w .sources)) (length (w .bytes)) (length kinds) (length lengths) ≡ false
       → Good (leaves (runOf base l w (length arena) (z .pool) (z .counters)) kinds lengths arena)
@@ -180,10 +211,18 @@ module _ (l : List ℕ) (w : Rows) (z : State) (kinds lengths arena : List ℕ) 
       let far = as-far base l w (length arena) (z .pool) (z .counters) in
       let same = rows-say base l w t 0 z (drop t kinds) (drop (length (y .lengths)) lengths) (drop (length (y .messages)) arena) in
       let long = long-enough (length (w .times)) (length (w .pgns)) (length (w .sources)) (length (w .bytes)) (length kinds) (length lengths) e in
-      record {
-        is = subst (λ (x : rows.Run). record { pool = x .pool; counters = x .counters; said = saidInRows t (x .kinds ++ drop t kinds) (x .lengths ++ drop (length (y .lengths)) lengths) (x .messages ++ drop (length (y .messages)) arena) (z .said) } ≡ receives (receiveOf base) z (callsOf l w t 0)) (sym (far .same)) same;
-        oks = rows-ok l w small t 0 (omega (arith, long, far .few));
-      }
+      let held = rows-all base l w 0 t 0 (rows.emptyRun (z .pool) (z .counters)) z (rows-none base l w z) in
+      let zero-add : 0 + t ≡ t = omega arith in (
+        record {
+          is = subst (λ (x : rows.Run). record { pool = x .pool; counters = x .counters; said = saidInRows t (x .kinds ++ drop t kinds) (x .lengths ++ drop (length (y .lengths)) lengths) (x .messages ++ drop (length (y .messages)) arena) (z .said) } ≡ receives (receiveOf base) z (callsOf l w t 0)) (sym (far .same)) same;
+          oks = rows-ok l w small t 0 (omega (arith, long, far .few));
+        },
+        record {
+          told = ap (λ (new : List ℕ). new ++ drop (length new) kinds) (ap (λ (x : rows.Run). x .kinds) (far .same) ∙ rw zero-add at held .kinds);
+          measured = ap (λ (new : List ℕ). new ++ drop (length new) lengths) (ap (λ (x : rows.Run). x .lengths) (far .same) ∙ rw zero-add at held .lengths);
+          delivered = ap (λ (new : List ℕ). new ++ drop (length new) arena) (ap (λ (x : rows.Run). x .messages) (far .same) ∙ rw zero-add at held .messages);
+        },
+      )
 
   good-batch : Good (batchOf base l w (z .pool) (z .counters) kinds lengths arena)
   unfolding batchOf pick
@@ -196,12 +235,17 @@ module _ (l : List ℕ) (w : Rows) (z : State) (kinds lengths arena : List ℕ) 
       go false false e = good-run e
 
 -- a batch that keeps its promise
-pub batch-taken : {l times pgns sources bytes : List ℕ} (z : State) {kinds lengths arena : List ℕ} {r : Batch} {kinds′ lengths′ arena′ : List ℕ} → ((i : ℕ) → getD bytes i 0 < 256)
-    → Batches l times pgns sources bytes (z .pool) (z .counters) kinds lengths arena r kinds′ lengths′ arena′
-    → Taken z (afterBatch z r kinds′ lengths′ arena′) (callsOf l (record { times = times; pgns = pgns; sources = sources; bytes = bytes }) (r .taken) 0)
-unfolding rulesOf
-batch-taken {l} {times} {pgns} {sources} {bytes} z {kinds} {lengths} {arena} {r} {kinds′} {lengths′} {arena′} small h =
-    let w : Rows = record { times = times; pgns = pgns; sources = sources; bytes = bytes } in
-    let e : record { answer = r; kinds = kinds′; lengths = lengths′; arena = arena′ } ≡ batchOf base l w (z .pool) (z .counters) kinds lengths arena = batched-by h in
-    subst (λ (b : BatchLeft). Taken z (afterBatch z (b .answer) (b .kinds) (b .lengths) (b .arena)) (callsOf l w (b .answer .taken) 0)) (sym e)
-    (unfold after in good-batch l w z kinds lengths arena small)
+module _ {l times pgns sources bytes : List ℕ} (z : State) {kinds lengths arena : List ℕ} {r : Batch} {kinds′ lengths′ arena′ : List ℕ} (small : (i : ℕ) → getD bytes i 0 < 256)
+    (h : Batches l times pgns sources bytes (z .pool) (z .counters) kinds lengths arena r kinds′ lengths′ arena′) where
+  abbrev heardRows : Rows
+  heardRows = record { times = times; pgns = pgns; sources = sources; bytes = bytes }
+
+  kept : Good l heardRows z kinds lengths arena small (record { answer = r; kinds = kinds′; lengths = lengths′; arena = arena′ })
+  unfolding rulesOf
+  kept = subst (Good l heardRows z kinds lengths arena small) (sym (batched-by h)) (good-batch l heardRows z kinds lengths arena small)
+
+  pub batch-taken : Taken z (afterBatch z r kinds′ lengths′ arena′) (callsOf l heardRows (r .taken) 0)
+  batch-taken = unfold after in kept .0
+
+  pub batch-rows : RowsDue (r .taken) (afterBatch z r kinds′ lengths′ arena′ .said) kinds lengths arena kinds′ lengths′ arena′
+  batch-rows = rw (batch-taken .is) (kept .1)

@@ -1,4 +1,5 @@
 pub mod Ledger
 pub mod Demand3
 pub mod Runs
+pub mod Rows
 pub mod Assemblers
