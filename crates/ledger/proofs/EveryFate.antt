@@ -18,7 +18,7 @@ use Rattle.assembler.specs.View.{slotsFrom, slotsOf, headOf, flat, poolOf, zero
 use Rattle.ledger.specs.Ledger.{Ledger, ledgerOf, tells, tell, written, numbered, blank, tellOne, nothingMoved, opensIn, continuesIn, given, heldIn, openingAt, newMessage, left, full, itsTurn, grown, takenBy, keyHeld, late, free, sourceAt, freeOfSource, liveHeld, latestOf, ownBytes, framesBytes, announced, briefly, delivery, saying, sayingDue}
 use Rattle.ledger.specs.Ledger.{deedNumber, isOneOf, opens, begins, copies, ends, asNumber, howMany, did, openings, isSome, held, Delivered, Broken, Restarting, Reclaiming, NoSlot, Stray, BadSize, Unlisted, AtOnce}
 use Rattle.ledger.specs.Demand3.{Seen, inProgress}
-use Rattle.ledger.specs.Runs.{start, sourceOf, sourcesOf, sayingOf, seenIn}
+use Rattle.ledger.specs.Runs.{start, keptSource, sourcesOf, sayingOf, seenIn}
 use Rattle.ledger.specs.Assemblers.{receives, seenAfter}
 use Rattle.ledger.specs.Runs as run
 
@@ -29,7 +29,7 @@ ran n cs = seenAfter (receiveOf base) (freshPool n) cs
 
 -- to unfold `told` is to unfold all that tells a ledger
 unfoldable pub told : ℕ → List Call → Ledger
-unfolding ran sourceOf sourcesOf ledgerOf tells tell written numbered blank tellOne nothingMoved opensIn continuesIn given heldIn openingAt newMessage left full itsTurn grown takenBy keyHeld late free sourceAt freeOfSource liveHeld latestOf ownBytes framesBytes announced briefly delivery saying sayingDue deedNumber isOneOf opens begins copies ends did openings isSome held
+unfolding ran keptSource sourcesOf ledgerOf tells tell written numbered blank tellOne nothingMoved opensIn continuesIn given heldIn openingAt newMessage left full itsTurn grown takenBy keyHeld late free sourceAt freeOfSource liveHeld latestOf ownBytes framesBytes announced briefly delivery saying sayingDue deedNumber isOneOf opens begins copies ends did openings isSome held
 told n cs = ledgerOf base (sourcesOf (freshPool n)) cs
 
 -- ---- frames of PGN 127489, sequence 0

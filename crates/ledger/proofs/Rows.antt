@@ -29,7 +29,7 @@ use Rattle.batch.specs.Rows.{Rows, frameInRows, took, answerIn, runOf, over, le
 use Rattle.batch.specs.Calls.{callEach, joined}
 use Rattle.batch.proofs.Continues.{as-far}
 use Rattle.batch.proofs.Promised.{batched-by}
-use Rattle.ledger.specs.Rows.{rowOf, itsKind, itsLength, itsMessage, RowsDue}
+use Rattle.ledger.specs.Rows.{newestRow, itsKind, itsLength, itsMessage, RowsDue}
 use Rattle.ledger.specs.Runs.{State, sayingOf, afterCall, call, callsOf, kindOfNumber, saidInRows, afterBatch}
 use Rattle.ledger.specs.Assemblers.{AllOk, none, more, receives}
 
@@ -136,12 +136,12 @@ module _ (R : Rules) (l : List ℕ) (w : Rows) where
   record RowsOf (m : ℕ) (x : rows.Run) (z : State) : Type 0 where
     pool : x .pool ≡ z .pool
     counters : x .counters ≡ z .counters
-    kinds : x .kinds ≡ rowOf itsKind m (z .said)
-    lengths : x .lengths ≡ rowOf itsLength m (z .said)
-    messages : x .messages ≡ rowOf itsMessage m (z .said)
+    kinds : x .kinds ≡ newestRow itsKind m (z .said)
+    lengths : x .lengths ≡ newestRow itsLength m (z .said)
+    messages : x .messages ≡ newestRow itsMessage m (z .said)
 
   rows-one : (m : ℕ) (x : rows.Run) (z : State) (f : Heard) → RowsOf m x z → RowsOf (suc m) (took x (answerIn R l x f)) (afterCall z (receiveOf R l f (z .pool) (z .counters)))
-  unfolding took answerIn afterCall sayingOf rowOf itsKind itsLength itsMessage
+  unfolding took answerIn afterCall sayingOf newestRow itsKind itsLength itsMessage
   rows-one m x z f h = rw (h .pool, h .counters, h .kinds, h .lengths, h .messages) (record { pool = refl; counters = refl; kinds = refl; lengths = refl; messages = refl })
 
   rows-all : (m n i : ℕ) (x : rows.Run) (z : State) → RowsOf m x z → RowsOf (m + n) (callEach R l w n i x) (receives (receiveOf R) z (callsOf l w n i))
@@ -154,7 +154,7 @@ module _ (R : Rules) (l : List ℕ) (w : Rows) where
       rw k (rows-all (suc m) n (suc i) (took x (answerIn R l x (frameInRows w i))) (afterCall z (receiveOf R l (frameInRows w i) (z .pool) (z .counters))) (rows-one m x z (frameInRows w i) h))
 
   rows-none : (z : State) → RowsOf 0 (rows.emptyRun (z .pool) (z .counters)) z
-  unfolding rows.emptyRun rowOf
+  unfolding rows.emptyRun newestRow
   rows-none z = record { pool = refl; counters = refl; kinds = refl; lengths = refl; messages = refl }
 
 -- ---- the frames that a batch takes
@@ -199,7 +199,7 @@ module _ (l : List ℕ) (w : Rows) (z : State) (kinds lengths arena : List ℕ) 
   Good b = Taken z (after b) (callsOf l w (b .answer .taken) 0) × RowsAfter (receives (receiveOf base) z (callsOf l w (b .answer .taken) 0)) b kinds lengths arena
 
   good-refused : (n : ℕ) → Good (refusedBy n (z .pool) (z .counters) kinds lengths arena)
-  unfolding after refusedBy afterBatch callsOf receives saidInRows rowOf over
+  unfolding after refusedBy afterBatch callsOf receives saidInRows newestRow over
   good-refused n = (record { is = refl; oks = none }, record { told = refl; measured = refl; delivered = refl })
 
   good-run : tooShort (length (w .times)) (length (w .pgns)) (length (w .sources)) (length (w .bytes)) (length kinds) (length lengths) ≡ false

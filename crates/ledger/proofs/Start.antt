@@ -21,7 +21,7 @@ use Rattle.assembler.specs.View.{slotsFrom, slotsOf}
 use Rattle.assembler.proofs.Views.{Sized, sized-view, slots-long}
 use Rattle.ledger.specs.Ledger.{idle, asNumber, howMany, blank}
 use Rattle.ledger.specs.Demand3.{inProgress}
-use Rattle.ledger.specs.Runs.{Empty, sourceOf, sourcesOf}
+use Rattle.ledger.specs.Runs.{Empty, keptSource, sourcesOf}
 use Rattle.ledger.proofs.Shows.{Shows}
 use Rattle.ledger.proofs.Run.{Follows, begun, follows-begun}
 
@@ -30,8 +30,8 @@ unfolding asNumber
 none-busy true n e = absurd (omega arith)
 none-busy false n e = refl
 
-idle-shows : (R : Rules) (n : ℕ) (hs : List Head) (bs : List ℕ) → inProgress (take n hs) ≡ 0 → length bs ≡ length hs * 223 → All2 (Shows R) (map idle (map sourceOf (take n hs))) (take n (slotsFrom hs bs))
-unfolding slotsFrom inProgress howMany total sourceOf
+idle-shows : (R : Rules) (n : ℕ) (hs : List Head) (bs : List ℕ) → inProgress (take n hs) ≡ 0 → length bs ≡ length hs * 223 → All2 (Shows R) (map idle (map keptSource (take n hs))) (take n (slotsFrom hs bs))
+unfolding slotsFrom inProgress howMany total keptSource
 idle-shows R zero hs bs e l = nil
 idle-shows R (suc n) [] bs e l = nil
 idle-shows R (suc n) (h ∷ hs) bs e l =

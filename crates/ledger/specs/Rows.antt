@@ -8,10 +8,10 @@ use Rattle.batch.specs.Rows.{over}
 use Rattle.ledger.specs.Ledger.{Saying}
 
 -- what the newest n of these give, the oldest of them first
-unfoldable pub rowOf : (Saying → List ℕ) → ℕ → List Saying → List ℕ
-rowOf f zero said = []
-rowOf f (suc n) [] = []
-rowOf f (suc n) (a ∷ older) = rowOf f n older ++ f a
+unfoldable pub newestRow : (Saying → List ℕ) → ℕ → List Saying → List ℕ
+newestRow f zero said = []
+newestRow f (suc n) [] = []
+newestRow f (suc n) (a ∷ older) = newestRow f n older ++ f a
 
 -- of an answer: the number of its kind, its length, and its message
 unfoldable pub itsKind : Saying → List ℕ
@@ -25,6 +25,6 @@ itsMessage a = take (a .length) (a .payload)
 
 -- the rows and the arena after a batch that took n frames, where these answers are due, the latest first: "the rest keeps its contents"
 pub record RowsDue (n : ℕ) (due : List Saying) (kinds lengths arena kinds′ lengths′ arena′ : List ℕ) : Type 0 where
-  pub told : kinds′ ≡ over kinds (rowOf itsKind n due)
-  pub measured : lengths′ ≡ over lengths (rowOf itsLength n due)
-  pub delivered : arena′ ≡ over arena (rowOf itsMessage n due)
+  pub told : kinds′ ≡ over kinds (newestRow itsKind n due)
+  pub measured : lengths′ ≡ over lengths (newestRow itsLength n due)
+  pub delivered : arena′ ≡ over arena (newestRow itsMessage n due)

@@ -36,12 +36,12 @@ pub record Empty (p : Pool) : Type 0 where
   pub heads : length (p .heads) ≡ poolLimit
   pub bytes : length (p .bytes) ≡ poolBytes
 
-unfoldable pub sourceOf : Head → ℕ
-sourceOf h = h .«source_address»
+unfoldable pub keptSource : Head → ℕ
+keptSource h = h .«source_address»
 
 -- the sources that its slots keep
 unfoldable pub sourcesOf : Pool → List ℕ
-sourcesOf p = map sourceOf (take (p .size) (p .heads))
+sourcesOf p = map keptSource (take (p .size) (p .heads))
 
 -- what the caller has between two calls, and all that was said to it, the latest first
 pub record State : Type 0 where
