@@ -51,15 +51,11 @@ extern "C" {
 
 #define HF_OK 0 /* done; of the next frame: here it is */
 
-/* The kinds of an answer that is no refusal. */
-#define HF_END 256               /* no frame is left */
-#define HF_IGNORED 256           /* a frame was heard, and nothing came of it but a counter */
-#define HF_FRAGMENT_CONSUMED 257 /* it was taken, and more of its message is missing */
-#define HF_MESSAGE_COMPLETE 258  /* it brought a message to its end */
-/* The kinds of a batch's row. */
-#define HF_ROW_IGNORED 0
-#define HF_ROW_FRAGMENT_CONSUMED 1
-#define HF_ROW_MESSAGE_COMPLETE 2
+/* The kinds of an answer that is no refusal, of a single call and of a batch's row. */
+#define HF_END 100               /* no frame is left */
+#define HF_IGNORED 101           /* a frame was heard, and nothing came of it but a counter */
+#define HF_FRAGMENT_CONSUMED 102 /* it was taken, and more of its message is missing */
+#define HF_MESSAGE_COMPLETE 103  /* it brought a message to its end */
 
 /* Refusals; docs/REFUSALS.md says what each means and carries, and who gives it. */
 #define HF_REFUSED_IMPOSSIBLE_POOL 1

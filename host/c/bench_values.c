@@ -155,11 +155,11 @@ static void batch(void) {
     hf_counters_new(&counters);
     hf_pool_new(&pool, 4);
     expect(hf_process_frames(&pool, &counters, LIST, 1, 2, times, pgns, sources, data, kinds, lengths, arena, 6, counts) == HF_OK && counts[HF_COUNT_TAKEN] == 1
-               && counts[HF_COUNT_USED] == 0 && kinds[0] == HF_ROW_FRAGMENT_CONSUMED, "a batch stops where the arena is full");
+               && counts[HF_COUNT_USED] == 0 && kinds[0] == HF_FRAGMENT_CONSUMED, "a batch stops where the arena is full");
     expect(hf_process_frames(&pool, &counters, LIST, 1, 2, times, pgns, sources, data, kinds, lengths, arena, 16, counts) == HF_OK && counts[HF_COUNT_TAKEN] == 2
-               && counts[HF_COUNT_USED] == 7 && kinds[1] == HF_ROW_MESSAGE_COMPLETE && lengths[1] == 7 && !memcmp(arena, "abcdefg", 7), "a batch");
+               && counts[HF_COUNT_USED] == 7 && kinds[1] == HF_MESSAGE_COMPLETE && lengths[1] == 7 && !memcmp(arena, "abcdefg", 7), "a batch");
     expect(hf_process_frames(&pool, &counters, NULL, 0, 2, times, pgns, sources, data, kinds, lengths, NULL, 0, counts) == HF_OK && counts[HF_COUNT_TAKEN] == 2
-               && kinds[1] == HF_ROW_IGNORED && counters.counts[HF_UNKNOWN_PGN] == 2, "a batch with no list and no arena, at NULL");
+               && kinds[1] == HF_IGNORED && counters.counts[HF_UNKNOWN_PGN] == 2, "a batch with no list and no arena, at NULL");
     expect(hf_process_frames(&pool, &counters, NULL, 0, 0, NULL, NULL, NULL, NULL, NULL, NULL, NULL, 0, counts) == HF_OK && counts[HF_COUNT_TAKEN] == 0, "a batch of no frames, at NULL");
     expect(hf_raw_process_frames(pool.size, pool.heads, pool.bytes, counters.counts, LIST, 1, times, 2, pgns, 1, sources, 2, data, 16, kinds, 2, lengths, 2, arena, 16, counts)
                == HF_REFUSED_NO_ROOM && counts[HF_COUNT_TAKEN] == 0, "a row too short: 27");

@@ -22,10 +22,10 @@ fn original<const N: usize>(list: &'static [u32], w: &Rows, t: &mut Told) -> usi
     for i in 0..w.len() {
         let d: &[u8; 8] = w.data[i * 8..i * 8 + 8].try_into().unwrap();
         match a.process_frame(w.times[i], w.pgns[i], w.sources[i], d) {
-            ProcessResult::Ignored => (t.kinds[i], t.lengths[i]) = (raw::ROW_IGNORED, 0),
-            ProcessResult::FragmentConsumed => (t.kinds[i], t.lengths[i]) = (raw::ROW_FRAGMENT_CONSUMED, 0),
+            ProcessResult::Ignored => (t.kinds[i], t.lengths[i]) = (raw::IGNORED as u8, 0),
+            ProcessResult::FragmentConsumed => (t.kinds[i], t.lengths[i]) = (raw::FRAGMENT_CONSUMED as u8, 0),
             ProcessResult::MessageComplete(m) => {
-                (t.kinds[i], t.lengths[i]) = (raw::ROW_MESSAGE_COMPLETE, m.len as u8);
+                (t.kinds[i], t.lengths[i]) = (raw::MESSAGE_COMPLETE as u8, m.len as u8);
                 t.arena[at..at + m.len].copy_from_slice(&m.payload[..m.len]);
                 at += m.len;
             }
@@ -48,10 +48,10 @@ fn one_by_one(size: usize, list: &[u32], w: &Rows, by_value: bool, t: &mut Told)
             p.process_frame(&mut c, list, w.times[i], w.pgns[i], w.sources[i], d, &mut payload, &mut length)
         };
         match kind {
-            raw::IGNORED => (t.kinds[i], t.lengths[i]) = (raw::ROW_IGNORED, 0),
-            raw::FRAGMENT_CONSUMED => (t.kinds[i], t.lengths[i]) = (raw::ROW_FRAGMENT_CONSUMED, 0),
+            raw::IGNORED => (t.kinds[i], t.lengths[i]) = (raw::IGNORED as u8, 0),
+            raw::FRAGMENT_CONSUMED => (t.kinds[i], t.lengths[i]) = (raw::FRAGMENT_CONSUMED as u8, 0),
             raw::MESSAGE_COMPLETE => {
-                (t.kinds[i], t.lengths[i]) = (raw::ROW_MESSAGE_COMPLETE, length as u8);
+                (t.kinds[i], t.lengths[i]) = (raw::MESSAGE_COMPLETE as u8, length as u8);
                 t.arena[at..at + length].copy_from_slice(&payload[..length]);
                 at += length;
             }

@@ -358,9 +358,9 @@ fn originally<const N: usize>(slots: &[Slot; 8], counters: Counters, list: &'sta
         let data: &[u8; 8] = rows.data[8 * i..8 * i + 8].try_into().unwrap();
         let r = next.process_frame(rows.times[i], rows.pgns[i], rows.sources[i], data);
         let (kind, length) = match &r {
-            ProcessResult::Ignored => (raw::ROW_IGNORED, 0),
-            ProcessResult::FragmentConsumed => (raw::ROW_FRAGMENT_CONSUMED, 0),
-            ProcessResult::MessageComplete(m) => (raw::ROW_MESSAGE_COMPLETE, m.len),
+            ProcessResult::Ignored => (raw::IGNORED, 0),
+            ProcessResult::FragmentConsumed => (raw::FRAGMENT_CONSUMED, 0),
+            ProcessResult::MessageComplete(m) => (raw::MESSAGE_COMPLETE, m.len),
         };
         if used + length > told.arena.len() {
             break;
@@ -368,7 +368,7 @@ fn originally<const N: usize>(slots: &[Slot; 8], counters: Counters, list: &'sta
         if let ProcessResult::MessageComplete(m) = &r {
             told.arena[used..used + length].copy_from_slice(&m.payload[..length]);
         }
-        (told.kinds[i], told.lengths[i]) = (kind, length as u8);
+        (told.kinds[i], told.lengths[i]) = (kind as u8, length as u8);
         a = next;
         taken += 1;
         used += length;
@@ -395,11 +395,7 @@ pub fn batch(size: usize, slots: &[Slot; 8], counters: Counters, list: &[u32], s
     assert_eq!((number, taken, used), (0, left.0, left.1), "frames and bytes taken of {n}, room {room}");
     assert_eq!(got, want, "kinds, lengths, arena");
     for kind in &want.kinds[..taken] {
-        answered("batch_row", match *kind {
-            raw::ROW_IGNORED => raw::IGNORED,
-            raw::ROW_FRAGMENT_CONSUMED => raw::FRAGMENT_CONSUMED,
-            _ => raw::MESSAGE_COMPLETE,
-        });
+        answered("batch_row", *kind as u32);
     }
     assert_eq!(c, left.3, "counters");
     for (k, s) in left.2.iter().enumerate() {

@@ -16,16 +16,16 @@ pub fn answered(call: &'static str, answer: u32) {
 pub fn run(name: &str, compared: impl FnOnce() -> u64) {
     SEEN.take();
     let steps = compared();
-    let seen: String = SEEN.take().iter().map(|((call, answer), n)| format!("\nseen {call} {} {n}", answer_name(call, *answer))).collect();
+    let seen: String = SEEN.take().iter().map(|((call, answer), n)| format!("\nseen {call} {} {n}", answer_name(*answer))).collect();
     println!("\n{name}: {steps} steps alike{seen}");
 }
 
 /// A kind by its name; a refusal by its number.
-fn answer_name(call: &str, answer: u32) -> String {
+fn answer_name(answer: u32) -> String {
     use port::raw::{END, FRAGMENT_CONSUMED, IGNORED, MESSAGE_COMPLETE};
     match answer {
         0 => "given".into(),
-        END if call == "frame" => "End".into(),
+        END => "End".into(),
         IGNORED => "Ignored".into(),
         FRAGMENT_CONSUMED => "FragmentConsumed".into(),
         MESSAGE_COMPLETE => "MessageComplete".into(),

@@ -24,13 +24,13 @@ fn code(text: &str) -> String {
     out + rest
 }
 
-/// Constants by name, and the value of a number, a name or a product of them.
+/// Constants by name, in all crates that have one of that name, and the value of a number, a name or a product of them.
 #[derive(Default)]
-struct Constants(BTreeMap<String, String>);
+struct Constants(BTreeMap<String, Vec<String>>);
 
 impl Constants {
     fn add(&mut self, name: &str, value: &str) {
-        self.0.insert(name.trim().into(), value.trim().trim_matches(|c| c == '(' || c == ')').into());
+        self.0.entry(name.trim().into()).or_default().push(value.trim().trim_matches(|c| c == '(' || c == ')').into());
     }
     /// `const NAME: TYPE = VALUE;`
     fn add_rust(&mut self, text: &str) {
@@ -41,7 +41,12 @@ impl Constants {
         }
     }
     fn value(&self, text: &str) -> usize {
-        text.split('*').map(|word| word.trim().parse().unwrap_or_else(|_| self.value(self.0.get(word.trim()).unwrap_or_else(|| panic!("what is {word}?"))))).product()
+        text.split('*').map(str::trim).map(|word| word.parse().unwrap_or_else(|_| self.named(word))).product()
+    }
+    fn named(&self, word: &str) -> usize {
+        let values: Vec<usize> = self.0.get(word).unwrap_or_else(|| panic!("what is {word}?")).iter().map(|v| self.value(v)).collect();
+        assert!(values.iter().all(|v| *v == values[0]), "{word} is {values:?}");
+        values[0]
     }
 }
 
@@ -154,10 +159,9 @@ fn in_c(text: &str, constants: &Constants) -> Vec<String> {
 fn the_declarations_agree() {
     let mut rattle_constants = Constants::default();
     let mut rattle = vec![];
-    for krate in fs::read_dir(root().join("crates")).unwrap() {
-        let krate = krate.unwrap().path();
-        for file in fs::read_dir(krate.join("src")).unwrap() {
-            let text = code(&fs::read_to_string(file.unwrap().path()).unwrap());
+    for krate in fs::read_dir(root().join("crates")).unwrap().map(|k| k.unwrap().path()) {
+        for file in fs::read_dir(krate.join("src")).into_iter().flatten().map(|f| f.unwrap().path()).filter(|f| f.extension().is_some_and(|e| e == "rt")) {
+            let text = code(&fs::read_to_string(file).unwrap());
             rattle_constants.add_rust(&text);
             if krate.ends_with("ffi") {
                 rattle.push(text);

@@ -186,7 +186,7 @@ impl Told {
     /// The messages of the frames that a batch took: which of them brought it to its end, and its bytes.
     pub fn messages(&self, taken: Taken) -> impl Iterator<Item = (usize, &[u8])> {
         let rows = self.kinds.iter().zip(&self.lengths).take(taken.frames).enumerate();
-        let complete = rows.filter(|(_, (kind, _))| **kind == raw::ROW_MESSAGE_COMPLETE);
+        let complete = rows.filter(|(_, (kind, _))| **kind as u32 == raw::MESSAGE_COMPLETE);
         complete.scan(0, |at, (row, (_, length))| {
             let message = self.arena.get(*at..*at + *length as usize)?;
             *at += message.len();

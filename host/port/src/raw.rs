@@ -26,16 +26,12 @@ pub const FRAME_NUMBERS: usize = 3;
 pub const COUNTS: usize = 2;
 pub const VALUES: usize = 5;
 
-// ---- the kinds of an answer that is no refusal
+// ---- the kinds of an answer that is no refusal, of a single call and of a batch's row
 
-pub const END: u32 = 256;
-pub const IGNORED: u32 = 256;
-pub const FRAGMENT_CONSUMED: u32 = 257;
-pub const MESSAGE_COMPLETE: u32 = 258;
-// of a batch's row
-pub const ROW_IGNORED: u8 = 0;
-pub const ROW_FRAGMENT_CONSUMED: u8 = 1;
-pub const ROW_MESSAGE_COMPLETE: u8 = 2;
+pub const END: u32 = 100;
+pub const IGNORED: u32 = 101;
+pub const FRAGMENT_CONSUMED: u32 = 102;
+pub const MESSAGE_COMPLETE: u32 = 103;
 
 /// What stands for no destination, and for a setter that is not called.
 pub const NONE: u16 = 256;
