@@ -33,13 +33,13 @@ split-back Short = refl
 -- `fast_packet_frames`: an answer and a row
 pub fast-packet-frames-unique : (id sequence : ℕ) (payload : List ℕ) (row : List Frame) {r s : Split} {l m : List Frame}
     → SplitsInto id sequence payload row r l → SplitsInto id sequence payload row s m → (r ≡ s) × (l ≡ m)
-fast-packet-frames-unique id sequence payload row p q = (determined-by ofSplit backSplit split-back (p .answer) (q .answer), determined (p .laid) (q .laid))
+fast-packet-frames-unique id sequence payload row p q = (determined-by ofSplit backSplit split-back (p .answer) (q .answer), determined (p .row-after) (q .row-after))
 
 -- `fast_packet_rows`: an answer and three slices
 pub fast-packet-rows-unique : (id sequence : ℕ) (payload ids bytes lens : List ℕ) {r s : Split} {i j b c l m : List ℕ}
     → SplitsIntoSlices id sequence payload ids bytes lens r i b l → SplitsIntoSlices id sequence payload ids bytes lens s j c m → (r ≡ s) × (i ≡ j) × (b ≡ c) × (l ≡ m)
 fast-packet-rows-unique id sequence payload ids bytes lens p q =
-    (determined-by ofSplit backSplit split-back (p .answer) (q .answer), determined (p .named) (q .named), determined (p .filled) (q .filled), determined (p .measured) (q .measured))
+    (determined-by ofSplit backSplit split-back (p .answer) (q .answer), determined (p .ids-after) (q .ids-after), determined (p .bytes-after) (q .bytes-after), determined (p .lens-after) (q .lens-after))
 
 -- `fast_packet_frames_into` promises of the row that it is given what `fast_packet_frames` does of a lent one
 pub fast-packet-frames-into-unique : (id sequence : ℕ) (payload : List ℕ) (row : List Frame) {r s : SplitRow}

@@ -14,7 +14,7 @@ use borrow.Rule.Scalar.{oAt}
 use borrow.Rule.Array.Rows.{arr-shrP}
 use borrow.Rule.Slice.Relend.{ssptr}
 use borrow.Rule.Slice.Shared.{reads-sslice, room-sslice}
-use borrow.Fn.Kinds.{PK, RK, Out, pNum, tyR}
+use borrow.Fn.Kinds.{PK, Out, pNum, tyR}
 use borrow.Fn.Enter.{tysP}
 use borrow.Fn.World.{World}
 use borrow.Kind.Num.{vAt}
@@ -25,7 +25,7 @@ use Rattle.walk.proofs.Walk.{Bench, bench, result, ty, mirOf, rows-of, next, go
 use Rattle.oracle.specs.Check.{ChecksTx}
 use Rattle.splitter.specs.declared.Frame.{Frame}
 use Rattle.splitter.proofs.Types.{frame}
-use Rattle.oracle.proofs.FirstLaws.{first-there, first-many, first-same}
+use Rattle.oracle.proofs.RowLaws.{first-there, first-many, first-same}
 use Rattle.oracle.proofs.Types.{checked}
 use Rattle.oracle.proofs.check_tx.Symbol as check-def
 use Rattle.oracle.proofs.check_tx.Met as check-thm

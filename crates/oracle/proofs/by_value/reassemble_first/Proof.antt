@@ -31,7 +31,7 @@ use Rattle.oracle.specs.Strict.{Reassembles}
 use Rattle.splitter.specs.declared.Frame.{Frame}
 use Rattle.splitter.proofs.Types.{frame}
 use Rattle.oracle.proofs.Types.{reassembled}
-use Rattle.oracle.proofs.FirstLaws.{first-there, first-many, first-same}
+use Rattle.oracle.proofs.RowLaws.{first-there, first-many, first-same}
 use Rattle.oracle.proofs.reassemble.Symbol as strict-def
 use Rattle.oracle.proofs.reassemble.Met as strict-thm
 use Rattle.oracle.proofs.by_value.within.Kinds as within-kinds
