@@ -1,11 +1,18 @@
-// The bench: refusals 20 to 28 of strict reassembly and the splitter, 30 to 37 of the transmit check.
+// The bench: refusals 20 to 28 of strict reassembly and the splitter, 30 to 37 of the transmit check. Each row is given twice, in separate slices and as frames,
+// and what the second says follows on a line of its own.
+use crate::frame_rows::blank_row;
+use crate::frame_rows::laid_after;
+use crate::frame_rows::row_of;
 use crate::say;
 use oracle::Checked;
 use oracle::Fault;
 use oracle::Reassembled;
+use oracle::check_tx_first;
 use oracle::check_tx_rows;
+use oracle::reassemble_first;
 use oracle::reassemble_rows;
 use splitter::Split;
+use splitter::fast_packet_frames_into;
 use splitter::fast_packet_rows;
 
 // PGN 127489, and an address claim, both from source 35.
@@ -40,6 +47,24 @@ fn show_reassembled(r: Reassembled) {
     }
 }
 
+fn as_frames() {
+    say::text(b"  as frames: ");
+}
+
+fn judge_frames(bytes: &[u8], lens: &[usize]) {
+    let mut list = [0usize; 3];
+    let mut arena = [0u8; 16];
+    as_frames();
+    show_reassembled(reassemble_first(
+        row_of(&[ENGINE, ENGINE], bytes, lens),
+        lens.len(),
+        35,
+        127489,
+        &mut list,
+        &mut arena,
+    ));
+}
+
 // A row of frames of PGN 127489 from source 35, into a list for one message and an arena of 16 bytes.
 fn judge(words: &[u8], bytes: &[u8], lens: &[usize]) {
     let mut list = [0usize; 3];
@@ -54,6 +79,7 @@ fn judge(words: &[u8], bytes: &[u8], lens: &[usize]) {
         &mut list,
         &mut arena,
     ));
+    judge_frames(bytes, lens);
 }
 
 fn show_split(s: Split) {
@@ -64,13 +90,17 @@ fn show_split(s: Split) {
     }
 }
 
-// Into room for one frame.
+// Into room for nine frames.
 fn split(words: &[u8], payload: &[u8]) {
-    let mut ids = [0u32; 1];
-    let mut bytes = [0u8; 8];
-    let mut lens = [0usize; 1];
+    let mut ids = [0u32; 9];
+    let mut bytes = [0u8; 72];
+    let mut lens = [0usize; 9];
     say::text(words);
     show_split(fast_packet_rows(ENGINE, 0, payload, &mut ids, &mut bytes, &mut lens));
+    as_frames();
+    let left = fast_packet_frames_into(ENGINE, 0, payload, blank_row());
+    let s = left.split;
+    show_split(s);
 }
 
 // Each of the following gives a few refusals: a long function takes the prover longer than its parts.
@@ -116,7 +146,11 @@ fn open_and_no_room() {
 
 fn splits() {
     split(b"splitting nothing: ", b"");
-    split(b"splitting seven bytes into one frame: ", b"1234567");
+    split(b"splitting seven bytes: ", b"1234567");
+    split(
+        b"splitting 63 bytes into nine frames: ",
+        b"123456789012345678901234567890123456789012345678901234567890123",
+    );
 }
 
 pub(crate) fn refusals() {
@@ -197,6 +231,18 @@ fn check_rows(
     show_checked(check_tx_rows(&ids[..], &bytes[..], &lens[..], 35, expected, base));
 }
 
+// The same as frames: the claim stands first, and each record's frames after what stands there.
+fn check_frames(first: [u8; 26], sequence: u8, second: [u8; 26], expected: usize, base: u32) {
+    let claim = row_of(&[CLAIM], b"\xFF\xFF\xFF\xFF\xFF\xFF\xFF\xFF", &[8]);
+    let one = fast_packet_frames_into(ENGINE, 0, &first, blank_row());
+    let two = fast_packet_frames_into(ENGINE, sequence, &second, blank_row());
+    let ones = one.row;
+    let twos = two.row;
+    let row = laid_after(claim, 1, ones);
+    as_frames();
+    show_checked(check_tx_first(laid_after(row, 5, twos), 9, 35, expected, base));
+}
+
 // A claim, then two records of four frames each: hours 7 with this odd byte, and these hours with this sequence.
 fn check_two(words: &[u8], odd: u8, sequence: u8, hours: u8, expected: usize, base: u32) {
     let mut ids = [CLAIM; 9];
@@ -213,11 +259,14 @@ fn check_two(words: &[u8], odd: u8, sequence: u8, hours: u8, expected: usize, ba
         expected,
         base,
     );
+    check_frames(record(7, odd), sequence, record(hours, 0), expected, base);
 }
 
 fn check_one(words: &[u8], ids: &[u32], bytes: &[u8], lens: &[usize]) {
     say::text(words);
     show_checked(check_tx_rows(ids, bytes, lens, 35, 1, 0));
+    as_frames();
+    show_checked(check_tx_first(row_of(ids, bytes, lens), lens.len(), 35, 1, 0));
 }
 
 fn counts() {

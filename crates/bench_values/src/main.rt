@@ -3,6 +3,7 @@
 mod batching;
 mod bench_calls;
 mod building;
+mod frame_rows;
 mod receiving;
 mod say;
 

@@ -151,14 +151,14 @@ pub hf-reassemble-unique : (ids bytes lens : List ℕ) (source pgn : ℕ) (list 
     → (a ≡ b) × (l ≡ m) × (n ≡ o) × (v ≡ x)
 hf-reassemble-unique ids bytes lens source pgn list arena p q =
     let e = five-unique (counted (deliveredTo list arena (rowIn ids bytes lens) source pgn)) (p .answer) (q .answer) in
-    (e .0, determined (p .listed) (q .listed), determined (p .laid) (q .laid), e .1)
+    (e .0, determined (p .list-after) (q .list-after), determined (p .arena-after) (q .arena-after), e .1)
 
 -- what is returned, the three rows and the number of frames
 pub hf-fast-packet-frames-unique : (id sequence : ℕ) (payload ids bytes lens : List ℕ) {a b : ℕ} {i j k l m n : List ℕ} {f g : ℕ}
     → SplitsInNumbers id sequence payload ids bytes lens a i k m f → SplitsInNumbers id sequence payload ids bytes lens b j l n g
     → (a ≡ b) × (i ≡ j) × (k ≡ l) × (m ≡ n) × (f ≡ g)
 hf-fast-packet-frames-unique id sequence payload ids bytes lens p q =
-    (determined (p .told) (q .told), determined (p .named) (q .named), determined (p .filled) (q .filled), determined (p .measured) (q .measured), determined (p .given) (q .given))
+    (determined (p .told) (q .told), determined (p .ids-after) (q .ids-after), determined (p .bytes-after) (q .bytes-after), determined (p .lens-after) (q .lens-after), determined (p .given) (q .given))
 
 pub hf-frame-count-unique : (ids bytes lens r s : ℕ) → r ≡ countIn ids bytes lens → s ≡ countIn ids bytes lens → r ≡ s
 hf-frame-count-unique ids bytes lens r s = determined

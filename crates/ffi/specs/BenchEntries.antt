@@ -13,15 +13,15 @@ use Rattle.numbers.specs.Fives.{ToldInFive}
 -- strict reassembly: what is returned and the five numbers, the list and the arena
 pub record ReassemblesInNumbers (ids bytes lens : List ℕ) (source pgn : ℕ) (list arena : List ℕ) (code : ℕ) (list′ arena′ values : List ℕ) : Type 0 where
   pub answer : ToldInFive (counted (deliveredTo list arena (rowIn ids bytes lens) source pgn)) code values
-  pub listed : list′ ≡ listWith (deliveredTo list arena (rowIn ids bytes lens) source pgn) list
-  pub laid : arena′ ≡ arenaWith (deliveredTo list arena (rowIn ids bytes lens) source pgn) arena
+  pub list-after : list′ ≡ listWith (deliveredTo list arena (rowIn ids bytes lens) source pgn) list
+  pub arena-after : arena′ ≡ arenaWith (deliveredTo list arena (rowIn ids bytes lens) source pgn) arena
 
 -- the splitter: what is returned, the three rows, and the number of frames
 pub record SplitsInNumbers (id sequence : ℕ) (payload ids bytes lens : List ℕ) (code : ℕ) (ids′ bytes′ lens′ : List ℕ) (frames : ℕ) : Type 0 where
   pub told : code ≡ codeOf (counted (splitIn id sequence payload ids bytes lens))
-  pub named : ids′ ≡ idsWith (splitIn id sequence payload ids bytes lens) ids
-  pub filled : bytes′ ≡ bytesWith (splitIn id sequence payload ids bytes lens) bytes
-  pub measured : lens′ ≡ lensWith (splitIn id sequence payload ids bytes lens) lens
+  pub ids-after : ids′ ≡ idsWith (splitIn id sequence payload ids bytes lens) ids
+  pub bytes-after : bytes′ ≡ bytesWith (splitIn id sequence payload ids bytes lens) bytes
+  pub lens-after : lens′ ≡ lensWith (splitIn id sequence payload ids bytes lens) lens
   pub given : frames ≡ valueOf (counted (splitIn id sequence payload ids bytes lens))
 
 -- the transmit check: what is returned, and the five numbers

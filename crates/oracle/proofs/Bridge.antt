@@ -19,9 +19,9 @@ use Rattle.base.specs.Pick.{pick}
 use Rattle.base.proofs.Cases.{tested, less?, same?, when-eq, when-ne, when-lt, when-ge, when-true, when-false}
 use Rattle.splitter.specs.Frames.{frameBytes}
 use Rattle.oracle.specs.Ids.{isOther}
-use Rattle.oracle.specs.Strict.{benchIndex, benchSequence, oddOf, BenchMessage, Open, FrameOutcome, refused, waits, whole, collectedAt, firstFrame, laterFrame, outcomeOf, before, thenOf, endOf, messagesFrom, messagesOf, payloadsOf, listFrom, roomFor, deliveredTo, arenaWith, listWith, Reassembles}
+use Rattle.oracle.specs.Strict.{benchIndex, benchSequence, oddOf, BenchMessage, OpenMessage, FrameOutcome, refused, waits, whole, collectedAt, firstFrame, laterFrame, outcomeOf, before, thenOf, endOf, messagesFrom, messagesOf, payloadsOf, listFrom, roomFor, deliveredTo, arenaWith, listWith, Reassembles}
 use Rattle.oracle.specs.inner.Frames.{paddingAt, firstThen, laterThen, messageEnd, faultAt}
-use Rattle.oracle.proofs.VerdictLaws.{row-passed, row-refused}
+use Rattle.oracle.proofs.StrictLaws.{row-passed, row-refused}
 use Rattle.oracle.specs.Numbers.{faultNumber, faultValues, ofReassembled}
 use Rattle.oracle.specs.inner.Scan.{headerBytes, missingOf, faultOf, skipped, refusedAt, taken, isFaulty, stepOn, scanFrame, scanOf, startOf, Counted, addedOf, rowOf, bytesLaid, rowsLaid, verdictOf, isNone}
 use Rattle.splitter.specs.declared.Frame.{Frame}
@@ -36,19 +36,19 @@ use Rattle.splitter.proofs.FrameLaws.{eight-long}
 use Rattle.oracle.proofs.Grows.{head-low, head-high, added-end}
 
 -- ---- what the code knows of an open message: all but its bytes
-pub record Shows (s : Scan) (o : Open) : Type 0 where
+pub record Shows (s : Scan) (o : OpenMessage) : Type 0 where
   pub lacks : s .missing + length (o .bytes) ≡ o .announced
   pub waiting : 1 ≤ s .missing
   pub same-sequence : s .sequence ≡ o .sequence
   pub same-size : s .announced ≡ o .announced
   pub same-index : s .index ≡ o .index
 
-abbrev pub Knows : Scan → Option Open → Type 0
+abbrev pub Knows : Scan → Option OpenMessage → Type 0
 Knows s none = s .missing ≡ 0
 Knows s (some o) = Shows s o
 
 -- the bytes collected so far
-abbrev pub had : Option Open → List ℕ
+abbrev pub had : Option OpenMessage → List ℕ
 had none = []
 had (some o) = o .bytes
 
@@ -62,7 +62,7 @@ pub record Refuses (s : Scan) (bs : List ℕ) (len k : ℕ) (vs : List ℕ) : Ty
   pub number : faultNumber why ≡ k
   pub values : faultValues why ≡ vs
 
-pub record Waits (s : Scan) (bs : List ℕ) (len : ℕ) (q : List ℕ) (o : Open) : Type 0 where
+pub record Waits (s : Scan) (bs : List ℕ) (len : ℕ) (q : List ℕ) (o : OpenMessage) : Type 0 where
   pub clear : faultOf s bs len ≡ Clear
   pub shows : Shows (taken s bs) o
   pub still : taken s bs .messages ≡ s .messages
@@ -113,7 +113,7 @@ module _ (s : Scan) (bs : List ℕ) (len : ℕ) (q : List ℕ) (a sq ix : ℕ) (
   abbrev b : List ℕ
   b = drop h bs
 
-  abbrev opened : Open
+  abbrev opened : OpenMessage
   opened = record { sequence = sq; announced = a; index = ix; bytes = q ++ b }
 
   carries : length b ≡ 8 - h
@@ -210,7 +210,7 @@ module _ (s : Scan) (bs : List ℕ) (len : ℕ) (long : length bs ≡ 8) (full :
         subst (λ (n : ℕ). Does s bs len [] (collectedAt (s .n) (record { sequence = benchSequence bs; announced = getD bs 1 0; index = 1; bytes = drop n bs }))) first-head
         (collects s bs len [] (getD bs 1 0) (benchSequence bs) 1 long f (omega (arith, first-missing)) (byte-there x) refl (sym (when-eq _ _ zeroth refl)) (omega (arith, zeroth)))
 
-    first-does : (o : Option Open) → Knows s o → Does s bs len (had o) (firstFrame (s .n) o bs)
+    first-does : (o : Option OpenMessage) → Knows s o → Does s bs len (had o) (firstFrame (s .n) o bs)
     unfolding firstFrame faultNumber faultValues
     first-does (some o) k =
         let w : 0 < s .missing = k .waiting in
@@ -240,7 +240,7 @@ module _ (s : Scan) (bs : List ℕ) (len : ℕ) (long : length bs ≡ 8) (full :
     unfolding missingOf
     later-missing = sym (when-ne _ _ other refl)
 
-    module _ (o : Open) (k : Shows s o) where
+    module _ (o : OpenMessage) (k : Shows s o) where
       some-missing : s .missing ≡ 0 → ⊥
       some-missing e = let w : 1 ≤ s .missing = k .waiting in omega arith
 
@@ -272,12 +272,12 @@ module _ (s : Scan) (bs : List ℕ) (len : ℕ) (long : length bs ≡ 8) (full :
           (λ x. subst (Does s bs len (o .bytes)) (when-ne _ _ x refl)
           (record { why = wrong; found = sym (later-fault (when-ne _ _ some-missing (when-ne _ _ (λ e. x (e ∙ k .same-sequence)) refl))); number = refl; values = told-wrong }))
 
-    later-does : (o : Option Open) → Knows s o → Does s bs len (had o) (laterFrame (s .n) o bs)
+    later-does : (o : Option OpenMessage) → Knows s o → Does s bs len (had o) (laterFrame (s .n) o bs)
     unfolding laterFrame faultNumber faultValues
     later-does (some o) k = later-open o k
     later-does none k = record { why = Stray (s .n); found = sym (later-fault (when-eq _ _ k refl)); number = refl; values = refl }
 
-pub frame-does : (s : Scan) (bs : List ℕ) (len : ℕ) → length bs ≡ 8 → (o : Option Open) → Knows s o → Does s bs len (had o) (outcomeOf (s .n) o bs len)
+pub frame-does : (s : Scan) (bs : List ℕ) (len : ℕ) → length bs ≡ 8 → (o : Option OpenMessage) → Knows s o → Does s bs len (had o) (outcomeOf (s .n) o bs len)
 unfolding outcomeOf faultAt faultNumber faultValues
 frame-does s bs len long o k =
     same? len 8
@@ -392,13 +392,13 @@ module _ (s : Scan) (f : Frame) (clear : s .fault ≡ Clear) where
   unfolding addedOf
   skip-adds e = let z : s .total - s .total ≡ 0 = omega arith in ap (λ (u : Scan). take (u .total - s .total) (drop (headerBytes bs) bs)) e ∙ ap (λ (n : ℕ). take n (drop (headerBytes bs) bs)) z
 
-pub skip-knows : (s : Scan) (o : Option Open) → Knows s o → Knows (skipped s) o
+pub skip-knows : (s : Scan) (o : Option OpenMessage) → Knows s o → Knows (skipped s) o
 skip-knows s none k = k
 skip-knows s (some o) k = record { lacks = k .lacks; waiting = k .waiting; same-sequence = k .same-sequence; same-size = k .same-size; same-index = k .same-index }
 
 -- what is known of the rest of the row, from any state on
 abbrev Rest : List Frame → Type 0
-Rest fs = (t : Scan) (o : Option Open) → t .fault ≡ Clear → Knows t o → Tells t (had o) fs (messagesFrom (t .source) (t .pgn) (t .n) o fs)
+Rest fs = (t : Scan) (o : Option OpenMessage) → t .fault ≡ Clear → Knows t o → Tells t (had o) fs (messagesFrom (t .source) (t .pgn) (t .n) o fs)
 
 module _ (s : Scan) (f : Frame) (fs : List Frame) (rest : Rest fs) (clear : s .fault ≡ Clear) where
   skip-tells : (q : List ℕ) → scanFrame s f ≡ skipped s → (x : Answer (List BenchMessage)) → Tells (skipped s) q fs x → Tells s q (f ∷ fs) x
@@ -406,7 +406,7 @@ module _ (s : Scan) (f : Frame) (fs : List Frame) (rest : Rest fs) (clear : s .f
   skip-tells q e (gives ms) d = waits-on s f fs e q refl (ap (λ (l : List ℕ). q ++ l) (skip-adds s f clear e) ∙ append-nil q) d
 
   module _ (own : isOther (s .source) (s .pgn) (f .id) ≡ false) (q : List ℕ) where
-    wait-tells : (o : Open) → Waits s (frameBytes f) (f .len) q o → (x : Answer (List BenchMessage)) → Tells (taken s (frameBytes f)) (o .bytes) fs x → Tells s q (f ∷ fs) x
+    wait-tells : (o : OpenMessage) → Waits s (frameBytes f) (f .len) q o → (x : Answer (List BenchMessage)) → Tells (taken s (frameBytes f)) (o .bytes) fs x → Tells s q (f ∷ fs) x
     wait-tells o w (refuses k vs) d = stops-on s f fs (takes s f clear own (w .clear)) q d
     wait-tells o w (gives ms) d =
         let e : scanFrame s f ≡ taken s (frameBytes f) = takes s f clear own (w .clear) in
@@ -520,11 +520,11 @@ module _ (fs : List Frame) (source pgn : ℕ) (l o : List ℕ) {s st : Scan} {v 
       (sym (ev ∙ ap (λ (t : Scan). verdictOf t (length l) (length o)) (et ∙ ap (λ (t : Scan). scanOf t fs) es))) (strict-tells fs source pgn l o)
 
   pub strict-stops : b ≡ true → Reassembles fs source pgn l o v l o
-  strict-stops e = record { answer = told-kept .answer; listed = told-kept .none-list (sym eb ∙ e); laid = told-kept .none-arena (sym eb ∙ e) }
+  strict-stops e = record { answer = told-kept .answer; list-after = told-kept .none-list (sym eb ∙ e); arena-after = told-kept .none-arena (sym eb ∙ e) }
 
   pub strict-goes-on : {l′ o′ : List ℕ} → b ≡ false → l′ ≡ sets l (3 * s .messages) (rowsLaid s fs) → o′ ≡ sets o (s .total) (bytesLaid s fs) → Reassembles fs source pgn l o v l′ o′
   strict-goes-on e el eo = record {
     answer = told-kept .answer;
-    listed = el ∙ ap (λ (t : Scan). sets l (3 * t .messages) (rowsLaid t fs)) es ∙ told-kept .some-list (sym eb ∙ e);
-    laid = eo ∙ ap (λ (t : Scan). sets o (t .total) (bytesLaid t fs)) es ∙ told-kept .some-arena (sym eb ∙ e);
+    list-after = el ∙ ap (λ (t : Scan). sets l (3 * t .messages) (rowsLaid t fs)) es ∙ told-kept .some-list (sym eb ∙ e);
+    arena-after = eo ∙ ap (λ (t : Scan). sets o (t .total) (bytesLaid t fs)) es ∙ told-kept .some-arena (sym eb ∙ e);
   }

@@ -21,7 +21,7 @@ use Rattle.oracle.specs.Ids.{isOther}
 use Rattle.oracle.specs.inner.Tx.{claimAfter, messageOf, isBad, bufferOf, badOf, lastOf, isUnclaimed, txOf, txAll, txStart, overOf, faultyOf, ranOf, checkedOf}
 use Rattle.oracle.specs.declared.bench_ids.Claim.{Claim}
 use Rattle.oracle.specs.declared.bench_ids.Claim.the-variants.{Awaited, Made, Missed}
-use Rattle.oracle.specs.Strict.{benchSequence, BenchMessage, Open, FrameOutcome, refused, waits, whole, collectedAt, firstFrame, laterFrame, outcomeOf, before, thenOf, endOf, messagesFrom, messagesOf}
+use Rattle.oracle.specs.Strict.{benchSequence, BenchMessage, OpenMessage, FrameOutcome, refused, waits, whole, collectedAt, firstFrame, laterFrame, outcomeOf, before, thenOf, endOf, messagesFrom, messagesOf}
 use Rattle.oracle.specs.Check.{follows, eachFrom, isClaimed, sentOf, checkTxOf, ChecksTx, hoursOf, offFrom}
 use Rattle.oracle.specs.Numbers.{ofChecked}
 use Rattle.oracle.specs.inner.Scan.{skipped, taken, isFaulty, stepOn, scanFrame, scanOf, startOf, Counted, addedOf}
@@ -30,7 +30,7 @@ use Rattle.oracle.specs.declared.Scan.{Scan}
 use Rattle.oracle.specs.declared.Tx.{Tx}
 use Rattle.oracle.specs.declared.faults.Standing.the-variants.{Clear}
 use Rattle.oracle.specs.declared.Checked.{Checked}
-use Rattle.oracle.specs.declared.Checked.the-variants.{Good, NoCount, Over, NoClaim, Faulty, Open as OpenAt, Count, Size, Hours, Pattern, Sequence}
+use Rattle.oracle.specs.declared.Checked.the-variants.{Good, NoCount, Over, NoClaim, Faulty, Open, Count, Size, Hours, Pattern, Sequence}
 use Rattle.splitter.proofs.FrameLaws.{eight-long}
 use Rattle.oracle.proofs.Grows.{added-end}
 use Rattle.oracle.proofs.Bridge.{Shows, Knows, had, Does, Waits, Whole, frame-does, Stops, by-fault, by-end, Tells, row-tells, skips, takes, adds, skip-adds, skip-knows}
@@ -86,7 +86,7 @@ claims-tell (f ∷ fs) t =
     ∙ claim-tests (t .claim) (t .scan .source) (f .id) (f .len) (isClaimed (t .scan .source) fs)
 
 -- ---- no message is over 223 bytes
-abbrev Fits : Option Open → Type 0
+abbrev Fits : Option OpenMessage → Type 0
 Fits none = Unit {0}
 Fits (some o) = o .announced ≤ 223
 
@@ -95,13 +95,13 @@ FitsIn (refused k vs) = Unit {0}
 FitsIn (waits o) = o .announced ≤ 223
 FitsIn (whole m) = length (m .payload) ≤ 223
 
-collected-fits : (n : ℕ) (o : Open) → o .announced ≤ 223 → FitsIn (collectedAt n o)
+collected-fits : (n : ℕ) (o : OpenMessage) → o .announced ≤ 223 → FitsIn (collectedAt n o)
 unfolding collectedAt
 collected-fits n o h =
     let l : length (take (o .announced) (o .bytes)) ≤ 223 = rw length-take (omega arith) in
     pick-all FitsIn _ h (pick-all FitsIn _ l tt)
 
-outcome-fits : (n : ℕ) (o : Option Open) (bs : List ℕ) (len : ℕ) → Fits o → FitsIn (outcomeOf n o bs len)
+outcome-fits : (n : ℕ) (o : Option OpenMessage) (bs : List ℕ) (len : ℕ) → Fits o → FitsIn (outcomeOf n o bs len)
 unfolding outcomeOf firstFrame laterFrame
 outcome-fits n none bs len h =
     pick-all FitsIn _
@@ -224,7 +224,7 @@ none-bad NoCount = refl
 none-bad Over = refl
 none-bad NoClaim = refl
 none-bad (Faulty f) = refl
-none-bad (OpenAt n) = refl
+none-bad (Open n) = refl
 none-bad (Count n) = refl
 none-bad (Size i) = refl
 none-bad (Hours i) = refl
@@ -232,7 +232,7 @@ none-bad (Pattern i) = refl
 none-bad (Sequence i) = refl
 
 -- what the code holds beside what strict reassembly knows: the open message's bytes at the start of the buffer
-pub record Holds (t : Tx) (o : Option Open) : Type 0 where
+pub record Holds (t : Tx) (o : Option OpenMessage) : Type 0 where
   pub clear : t .scan .fault ≡ Clear
   pub knows : Knows (t .scan) o
   pub long : length (t .buffer) ≡ 223
@@ -313,18 +313,18 @@ module _ (t : Tx) (f : Frame) (fs : List Frame) {a : Scan} (ea : scanFrame (t .s
 
 -- ---- the row
 abbrev RestBad : List Frame → Type 0
-RestBad fs = (t : Tx) (o : Option Open) → Holds t o → BadTells t fs (messagesFrom (t .scan .source) (t .scan .pgn) (t .scan .n) o fs)
+RestBad fs = (t : Tx) (o : Option OpenMessage) → Holds t o → BadTells t fs (messagesFrom (t .scan .source) (t .scan .pgn) (t .scan .n) o fs)
 
-shows-at : (s : Scan) (o : Open) → Shows s o → s .announced - s .missing ≡ length (o .bytes)
+shows-at : (s : Scan) (o : OpenMessage) → Shows s o → s .announced - s .missing ≡ length (o .bytes)
 shows-at s o k =
     let l : s .missing + length (o .bytes) ≡ o .announced = k .lacks in
     let z : s .announced ≡ o .announced = k .same-size in
     omega arith
 
-shows-fit : (s : Scan) (o : Open) → Shows s o → o .announced ≤ 223 → length (o .bytes) ≤ 223
+shows-fit : (s : Scan) (o : OpenMessage) → Shows s o → o .announced ≤ 223 → length (o .bytes) ≤ 223
 shows-fit s o k h = let l : s .missing + length (o .bytes) ≡ o .announced = k .lacks in omega arith
 
-module _ (t : Tx) (f : Frame) (fs : List Frame) (o : Option Open) (hold : Holds t o) (rest : RestBad fs) where
+module _ (t : Tx) (f : Frame) (fs : List Frame) (o : Option OpenMessage) (hold : Holds t o) (rest : RestBad fs) where
   abbrev s : Scan
   s = t .scan
 
@@ -335,7 +335,7 @@ module _ (t : Tx) (f : Frame) (fs : List Frame) (o : Option Open) (hold : Holds 
   none-all ea same (refuses k vs) d = tt
   none-all ea same (gives ms) d = none-tells t f fs ea same ms d
 
-  hold-next : {a : Scan} → scanFrame (t .scan) f ≡ a → (o′ : Option Open) → a .fault ≡ Clear → Knows a o′ → take (length (had o′)) (bufferOf t f) ≡ had o′ → Fits o′ → Holds (txOf t f) o′
+  hold-next : {a : Scan} → scanFrame (t .scan) f ≡ a → (o′ : Option OpenMessage) → a .fault ≡ Clear → Knows a o′ → take (length (had o′)) (bufferOf t f) ≡ had o′ → Fits o′ → Holds (txOf t f) o′
   unfolding txOf
   hold-next ea o′ c k b g = record {
     clear = ap (λ (u : Scan). u .fault) ea ∙ c;
@@ -345,7 +345,7 @@ module _ (t : Tx) (f : Frame) (fs : List Frame) (o : Option Open) (hold : Holds 
     fits = g;
   }
 
-  rest-from : {a : Scan} → scanFrame (t .scan) f ≡ a → (o′ : Option Open) → Holds (txOf t f) o′ → BadTells (txOf t f) fs (messagesFrom (a .source) (a .pgn) (a .n) o′ fs)
+  rest-from : {a : Scan} → scanFrame (t .scan) f ≡ a → (o′ : Option OpenMessage) → Holds (txOf t f) o′ → BadTells (txOf t f) fs (messagesFrom (a .source) (a .pgn) (a .n) o′ fs)
   unfolding txOf
   rest-from ea o′ h = subst (λ (u : Scan). BadTells (txOf t f) fs (messagesFrom (u .source) (u .pgn) (u .n) o′ fs)) ea (rest (txOf t f) o′ h)
 
@@ -360,7 +360,7 @@ module _ (t : Tx) (f : Frame) (fs : List Frame) (o : Option Open) (hold : Holds 
       (rest-from e o (hold-next e o (hold .clear) (skip-knows (t .scan) o (hold .knows)) b (hold .fits)))
 
   module _ (own : isOther (t .scan .source) (t .scan .pgn) (f .id) ≡ false) where
-    wait-bad : (p : Open) → Waits (t .scan) (frameBytes f) (f .len) (had o) p → p .announced ≤ 223 → BadTells t (f ∷ fs) (messagesFrom (t .scan .source) (t .scan .pgn) (t .scan .n + 1) (some p) fs)
+    wait-bad : (p : OpenMessage) → Waits (t .scan) (frameBytes f) (f .len) (had o) p → p .announced ≤ 223 → BadTells t (f ∷ fs) (messagesFrom (t .scan .source) (t .scan .pgn) (t .scan .n + 1) (some p) fs)
     unfolding taken
     wait-bad p w g =
         let e : scanFrame (t .scan) f ≡ taken (t .scan) (frameBytes f) = takes (t .scan) f (hold .clear) own (w .clear) in
@@ -424,7 +424,7 @@ module _ (e : Tx) (expected base : ℕ) where
       let r : Faulty f ≡ ranOf e expected = when-true _ _ (ap isFaulty g) (sym (ap faultyOf g)) in
       sym (ap ofChecked r) ∙ rw (n, v)
   ran-stops k vs (by-end g m n v) =
-      let r : OpenAt (e .scan .announced) ≡ ranOf e expected = when-false _ _ (ap isFaulty g) (when-lt _ _ {a = 0} {b = e .scan .missing} m refl) in
+      let r : Open (e .scan .announced) ≡ ranOf e expected = when-false _ _ (ap isFaulty g) (when-lt _ _ {a = 0} {b = e .scan .missing} m refl) in
       sym (ap ofChecked r) ∙ rw (← n, ← v)
 
   -- 33, and then the messages

@@ -1,14 +1,15 @@
--- Laws of the row that separate slices stand for, in the shape of a loop along it. Assumes nothing.
-use Prim.Native.Nat.{ℕ, suc, _+_, _*_, _-_, _<_, _≤_}
+-- Laws of rows: a frame that is read from separate slices, a loop along the row that they stand for, and the first frames of an array. Assumes nothing.
+use Prim.Native.Nat.{ℕ, _+_, _*_, _<_, _≤_, suc, _-_, min}
 use mathlib.Core.List.{List, [], _∷_}
-use mathlib.Core.Path.{_≡_, sym, ap, _∙_}
+use mathlib.Core.Path.{_≡_, refl, sym, ap, _∙_}
+use native.Mathlib.Nat.{add-zero}
 use native.Mathlib.Omega.{arith}
-use lib.ListN.{length}
-use lib.Seq.{sets}
-use Rattle.splitter.specs.Frames.{countIn}
+use lib.ListN.{length, getD, drop, replicate, take}
+use lib.Seq.{getD-drop, sets, take-all, length-take-le}
+use Rattle.base.proofs.Cases.{when-lt, when-ge, less?}
+use Rattle.splitter.specs.Frames.{eight, countIn}
 use Rattle.oracle.specs.Rows.{frameIn, framesIn, rowIn}
 use Rattle.oracle.specs.inner.Frames.{frameOrNone}
-use Rattle.oracle.proofs.SliceLaws.{frame-there}
 use Rattle.oracle.specs.inner.Scan.{scanFrame, scanOf, addedOf, rowOf, bytesLaid, rowsLaid, Counted, Small}
 use Rattle.oracle.specs.inner.Tx.{txOf, txAll}
 use Rattle.splitter.specs.declared.Frame.{Frame}
@@ -16,6 +17,29 @@ use Rattle.oracle.specs.declared.Scan.{Scan}
 use Rattle.oracle.specs.declared.Tx.{Tx}
 use Rattle.oracle.proofs.Grows.{counts, arena-more, list-more}
 use Rattle.oracle.proofs.CheckLaws.{kept-count}
+
+-- ---- a frame that is read from separate slices
+-- eight bytes, one by one
+pub eight-read : (bytes : List ℕ) (at : ℕ)
+    → getD bytes at 0 ∷ getD bytes (at + 1) 0 ∷ getD bytes (at + 2) 0 ∷ getD bytes (at + 3) 0 ∷ getD bytes (at + 4) 0 ∷ getD bytes (at + 5) 0 ∷ getD bytes (at + 6) 0 ∷ getD bytes (at + 7) 0 ∷ [] ≡ eight (drop at bytes)
+unfolding eight
+eight-read bytes at = simp (getD-drop, add-zero)
+
+-- where the row has no frame, and where it has one
+module _ (ids bytes lens : List ℕ) (i : ℕ) {n : ℕ} (e : n ≡ countIn (length ids) (length bytes) (length lens)) where
+  pub frame-there : i < n → frameOrNone ids bytes lens i ≡ frameIn ids bytes lens i
+  unfolding frameOrNone
+  frame-there h = let k : i < countIn (length ids) (length bytes) (length lens) = omega (arith, e) in sym (when-lt _ _ k refl)
+
+  pub none-read : n ≤ i → record { id = 0; «data» = replicate 8 0; len = 0 } ≡ frameOrNone ids bytes lens i
+  unfolding frameOrNone
+  none-read h = let k : countIn (length ids) (length bytes) (length lens) ≤ i = omega (arith, e) in when-ge _ _ k refl
+
+  pub frame-read : {bs : List ℕ} → i < n → bs ≡ eight (drop (8 * i) bytes) → record { id = getD ids i 0; «data» = bs; len = getD lens i 0 } ≡ frameOrNone ids bytes lens i
+  unfolding frameIn
+  frame-read h k = simp k (sym (frame-there h))
+
+pub ruleset reading = (none-read, frame-read)
 
 -- what a fold leaves of the arena and of the list
 abbrev pub arenaLeft : Scan → List ℕ → List Frame → List ℕ
@@ -108,3 +132,17 @@ pub ruleset checking = (tx-none, tx-turn, tx-done, counts-tx, small)
 pub ruleset laying-bytes = (arena-none, arena-turn, arena-done, counts-on, small)
 
 pub ruleset laying-rows = (list-none, list-turn, list-done, counts-on, small)
+
+-- ---- the first n of nine frames, where nine bound n
+module _ (fs : List Frame) (n : ℕ) {m : ℕ} (nine : length fs ≡ 9) (e : m ≡ min n 9) where
+  pub first-there : m ≤ length fs
+  first-there = omega arith
+
+  pub first-many : m ≡ length (take m fs)
+  first-many = sym (length-take-le m fs first-there)
+
+  pub first-same : take m fs ≡ take n fs
+  first-same =
+      less? n 9
+      (λ h. let s : m ≡ n = omega arith in ap (λ (k : ℕ). take k fs) s)
+      (λ h. take-all m fs (omega arith) ∙ sym (take-all n fs (omega arith)))

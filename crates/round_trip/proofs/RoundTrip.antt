@@ -20,10 +20,10 @@ use Rattle.base.proofs.Fills.{length-fill, take-fill}
 use Rattle.base.proofs.Cases.{tested, less?, when-eq, when-ne, when-lt, when-ge, when-true, when-false}
 use Rattle.splitter.specs.Frames.{frameBytes}
 use Rattle.oracle.specs.Ids.{benchSource, benchPgn, isOther}
-use Rattle.oracle.specs.Strict.{oddOf, BenchMessage, Open, FrameOutcome, waits, whole, collectedAt, firstFrame, laterFrame, outcomeOf, before, thenOf, endOf, messagesFrom, messagesOf, payloadsOf, roomFor, deliveredTo}
+use Rattle.oracle.specs.Strict.{oddOf, BenchMessage, OpenMessage, FrameOutcome, waits, whole, collectedAt, firstFrame, laterFrame, outcomeOf, before, thenOf, endOf, messagesFrom, messagesOf, payloadsOf, roomFor, deliveredTo}
 use Rattle.splitter.specs.Bytes.{splitBytes, splitFrame, countOf}
 use Rattle.splitter.specs.Split.{splitFramesFrom, splitFrames}
-use Rattle.round_trip.specs.Sent.{own, under, splitAll, AreSplit}
+use Rattle.round_trip.specs.Sent.{ownFrames, under, splitAll, AreSplit}
 use Rattle.splitter.specs.declared.Frame.{Frame}
 use Rattle.splitter.proofs.FrameLaws.{eight-same}
 use Rattle.splitter.proofs.SplitLaws.{bytes-eight}
@@ -85,7 +85,7 @@ told-sequence q k h g =
     rw (a, b) (omega arith)
 
 -- ---- what strict reassembly makes of the splitter's frame k
-abbrev openAt : BenchMessage → ℕ → Open
+abbrev openAt : BenchMessage → ℕ → OpenMessage
 openAt m k = record { sequence = m .sequence; announced = length (m .payload); index = k; bytes = take (7 * k - 1) (m .payload) }
 
 module _ (n : ℕ) (m : BenchMessage) (sq : m .sequence ≤ 7) (some-bytes : 1 ≤ length (m .payload)) (most : length (m .payload) ≤ 223) where
@@ -140,26 +140,26 @@ module _ (n : ℕ) (m : BenchMessage) (sq : m .sequence ≤ 7) (some-bytes : 1 �
 module _ (id source pgn : ℕ) where
   -- with no message open, and while message m waits for its frame k
   record Returns (fs : List Frame) : Type 0 where
-    shut : (n : ℕ) (ms : List BenchMessage) → AreSplit ms → under id (own source pgn fs) ≡ splitAll id ms → messagesFrom source pgn n none fs ≡ gives ms
+    shut : (n : ℕ) (ms : List BenchMessage) → AreSplit ms → under id (ownFrames source pgn fs) ≡ splitAll id ms → messagesFrom source pgn n none fs ≡ gives ms
     going : (n : ℕ) (m : BenchMessage) (k : ℕ) (later : List BenchMessage) → AreSplit (m ∷ later) → 1 ≤ k → 7 * k - 1 < length (m .payload)
-        → under id (own source pgn fs) ≡ splitFramesFrom id (m .sequence) (m .payload) k (countOf (length (m .payload)) - k) ++ splitAll id later → messagesFrom source pgn n (some (openAt m k)) fs ≡ gives (m ∷ later)
+        → under id (ownFrames source pgn fs) ≡ splitFramesFrom id (m .sequence) (m .payload) k (countOf (length (m .payload)) - k) ++ splitAll id later → messagesFrom source pgn n (some (openAt m k)) fs ≡ gives (m ∷ later)
 
   module _ (f : Frame) (fs : List Frame) where
     abbrev body : Frame
     body = record { id = id; «data» = frameBytes f; len = f .len }
 
-    skip-from : isOther source pgn (f .id) ≡ true → (n : ℕ) (o : Option Open) → messagesFrom source pgn n o (f ∷ fs) ≡ messagesFrom source pgn (n + 1) o fs
+    skip-from : isOther source pgn (f .id) ≡ true → (n : ℕ) (o : Option OpenMessage) → messagesFrom source pgn n o (f ∷ fs) ≡ messagesFrom source pgn (n + 1) o fs
     unfolding messagesFrom
     skip-from h n o = sym (when-true _ _ h refl)
 
     module _ (mine : isOther source pgn (f .id) ≡ false) where
-      take-from : (n : ℕ) (o : Option Open) {x : FrameOutcome} → outcomeOf n o (frameBytes f) (f .len) ≡ x → messagesFrom source pgn n o (f ∷ fs) ≡ thenOf x (λ o′. messagesFrom source pgn (n + 1) o′ fs)
+      take-from : (n : ℕ) (o : Option OpenMessage) {x : FrameOutcome} → outcomeOf n o (frameBytes f) (f .len) ≡ x → messagesFrom source pgn n o (f ∷ fs) ≡ thenOf x (λ o′. messagesFrom source pgn (n + 1) o′ fs)
       unfolding messagesFrom
       take-from n o e = sym (when-false _ _ mine refl) ∙ ap (λ (y : FrameOutcome). thenOf y (λ o′. messagesFrom source pgn (n + 1) o′ fs)) e
 
       -- the frame that comes, and the frames after it
-      module _ (q : ℕ) (p : List ℕ) (k : ℕ) (rest : List Frame) (e : under id (own source pgn (f ∷ fs)) ≡ splitFrame id q p k ∷ rest) where
-        is-it : record { id = id; «data» = frameBytes f; len = f .len } ∷ under id (own source pgn fs) ≡ splitFrame id q p k ∷ rest
+      module _ (q : ℕ) (p : List ℕ) (k : ℕ) (rest : List Frame) (e : under id (ownFrames source pgn (f ∷ fs)) ≡ splitFrame id q p k ∷ rest) where
+        is-it : record { id = id; «data» = frameBytes f; len = f .len } ∷ under id (ownFrames source pgn fs) ≡ splitFrame id q p k ∷ rest
         is-it = sym (owned id source pgn f fs mine) ∙ e
 
         its-bytes : frameBytes f ≡ splitBytes q p k
@@ -170,30 +170,30 @@ module _ (id source pgn : ℕ) where
         unfolding splitFrame
         its-length = ap (λ (l : List Frame). getD l 0 body .len) is-it
 
-        after-it : under id (own source pgn fs) ≡ rest
+        after-it : under id (ownFrames source pgn fs) ≡ rest
         after-it = ap (drop 1) is-it
 
-        its-outcome : (n : ℕ) (o : Option Open) → outcomeOf n o (frameBytes f) (f .len) ≡ outcomeOf n o (splitBytes q p k) 8
+        its-outcome : (n : ℕ) (o : Option OpenMessage) → outcomeOf n o (frameBytes f) (f .len) ≡ outcomeOf n o (splitBytes q p k) 8
         its-outcome n o = rw (its-bytes, its-length)
 
       module _ (back : Returns fs) (n : ℕ) (m : BenchMessage) (later : List BenchMessage) (fits : AreSplit (m ∷ later)) where
-        one-whole : (o : Option Open) → outcomeOf n o (frameBytes f) (f .len) ≡ whole m → under id (own source pgn fs) ≡ splitAll id later → messagesFrom source pgn n o (f ∷ fs) ≡ gives (m ∷ later)
+        one-whole : (o : Option OpenMessage) → outcomeOf n o (frameBytes f) (f .len) ≡ whole m → under id (ownFrames source pgn fs) ≡ splitAll id later → messagesFrom source pgn n o (f ∷ fs) ≡ gives (m ∷ later)
         unfolding thenOf before
         one-whole o e g = take-from n o e ∙ ap (before m) (back .shut (n + 1) later (fits .3) g)
 
-        one-more : (o : Option Open) (k : ℕ) → 1 ≤ k → 7 * k - 1 < length (m .payload) → outcomeOf n o (frameBytes f) (f .len) ≡ waits (openAt m k)
-            → under id (own source pgn fs) ≡ splitFramesFrom id (m .sequence) (m .payload) k (countOf (length (m .payload)) - k) ++ splitAll id later → messagesFrom source pgn n o (f ∷ fs) ≡ gives (m ∷ later)
+        one-more : (o : Option OpenMessage) (k : ℕ) → 1 ≤ k → 7 * k - 1 < length (m .payload) → outcomeOf n o (frameBytes f) (f .len) ≡ waits (openAt m k)
+            → under id (ownFrames source pgn fs) ≡ splitFramesFrom id (m .sequence) (m .payload) k (countOf (length (m .payload)) - k) ++ splitAll id later → messagesFrom source pgn n o (f ∷ fs) ≡ gives (m ∷ later)
         unfolding thenOf
         one-more o k lo hi e g = take-from n o e ∙ back .going (n + 1) m k later fits lo hi g
 
-        first-back : under id (own source pgn (f ∷ fs)) ≡ splitAll id (m ∷ later) → messagesFrom source pgn n none (f ∷ fs) ≡ gives (m ∷ later)
+        first-back : under id (ownFrames source pgn (f ∷ fs)) ≡ splitAll id (m ∷ later) → messagesFrom source pgn n none (f ∷ fs) ≡ gives (m ∷ later)
         unfolding splitAll
         first-back e =
             let p : List ℕ = m .payload in
             let c : ℕ = length (m .payload) / 7 in
-            let e′ : under id (own source pgn (f ∷ fs)) ≡ splitFrame id (m .sequence) p 0 ∷ (splitFramesFrom id (m .sequence) p 1 c ++ splitAll id later) = e ∙ ap (λ (j : ℕ). splitFramesFrom id (m .sequence) p 0 j ++ splitAll id later) (add-one c) in
+            let e′ : under id (ownFrames source pgn (f ∷ fs)) ≡ splitFrame id (m .sequence) p 0 ∷ (splitFramesFrom id (m .sequence) p 1 c ++ splitAll id later) = e ∙ ap (λ (j : ℕ). splitFramesFrom id (m .sequence) p 0 j ++ splitAll id later) (add-one c) in
             let x : outcomeOf n none (frameBytes f) (f .len) ≡ outcomeOf n none (splitBytes (m .sequence) p 0) 8 = its-outcome (m .sequence) p 0 (splitFramesFrom id (m .sequence) p 1 c ++ splitAll id later) e′ n none in
-            let g : under id (own source pgn fs) ≡ splitFramesFrom id (m .sequence) p 1 c ++ splitAll id later = after-it (m .sequence) p 0 (splitFramesFrom id (m .sequence) p 1 c ++ splitAll id later) e′ in
+            let g : under id (ownFrames source pgn fs) ≡ splitFramesFrom id (m .sequence) p 1 c ++ splitAll id later = after-it (m .sequence) p 0 (splitFramesFrom id (m .sequence) p 1 c ++ splitAll id later) e′ in
             less? 6 (length (m .payload))
             (λ h.
             let z : length (m .payload) / 7 ≡ countOf (length (m .payload)) - 1 = omega arith in
@@ -202,15 +202,15 @@ module _ (id source pgn : ℕ) where
             let z : length (m .payload) / 7 ≡ 0 = omega arith in
             one-whole none (x ∙ first-whole n m (fits .0) (fits .1) (fits .2) h) (g ∙ ap (λ (j : ℕ). splitFramesFrom id (m .sequence) p 1 j ++ splitAll id later) z))
 
-        later-back : (k : ℕ) → 1 ≤ k → 7 * k - 1 < length (m .payload) → under id (own source pgn (f ∷ fs)) ≡ splitFramesFrom id (m .sequence) (m .payload) k (countOf (length (m .payload)) - k) ++ splitAll id later
+        later-back : (k : ℕ) → 1 ≤ k → 7 * k - 1 < length (m .payload) → under id (ownFrames source pgn (f ∷ fs)) ≡ splitFramesFrom id (m .sequence) (m .payload) k (countOf (length (m .payload)) - k) ++ splitAll id later
             → messagesFrom source pgn n (some (openAt m k)) (f ∷ fs) ≡ gives (m ∷ later)
         later-back k lo hi e =
             let p : List ℕ = m .payload in
             let c : ℕ = countOf (length (m .payload)) - (k + 1) in
             let s : countOf (length (m .payload)) - k ≡ suc (countOf (length (m .payload)) - (k + 1)) = omega arith in
-            let e′ : under id (own source pgn (f ∷ fs)) ≡ splitFrame id (m .sequence) p k ∷ (splitFramesFrom id (m .sequence) p (suc k) c ++ splitAll id later) = e ∙ ap (λ (j : ℕ). splitFramesFrom id (m .sequence) p k j ++ splitAll id later) s in
+            let e′ : under id (ownFrames source pgn (f ∷ fs)) ≡ splitFrame id (m .sequence) p k ∷ (splitFramesFrom id (m .sequence) p (suc k) c ++ splitAll id later) = e ∙ ap (λ (j : ℕ). splitFramesFrom id (m .sequence) p k j ++ splitAll id later) s in
             let x : outcomeOf n (some (openAt m k)) (frameBytes f) (f .len) ≡ outcomeOf n (some (openAt m k)) (splitBytes (m .sequence) p k) 8 = its-outcome (m .sequence) p k (splitFramesFrom id (m .sequence) p (suc k) c ++ splitAll id later) e′ n (some (openAt m k)) in
-            let g : under id (own source pgn fs) ≡ splitFramesFrom id (m .sequence) p (suc k) c ++ splitAll id later = after-it (m .sequence) p k (splitFramesFrom id (m .sequence) p (suc k) c ++ splitAll id later) e′ in
+            let g : under id (ownFrames source pgn fs) ≡ splitFramesFrom id (m .sequence) p (suc k) c ++ splitAll id later = after-it (m .sequence) p k (splitFramesFrom id (m .sequence) p (suc k) c ++ splitAll id later) e′ in
             less? (7 * (k + 1) - 1) (length (m .payload))
             (λ h. one-more (some (openAt m k)) (k + 1) (omega arith) h (x ∙ later-waits n m (fits .0) (fits .1) (fits .2) k lo hi h) (g ∙ ap (λ (j : ℕ). splitFramesFrom id (m .sequence) p j c ++ splitAll id later) (sym (add-one k))))
             (λ h.
@@ -228,13 +228,13 @@ module _ (id source pgn : ℕ) where
   end-shut n [] e = refl
   end-shut n (m ∷ ms) e = let z : countOf (length (m .payload)) - 0 ≡ countOf (length (m .payload)) = omega arith in absurd (none-left (m .sequence) (m .payload) 0 (countOf (length (m .payload))) (splitAll id ms) (omega arith) (e ∙ ap (λ (j : ℕ). splitFramesFrom id (m .sequence) (m .payload) 0 j ++ splitAll id ms) (sym z)))
 
-  row-shut : (f : Frame) (fs : List Frame) → Returns fs → isOther source pgn (f .id) ≡ false → (n : ℕ) (ms : List BenchMessage) → AreSplit ms → under id (own source pgn (f ∷ fs)) ≡ splitAll id ms → messagesFrom source pgn n none (f ∷ fs) ≡ gives ms
+  row-shut : (f : Frame) (fs : List Frame) → Returns fs → isOther source pgn (f .id) ≡ false → (n : ℕ) (ms : List BenchMessage) → AreSplit ms → under id (ownFrames source pgn (f ∷ fs)) ≡ splitAll id ms → messagesFrom source pgn n none (f ∷ fs) ≡ gives ms
   unfolding splitAll
-  row-shut f fs back h n [] fits e = let z : suc (length (under id (own source pgn fs))) ≡ 0 = ap length (sym (owned id source pgn f fs h) ∙ e) in absurd (omega arith)
+  row-shut f fs back h n [] fits e = let z : suc (length (under id (ownFrames source pgn fs))) ≡ 0 = ap length (sym (owned id source pgn f fs h) ∙ e) in absurd (omega arith)
   row-shut f fs back h n (m ∷ ms) fits e = first-back f fs h back n m ms fits e
 
   returns : (fs : List Frame) → Returns fs
-  unfolding own under
+  unfolding ownFrames under
   returns [] = record {
     shut = λ n ms fits e. end-shut n ms e;
     going = λ n m k later fits lo hi e. absurd (none-left (m .sequence) (m .payload) k (countOf (length (m .payload))) (splitAll id later) (omega arith) e);
@@ -250,7 +250,7 @@ module _ (id source pgn : ℕ) where
         (λ h. later-back f fs h (returns fs) n m later fits k lo hi e);
   }
 
-pub returned : (fs : List Frame) (source pgn : ℕ) (ms : List BenchMessage) → AreSplit ms → (id : ℕ) → under id (own source pgn fs) ≡ splitAll id ms → messagesOf fs source pgn ≡ gives ms
+pub returned : (fs : List Frame) (source pgn : ℕ) (ms : List BenchMessage) → AreSplit ms → (id : ℕ) → under id (ownFrames source pgn fs) ≡ splitAll id ms → messagesOf fs source pgn ≡ gives ms
 returned fs source pgn ms fits id e = returns id source pgn fs .shut 0 ms fits e
 
 -- ---- the splitter's frames of one payload, as they are
@@ -259,12 +259,12 @@ mine : (id : ℕ) → isOther (benchSource id) (benchPgn id) id ≡ false
 unfolding isOther
 mine id = sym (when-eq _ _ {a = id % 256} refl (when-eq _ _ {a = benchPgn id} refl refl))
 
-frames-under : (id q : ℕ) (p : List ℕ) (n k : ℕ) → under id (own (benchSource id) (benchPgn id) (splitFramesFrom id q p k n)) ≡ splitFramesFrom id q p k n
-unfolding under own splitFrame
+frames-under : (id q : ℕ) (p : List ℕ) (n k : ℕ) → under id (ownFrames (benchSource id) (benchPgn id) (splitFramesFrom id q p k n)) ≡ splitFramesFrom id q p k n
+unfolding under ownFrames splitFrame
 frames-under id q p zero k = refl
 frames-under id q p (suc n) k =
     owned id (benchSource id) (benchPgn id) (splitFrame id q p k) (splitFramesFrom id q p (suc k) n) (mine id)
-    ∙ ap (λ (bs : List ℕ). record { id = id; «data» = bs; len = 8 } ∷ under id (own (benchSource id) (benchPgn id) (splitFramesFrom id q p (suc k) n))) (eight-same (splitBytes q p k) (bytes-eight q p k))
+    ∙ ap (λ (bs : List ℕ). record { id = id; «data» = bs; len = 8 } ∷ under id (ownFrames (benchSource id) (benchPgn id) (splitFramesFrom id q p (suc k) n))) (eight-same (splitBytes q p k) (bytes-eight q p k))
     ∙ ap (λ (l : List Frame). splitFrame id q p k ∷ l) (frames-under id q p n (suc k))
 
 module _ (id sequence : ℕ) (p : List ℕ) (sq : sequence ≤ 7) (some-bytes : 1 ≤ length p) (most : length p ≤ 223) where

@@ -10,9 +10,9 @@ use Rattle.splitter.specs.Split.{splitFrames}
 use Rattle.splitter.specs.declared.Frame.{Frame}
 
 -- the frames of a row that strict reassembly does not skip, in order
-unfoldable pub own : ℕ → ℕ → List Frame → List Frame
-own source pgn [] = []
-own source pgn (f ∷ fs) = pick (isOther source pgn (f .id)) (own source pgn fs) (f ∷ own source pgn fs)
+unfoldable pub ownFrames : ℕ → ℕ → List Frame → List Frame
+ownFrames source pgn [] = []
+ownFrames source pgn (f ∷ fs) = pick (isOther source pgn (f .id)) (ownFrames source pgn fs) (f ∷ ownFrames source pgn fs)
 
 -- the same bytes and lengths under one identifier
 unfoldable pub under : ℕ → List Frame → List Frame

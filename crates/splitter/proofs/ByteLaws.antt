@@ -10,7 +10,7 @@ use Rattle.base.specs.Lists.{fill}
 use Rattle.base.proofs.Fills.{getD-in, pasted, fill-turn, fill-done}
 use Rattle.base.proofs.Cases.{when-eq, when-ne}
 use Rattle.splitter.specs.Bytes.{splitBytes, splitFrame}
-use Rattle.splitter.specs.inner.OneFrame.{jobFrame}
+use Rattle.splitter.specs.inner.Job.{jobFrame}
 use Rattle.splitter.specs.declared.split_frame.Job.{Job}
 
 -- ---- a byte of the payload, or the filling

@@ -1,7 +1,6 @@
 pub mod FrameLaws
 pub mod Types
 pub mod ByteLaws
-pub mod SplitTypes
 pub mod SplitLaws
 pub mod Walked
 pub mod Unique

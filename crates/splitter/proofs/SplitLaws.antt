@@ -15,12 +15,11 @@ use mathlib.Core.Bool.{Bool, true, false}
 use Rattle.base.specs.Answer.{Answer, gives, refuses, counted}
 use Rattle.splitter.specs.Frames.{frameBytes, countIn}
 use Rattle.splitter.specs.Bytes.{splitBytes, splitFrame, countOf}
-use Rattle.splitter.specs.inner.OneFrame.{toldOf, jobFrame}
+use Rattle.splitter.specs.inner.Job.{toldOf, jobFrame, isUnsplit, afterOne, jobFrames, IsJobOf}
 use Rattle.splitter.specs.Split.{splitFramesFrom, splitFrames, splitOf, ofSplit, rowWith, idsOf, bytesAll, lensOf, idsWith, bytesWith, lensWith, SplitsInto, splitIn, SplitsIntoSlices}
 use Rattle.splitter.specs.declared.Split.the-variants.{Frames, BadSplit, Short}
 use Rattle.base.proofs.Laying.{sets-append}
 use Rattle.splitter.proofs.FrameLaws.{eight-same, eight-more}
-use Rattle.splitter.specs.inner.Job.{isUnsplit, afterOne, jobFrames, IsJobOf}
 use Rattle.splitter.specs.declared.split_frame.Job.{Job}
 use Rattle.splitter.specs.declared.Frame.{Frame}
 use Rattle.splitter.specs.declared.Split.{Split}
@@ -122,7 +121,7 @@ module _ (id sequence : ℕ) (p : List ℕ) (rows : List Frame) {s : Split} {b :
 
   pub unsplit-stops : b ≡ true → SplitsInto id sequence p rows s rows
   unfolding rowWith
-  unsplit-stops e = record { answer = split-told id sequence p (length rows) es eb; laid = split-keeps id sequence p (length rows) es eb rowWith rows (λ k vs. refl) e }
+  unsplit-stops e = record { answer = split-told id sequence p (length rows) es eb; row-after = split-keeps id sequence p (length rows) es eb rowWith rows (λ k vs. refl) e }
 
   pub split-goes-on : {j : Job} {n : ℕ} {rows′ : List Frame} → b ≡ false → IsJobOf id sequence p j → n ≡ countOf (length p) → rows′ ≡ sets rows 0 (jobFrames n j) → SplitsInto id sequence p rows s rows′
   unfolding rowWith
@@ -130,7 +129,7 @@ module _ (id sequence : ℕ) (p : List ℕ) (rows : List Frame) {s : Split} {b :
       let g : told ≡ gives (splitFrames id sequence p) = gave id sequence p (length rows) es eb e .0 in
       record {
         answer = split-told id sequence p (length rows) es eb;
-        laid = er ∙ ap (sets rows 0) (job-frames id sequence p (length rows) es eb e made en) ∙ sym (ap (λ (x : Answer (List Frame)). rowWith x rows) g);
+        row-after = er ∙ ap (sets rows 0) (job-frames id sequence p (length rows) es eb e made en) ∙ sym (ap (λ (x : Answer (List Frame)). rowWith x rows) g);
       }
 
 -- into separate slices
@@ -148,9 +147,9 @@ module _ (id sequence : ℕ) (p ids bytes lens : List ℕ) {m : ℕ} (em : m ≡
   unfolding idsWith bytesWith lensWith
   rows-stop e = record {
     answer = split-told id sequence p space es′ eb;
-    named = split-keeps id sequence p space es′ eb idsWith ids (λ k vs. refl) e;
-    filled = split-keeps id sequence p space es′ eb bytesWith bytes (λ k vs. refl) e;
-    measured = split-keeps id sequence p space es′ eb lensWith lens (λ k vs. refl) e;
+    ids-after = split-keeps id sequence p space es′ eb idsWith ids (λ k vs. refl) e;
+    bytes-after = split-keeps id sequence p space es′ eb bytesWith bytes (λ k vs. refl) e;
+    lens-after = split-keeps id sequence p space es′ eb lensWith lens (λ k vs. refl) e;
   }
 
   pub rows-small : b ≡ false → length p ≤ 223
@@ -168,9 +167,9 @@ module _ (id sequence : ℕ) (p ids bytes lens : List ℕ) {m : ℕ} (em : m ≡
       let f : jobFrames n j ≡ splitFrames id sequence p = job-frames id sequence p space es′ eb e made en in
       record {
         answer = split-told id sequence p space es′ eb;
-        named = ei ∙ ap (λ (l : List Frame). sets ids 0 (idsOf l)) f ∙ sym (ap (λ (x : Answer (List Frame)). idsWith x ids) g);
-        filled = eb′ ∙ ap (λ (l : List Frame). sets bytes 0 (bytesAll l)) f ∙ sym (ap (λ (x : Answer (List Frame)). bytesWith x bytes) g);
-        measured = el ∙ ap (λ (l : List Frame). sets lens 0 (lensOf l)) f ∙ sym (ap (λ (x : Answer (List Frame)). lensWith x lens) g);
+        ids-after = ei ∙ ap (λ (l : List Frame). sets ids 0 (idsOf l)) f ∙ sym (ap (λ (x : Answer (List Frame)). idsWith x ids) g);
+        bytes-after = eb′ ∙ ap (λ (l : List Frame). sets bytes 0 (bytesAll l)) f ∙ sym (ap (λ (x : Answer (List Frame)). bytesWith x bytes) g);
+        lens-after = el ∙ ap (λ (l : List Frame). sets lens 0 (lensOf l)) f ∙ sym (ap (λ (x : Answer (List Frame)). lensWith x lens) g);
       }
 
 pub bytes-eight : (sequence : ℕ) (p : List ℕ) (index : ℕ) → length (splitBytes sequence p index) ≡ 8

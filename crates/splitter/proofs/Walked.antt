@@ -12,7 +12,7 @@ use borrow.Kind.MutSlice.{pMutS}
 use Rattle.walk.proofs.Walk as walk
 use Rattle.walk.proofs.Walk.{given, result, ty}
 use Rattle.splitter.specs.inner.Job.{jobEnd, jobFrames}
-use Rattle.splitter.proofs.SplitTypes.{job}
+use Rattle.splitter.proofs.Types.{job}
 use Rattle.splitter.proofs.Types.{frame}
 use Rattle.splitter.proofs.lay.Symbol as lay-def
 use Rattle.splitter.proofs.lay.Met as lay-thm

@@ -45,7 +45,7 @@ rowWith (refuses k vs) row = row
 -- what `fast_packet_frames` promises: "Its answer is the number of frames", and what the lent row becomes
 pub record SplitsInto (id sequence : ℕ) (payload : List ℕ) (row : List Frame) (r : Split) (row′ : List Frame) : Type 0 where
   pub answer : ofSplit r ≡ counted (splitOf id sequence payload (length row))
-  pub laid : row′ ≡ rowWith (splitOf id sequence payload (length row)) row
+  pub row-after : row′ ≡ rowWith (splitOf id sequence payload (length row)) row
 
 -- ---- the same in separate slices: identifiers, eight bytes a frame, lengths
 unfoldable pub idsOf : List Frame → List ℕ
@@ -79,6 +79,6 @@ splitIn id sequence payload ids bytes lens = splitOf id sequence payload (countI
 -- what `fast_packet_rows` promises: the answer, and what each lent slice becomes
 pub record SplitsIntoSlices (id sequence : ℕ) (payload ids bytes lens : List ℕ) (r : Split) (ids′ bytes′ lens′ : List ℕ) : Type 0 where
   pub answer : ofSplit r ≡ counted (splitIn id sequence payload ids bytes lens)
-  pub named : ids′ ≡ idsWith (splitIn id sequence payload ids bytes lens) ids
-  pub filled : bytes′ ≡ bytesWith (splitIn id sequence payload ids bytes lens) bytes
-  pub measured : lens′ ≡ lensWith (splitIn id sequence payload ids bytes lens) lens
+  pub ids-after : ids′ ≡ idsWith (splitIn id sequence payload ids bytes lens) ids
+  pub bytes-after : bytes′ ≡ bytesWith (splitIn id sequence payload ids bytes lens) bytes
+  pub lens-after : lens′ ≡ lensWith (splitIn id sequence payload ids bytes lens) lens

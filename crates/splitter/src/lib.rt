@@ -9,6 +9,7 @@ ghost use Rattle.splitter.specs.Split.{SplitsInto, idsOf, bytesAll, lens
 ghost use Rattle.splitter.specs.inner.Job.{isUnsplit, IsJobOf, afterOne, jobEnd, jobFrames};
 
 mod bench_frames;
+mod by_value;
 mod split_frame;
 
 use crate::split_frame::Job;
@@ -21,6 +22,8 @@ pub use bench_frames::INDICES;
 pub use bench_frames::MAX_FAST_PACKET_PAYLOAD;
 pub use bench_frames::SEQUENCES;
 pub use bench_frames::frame_count;
+pub use by_value::ROW_FRAMES;
+pub use by_value::fast_packet_frames_into;
 
 // A captured or injected frame: identifier, bytes and length.
 pub struct Frame {
@@ -34,6 +37,12 @@ pub enum Split {
     Frames(usize),
     BadSplit,
     Short,
+}
+
+// The splitter's answer and the row that it wrote to, by value.
+pub struct SplitRow {
+    pub split: Split,
+    pub row: [Frame; ROW_FRAMES],
 }
 
 fn unsplit(s: Split) -> bool

@@ -4,7 +4,7 @@ ghost use Prim.Native.Nat.{_-_, _≤_};
 ghost use mathlib.Core.List.{_++_};
 ghost use lib.ListN.{take, drop, getD};
 ghost use Rattle.base.specs.Lists.{fill};
-ghost use Rattle.splitter.specs.inner.OneFrame.{toldOf, jobFrame};
+ghost use Rattle.splitter.specs.inner.Job.{toldOf, jobFrame};
 use crate::Frame;
 use crate::Split;
 use crate::bench_frames::FILL;

@@ -28,7 +28,7 @@ use Rattle.walk.proofs.Walk as walk
 use Rattle.walk.proofs.Walk.{Bench, bench, result, ty, mirOf, whole-of, next, gone, returns, skips, branch, sets as assigns, copies, calls, lends, slices, begins, ends, forgets, comes-back, yields, room, empty, scalar, number, same}
 use Rattle.splitter.specs.Split.{SplitsInto}
 use Rattle.splitter.specs.declared.Frame.{Frame}
-use Rattle.splitter.proofs.SplitTypes.{job, split}
+use Rattle.splitter.proofs.Types.{job, split}
 use Rattle.splitter.proofs.Types.{frame}
 use Rattle.splitter.proofs.SplitLaws.{unsplit-stops, split-small, split-room, split-goes-on}
 use Rattle.splitter.proofs.Walked.{lay-ps, lay-asks, lay-says, knows-lay}

@@ -4,10 +4,8 @@ use mathlib.Core.Path.{refl}
 use contract.Running.{tablesOf}
 use borrow.Fn.World.{World}
 use Rattle.walk.proofs.Lays.{lays}
-use Rattle.splitter.specs.inner.OneFrame.{jobFrame}
-use Rattle.splitter.specs.inner.Job.{afterOne, jobFrames, jobEnd}
-use Rattle.splitter.proofs.SplitTypes.{job}
-use Rattle.splitter.proofs.Types.{frame}
+use Rattle.splitter.specs.inner.Job.{jobFrame, afterOne, jobFrames, jobEnd}
+use Rattle.splitter.proofs.Types.{job, frame}
 use Rattle.splitter.proofs.split_frame.frame_of.Reads as make-reads
 use Rattle.splitter.proofs.split_frame.frame_of.Symbol as make-def
 use Rattle.splitter.proofs.split_frame.frame_of.Met as make-thm

@@ -17,8 +17,8 @@ hf-fast-packet-frames-spec =
     (λ c. search needs)
     (λ c. record {
       told = c .split-number .ensures ∙ ap codeOf (c .before .before .before .before .before .before .before .before .fast-packet-rows .ensures .answer);
-      named = c .before .before .before .before .before .before .before .before .fast-packet-rows .ensures .named;
-      filled = c .before .before .before .before .before .before .before .before .fast-packet-rows .ensures .filled;
-      measured = c .before .before .before .before .before .before .before .before .fast-packet-rows .ensures .measured;
+      ids-after = c .before .before .before .before .before .before .before .before .fast-packet-rows .ensures .ids-after;
+      bytes-after = c .before .before .before .before .before .before .before .before .fast-packet-rows .ensures .bytes-after;
+      lens-after = c .before .before .before .before .before .before .before .before .fast-packet-rows .ensures .lens-after;
       given = c .before .split-count .ensures ∙ ap valueOf (c .before .before .before .before .before .before .before .before .fast-packet-rows .ensures .answer);
     }))

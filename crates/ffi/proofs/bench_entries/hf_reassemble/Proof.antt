@@ -14,6 +14,6 @@ hf-reassemble-spec =
     (λ c. search needs)
     (λ c. record {
       answer = told-so (c .before .before .before .before .before .before .reassemble-rows .ensures .answer) (c .told-reassembled .ensures);
-      listed = c .before .before .before .before .before .before .reassemble-rows .ensures .listed;
-      laid = c .before .before .before .before .before .before .reassemble-rows .ensures .laid;
+      list-after = c .before .before .before .before .before .before .reassemble-rows .ensures .list-after;
+      arena-after = c .before .before .before .before .before .before .reassemble-rows .ensures .arena-after;
     }))

@@ -1,6 +1,6 @@
 -- `claim_after` meets its contract: each variant is its clause. Assumes nothing.
 use borrow.Author.Needs.{needs}
-use Rattle.oracle.proofs.IdLaws.{claiming}
+use Rattle.oracle.proofs.CheckLaws.{claiming}
 use Rattle.oracle.proofs.bench_ids.claim_after.Statement.{statement}
 use Rattle.oracle.proofs.bench_ids.claim_after.Tie as tie
 

@@ -1,6 +1,6 @@
 -- `messages::is_due` meets its contract: the facts on each way out pick the law of that case. Assumes nothing.
 use borrow.Author.Needs.{needs}
-use Rattle.oracle.proofs.VerdictLaws.{due}
+use Rattle.oracle.proofs.CheckLaws.{due}
 use Rattle.oracle.proofs.messages.is_due.Statement.{statement}
 use Rattle.oracle.proofs.messages.is_due.Tie as tie
 

@@ -4,7 +4,7 @@ use mathlib.Core.Path.{_≡_}
 use borrow.Author.Needs.{needs}
 use lib.ListN.{length, drop, take}
 use Rattle.oracle.specs.Check.{offFrom}
-use Rattle.oracle.proofs.VerdictLaws.{offness}
+use Rattle.oracle.proofs.CheckLaws.{offness}
 use Rattle.oracle.proofs.messages.off_pattern.Statement.{statement}
 use Rattle.oracle.proofs.messages.off_pattern.Tie as tie
 

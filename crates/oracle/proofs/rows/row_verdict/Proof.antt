@@ -1,6 +1,6 @@
 -- `rows::row_verdict` meets its contract: each variant is its clause. Assumes nothing.
 use borrow.Author.Needs.{needs}
-use Rattle.oracle.proofs.VerdictLaws.{standing}
+use Rattle.oracle.proofs.StrictLaws.{standing}
 use Rattle.oracle.proofs.rows.row_verdict.Statement.{statement}
 use Rattle.oracle.proofs.rows.row_verdict.Tie as tie
 

@@ -1,6 +1,6 @@
 -- `eight_in` meets its contract: the facts on each way out pick the law of that case. Assumes nothing.
 use borrow.Author.Needs.{needs}
-use Rattle.oracle.proofs.SliceLaws.{eight-read}
+use Rattle.oracle.proofs.RowLaws.{eight-read}
 use Rattle.oracle.proofs.slice_rows.eight_in.Statement.{statement}
 use Rattle.oracle.proofs.slice_rows.eight_in.Tie as tie
 

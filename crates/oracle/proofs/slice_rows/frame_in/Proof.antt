@@ -1,6 +1,6 @@
 -- `frame_in` meets its contract: the facts on each way out pick the law of that case. Assumes nothing.
 use borrow.Author.Needs.{needs}
-use Rattle.oracle.proofs.SliceLaws.{reading}
+use Rattle.oracle.proofs.RowLaws.{reading}
 use Rattle.oracle.proofs.slice_rows.frame_in.Statement.{statement}
 use Rattle.oracle.proofs.slice_rows.frame_in.Tie as tie
 

@@ -1,7 +1,7 @@
 -- `split_of` meets its contract: the facts on each way out pick the law of that case. Assumes nothing.
 use borrow.Author.Needs.{needs}
 use Rattle.base.proofs.Cases.{cases}
-use Rattle.splitter.specs.inner.OneFrame.{toldOf}
+use Rattle.splitter.specs.inner.Job.{toldOf}
 use Rattle.splitter.proofs.split_frame.split_of.Statement.{statement}
 use Rattle.splitter.proofs.split_frame.split_of.Tie as tie
 
