@@ -144,6 +144,13 @@ fn open_and_no_room() {
     );
 }
 
+fn delivered() {
+    two_frames(
+        b"one message of seven bytes: ",
+        b"\x00\x07\x01\x02\x03\x04\x05\x06\x01\x07\xFF\xFF\xFF\xFF\xFF\xFF",
+    );
+}
+
 fn splits() {
     split(b"splitting nothing: ", b"");
     split(b"splitting seven bytes: ", b"1234567");
@@ -158,6 +165,7 @@ pub(crate) fn refusals() {
     sizes_and_strays();
     order_and_padding();
     open_and_no_room();
+    delivered();
     splits();
 }
 
