@@ -6,7 +6,7 @@ use Rattle.base.proofs.Cases.{determined}
 use Rattle.session.specs.declared.Head.{Head}
 use Rattle.session.specs.declared.Counters.{Counters}
 use Rattle.session.specs.declared.Mark.{Mark}
-use Rattle.session.specs.Rules.{silence, base, poolLimit}
+use Rattle.session.specs.Rules.{base, poolLimit}
 use Rattle.session.specs.Heads.{freshHead}
 use Rattle.session.specs.Counting.{raised}
 use Rattle.session.specs.declared.Heard.{Heard}
@@ -15,16 +15,13 @@ use Rattle.session.specs.inner.Search.{nothingFound, looked, placeOf, wi
 use Rattle.session.specs.declared.Plan.{Plan}
 use Rattle.session.specs.inner.Plan.{planOf}
 
--- ---- silence, fresh heads, counters
+-- ---- fresh heads and counters
 
 pub count-unique : (counters : Counters) (mark : Mark) (r s : Counters) → r ≡ raised mark counters → s ≡ raised mark counters → r ≡ s
 count-unique counters mark r s = determined
 
 pub fresh-head-unique : (r s : Head) → r ≡ freshHead → s ≡ freshHead → r ≡ s
 fresh-head-unique r s = determined
-
-pub is-silent-unique : (time last : ℕ) (r s : Bool) → r ≡ silence time last → s ≡ silence time last → r ≡ s
-is-silent-unique time last r s = determined
 
 -- ---- what a frame finds
 

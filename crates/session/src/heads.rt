@@ -14,7 +14,7 @@ fn silence_of(time: u64, last: u64) -> u64
 }
 
 // Whether a session whose latest frame came at `last` is silent at `time`.
-pub fn is_silent(time: u64, last: u64) -> bool
+pub(crate) fn is_silent(time: u64, last: u64) -> bool
     ensures { λ r. ⌜ r ≡ silence time last ⌝ }
 {
     SESSION_TIMEOUT_MS < silence_of(time, last)

@@ -11,7 +11,6 @@ mod plans;
 
 pub use counting::count;
 pub use heads::fresh_head;
-pub use heads::is_silent;
 pub use looks::look;
 pub use places::nothing_found;
 pub use places::place_for;

@@ -9,7 +9,7 @@ use crate::FIRST_FRAME_PAYLOAD;
 use crate::Found;
 use crate::Head;
 use crate::Heard;
-use crate::is_silent;
+use crate::heads::is_silent;
 use fast_packet::MAX_FAST_PACKET_PAYLOAD;
 
 fn either(b: bool, x: usize, y: usize) -> usize

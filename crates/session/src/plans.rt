@@ -15,7 +15,7 @@ use crate::Mark;
 use crate::Plan;
 use crate::frames::index_of;
 use crate::frames::size_of;
-use crate::is_silent;
+use crate::heads::is_silent;
 use crate::moved::copied_head;
 use crate::moved::is_in_turn;
 use crate::moved::opened_head;
