@@ -22,15 +22,19 @@ impl CanId {
     pub fn builder(pgn: u32, source_address: u8) -> CanIdBuilder {
         CanIdBuilder::new(pgn, source_address)
     }
+    #[inline]
     pub fn priority(&self) -> u8 {
         raw::hf_can_id_priority(self.0)
     }
+    #[inline]
     pub fn pgn(&self) -> u32 {
         raw::hf_can_id_pgn(self.0)
     }
+    #[inline]
     pub fn destination(&self) -> Option<u8> {
         u8::try_from(raw::hf_can_id_destination(self.0)).ok()
     }
+    #[inline]
     pub fn source_address(&self) -> u8 {
         raw::hf_can_id_source_address(self.0)
     }
