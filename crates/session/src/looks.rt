@@ -52,7 +52,8 @@ pub fn look(h: Head, s: Found, i: usize, heard: Heard) -> Found
 {
     let silent = is_silent(heard.now_ms, h.last_seen_ms);
     let keyed = has_key(h, heard);
-    let vacant = !h.in_progress | silent;
+    let idle = !h.in_progress;
+    let vacant = idle | silent;
     Found {
         bad: is_impossible(h) | s.bad,
         key: either(keyed, i, s.key),

@@ -1,4 +1,4 @@
--- `heads::look` meets its contract: what the seven calls gave is put together by one law. Assumes nothing.
+-- `looks::look` meets its contract: what the seven calls gave is put together by one law. Assumes nothing.
 use borrow.Author.Needs.{needs}
 use Rattle.session.proofs.SearchLaws.{look-is}
 use Rattle.session.proofs.looks.look.Statement.{statement}
