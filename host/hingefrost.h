@@ -53,7 +53,7 @@ extern "C" {
 
 /* The kinds of an answer that is no refusal, of a single call and of a batch's row. */
 #define HF_END 100               /* no frame is left */
-#define HF_IGNORED 101           /* a frame was heard, and nothing came of it but a counter */
+#define HF_IGNORED 101           /* a frame was heard and not taken: a counter says why; one out of turn also ended its session */
 #define HF_FRAGMENT_CONSUMED 102 /* it was taken, and more of its message is missing */
 #define HF_MESSAGE_COMPLETE 103  /* it brought a message to its end */
 

@@ -13,7 +13,7 @@ pub struct Pool {
 #[allow(clippy::large_enum_variant)]
 #[derive(Clone, Debug, PartialEq, Eq)]
 pub enum ProcessResult {
-    /// Nothing came of the frame but a counter.
+    /// The frame was not taken, and a counter says why; a continuation out of turn also ended its session.
     Ignored,
     /// The frame was taken, and more of its message is missing.
     FragmentConsumed,
