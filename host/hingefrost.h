@@ -8,6 +8,9 @@
  * A refusal changes no lent memory but what the answer itself is put into (*value, *size, *length, a message's length, `counts`,
  * `values`, *frames, and of the next frame `data`, `frame` and the progress that it makes).
  *
+ * The PGN list is lent to each call that looks into it: any order; empty and repeated are allowed. Nothing is asked before a frame
+ * is received: the answer says whether its PGN is listed.
+ *
  * Pointers. A slice is a pointer and a length, in elements. A name with a number in brackets points to exactly that many
  * elements. All of it is the caller's, aligned as its type is.
  * - A slice of length 0 may have any pointer, NULL too. No other pointer may be NULL.
@@ -19,7 +22,6 @@
 #ifndef HINGEFROST_H
 #define HINGEFROST_H
 
-#include <stdbool.h>
 #include <stddef.h>
 #include <stdint.h>
 
@@ -51,11 +53,16 @@ extern "C" {
 
 #define HF_OK 0 /* done; of the next frame: here it is */
 
-/* The kinds of an answer that is no refusal, of a single call and of a batch's row. */
+/* The kinds of an answer that is no refusal, of a single call and of a batch's row. 104 to 107 say why a frame was not taken, and which
+ * counter went up by one (at its end it stays). 101 was HF_IGNORED, which said all four: it is given no more. */
 #define HF_END 100               /* no frame is left */
-#define HF_IGNORED 101           /* a frame was heard and not taken: a counter says why; one out of turn also ended its session */
-#define HF_FRAGMENT_CONSUMED 102 /* it was taken, and more of its message is missing */
-#define HF_MESSAGE_COMPLETE 103  /* it brought a message to its end */
+#define HF_FRAGMENT_CONSUMED 102 /* the frame was taken, and more of its message is missing */
+#define HF_MESSAGE_COMPLETE 103  /* the frame brought a message to its end */
+#define HF_NOT_LISTED 104        /* the list lent to the call does not have the PGN; HF_UNKNOWN_PGN went up */
+#define HF_REJECTED 105          /* a first frame announced 0 or more than 223 bytes; HF_REJECTED_FRAMES went up */
+#define HF_POOL_FULL 106         /* a first frame began a message of 7 bytes or more, and no slot was free or had its key; HF_POOL_EXHAUSTED went up */
+#define HF_LOST 107              /* a continuation found no live session (a late one stays as it is), or it came out of turn, which ended its
+                                  * session; HF_LOST_FRAGMENTS went up */
 
 /* Refusals; docs/REFUSALS.md says what each means and carries, and who gives it. */
 #define HF_REFUSED_IMPOSSIBLE_POOL 1
@@ -104,11 +111,8 @@ uint32_t hf_can_id_build(uint8_t priority, uint32_t pgn, uint8_t source_address,
 uint32_t hf_can_id_build_with(uint32_t pgn, uint8_t source_address, uint16_t priority, uint16_t destination, uint32_t *value);
 uint32_t hf_can_id_build_to(uint32_t pgn, uint8_t source_address, uint8_t priority, uint8_t destination, uint32_t *value);
 
-/* ---- the PGN list (any order; empty and repeated are allowed), and a frame cut short */
+/* ---- a frame cut short */
 
-bool hf_is_listed(const uint32_t *pgns, size_t pgns_len, uint32_t pgn);
-/* The same, as the assembler asks it. */
-bool hf_handles(const uint32_t *pgns, size_t pgns_len, uint32_t pgn);
 /* Keeps the first min(len, 8) bytes and fills the rest with 0xFF. */
 void hf_fill_short(uint8_t data[HF_FRAME_BYTES], size_t len);
 
@@ -144,15 +148,17 @@ enum {
     HF_SLOT_IN_PROGRESS, HF_SLOT_SOURCE, HF_SLOT_SEQUENCE, HF_SLOT_LAST_INDEX,
     HF_SLOT_PGN, HF_SLOT_EXPECTED_SIZE, HF_SLOT_CURRENT_SIZE, HF_SLOT_LAST_TIME
 };
+/* The counters' places; the answers that go with the last four are HF_POOL_FULL, HF_REJECTED, HF_LOST and HF_NOT_LISTED. */
 enum { HF_EXPIRED_SESSIONS, HF_POOL_EXHAUSTED, HF_REJECTED_FRAMES, HF_LOST_FRAGMENTS, HF_UNKNOWN_PGN };
 
 /* HF_OK and a fresh pool; above HF_POOL_SLOTS, 1 and *size 0, with `heads` and `bytes` as they were. */
 uint32_t hf_raw_pool_new(size_t wanted, uint64_t heads[HF_POOL_HEADS], uint8_t bytes[HF_POOL_BYTES], size_t *size);
 uint32_t hf_raw_pool_default(uint64_t heads[HF_POOL_HEADS], uint8_t bytes[HF_POOL_BYTES], size_t *size);
 
-/* 1 and all lent memory but *length as it was, or one of the three kinds. Each number of `heads` is read in the width of its
- * field (a flag is any number but 0, a source is taken modulo 256), and written only where that field has changed. *length is
- * the message's length, or 0 without one; `payload` holds the message and zeros after it, and is not written without one. */
+/* One of the kinds 102 to 107; or 1, whatever the PGN, and all lent memory but *length as it was. Each number of `heads` is read
+ * in the width of its field (a flag is any number but 0, a source is taken modulo 256), and written only where that field has
+ * changed. *length is the message's length, or 0 without one; `payload` holds the message and zeros after it, and is not written
+ * without one. */
 uint32_t hf_raw_process_frame(size_t size, uint64_t heads[HF_POOL_HEADS], uint8_t bytes[HF_POOL_BYTES], uint32_t counters[HF_COUNTERS],
                               const uint32_t *pgns, size_t pgns_len, uint64_t now_ms, uint32_t pgn, uint8_t source_address,
                               const uint8_t data[HF_FRAME_BYTES], uint8_t payload[HF_MAX_FAST_PACKET_PAYLOAD], size_t *length);
@@ -243,7 +249,7 @@ static inline void hf_counters_new(hf_counters *counters) {
     for (int i = 0; i < HF_COUNTERS; i++) counters->counts[i] = 0;
 }
 
-/* HF_IGNORED, HF_FRAGMENT_CONSUMED or HF_MESSAGE_COMPLETE; 1 for a pool that no call made. */
+/* HF_NOT_LISTED, HF_REJECTED, HF_POOL_FULL, HF_LOST, HF_FRAGMENT_CONSUMED or HF_MESSAGE_COMPLETE; 1 for a pool that no call made. */
 static inline uint32_t hf_process_frame(hf_pool *pool, hf_counters *counters, const uint32_t *pgns, size_t pgns_len, uint64_t now_ms, uint32_t pgn,
                                         uint8_t source_address, const uint8_t data[HF_FRAME_BYTES], hf_message *message) {
     return hf_raw_process_frame(pool->size, pool->heads, pool->bytes, counters->counts, pgns, pgns_len, now_ms, pgn, source_address, data,

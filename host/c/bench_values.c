@@ -35,11 +35,7 @@ static void identifiers(void) {
     expect(hf_can_id_build_to(126208, 35, 11, 16, &v) == HF_OK && v == 0x0DED1023, "a priority's low 3 bits");
 }
 
-static void lists(void) {
-    static const uint32_t any[] = {130824, 127489, 127489, 0};
-    expect(hf_is_listed(any, 4, 0) && hf_is_listed(any, 4, 127489) && !hf_is_listed(any, 3, 0), "a list in any order");
-    expect(hf_handles(any, 4, 0) && hf_handles(LIST, 1, 127489) && !hf_handles(LIST, 1, 5), "the list, as the assembler asks it");
-    expect(!hf_is_listed(NULL, 0, 0) && !hf_handles(NULL, 0, 0), "no list at all");
+static void short_frames(void) {
     uint8_t data[HF_FRAME_BYTES] = {1, 2, 3, 4, 5, 6, 7, 8};
     hf_fill_short(data, 8);
     expect(!memcmp(data, "\1\2\3\4\5\6\7\10", 8), "a whole frame");
@@ -90,30 +86,58 @@ static uint32_t hear(uint64_t now_ms, const char *data) {
     return hf_process_frame(&pool, &counters, LIST, 1, now_ms, 127489, 35, (const uint8_t *)data, &message);
 }
 
+/* Whether the list has the PGN, by the answer to a frame. */
+static int listed(const uint32_t *pgns, size_t pgns_len, uint32_t pgn) {
+    return hf_process_frame(&pool, &counters, pgns, pgns_len, 0, pgn, 35, (const uint8_t *)"\x00\x06......", &message) != HF_NOT_LISTED;
+}
+
+static void lists(void) {
+    static const uint32_t any[] = {130824, 127489, 127489, 0};
+    hf_counters_new(&counters);
+    hf_pool_default(&pool);
+    expect(listed(any, 4, 0) && listed(any, 4, 127489) && !listed(any, 3, 0), "a list in any order");
+    expect(listed(LIST, 1, 127489) && !listed(LIST, 1, 5) && !listed(NULL, 0, 0), "a list of one, and no list at all");
+    expect(counters.counts[HF_UNKNOWN_PGN] == 3, "each PGN that was not listed is counted");
+}
+
 static void messages(void) {
     hf_counters_new(&counters);
     expect(hf_pool_new(&pool, HF_POOL_SLOTS + 1) == HF_REFUSED_IMPOSSIBLE_POOL && pool.size == 0, "a pool of nine: 1");
     hf_pool_default(&pool);
     expect(pool.size == HF_DEFAULT_SLOTS, "four slots by default");
     expect(hf_pool_new(&pool, 1) == HF_OK && pool.size == 1, "one slot");
-    expect(hear(0, "\x00\x00......") == HF_IGNORED && counters.counts[HF_REJECTED_FRAMES] == 1, "P9: announced 0");
-    expect(hear(0, "\x00\xE0......") == HF_IGNORED && counters.counts[HF_REJECTED_FRAMES] == 2, "P9: announced 224");
+    expect(hear(0, "\x00\x00......") == HF_REJECTED && counters.counts[HF_REJECTED_FRAMES] == 1, "P9: announced 0");
+    expect(hear(0, "\x00\xE0......") == HF_REJECTED && counters.counts[HF_REJECTED_FRAMES] == 2, "P9: announced 224");
     expect(hear(1000, "\x00\x07" "abcdef") == HF_FRAGMENT_CONSUMED, "P10: opened");
     expect(hear(1500, "\x01g......") == HF_MESSAGE_COMPLETE && message.length == 7 && !memcmp(message.payload, "abcdefg\0", 8), "P10 and P11: taken after 500 ms");
-    expect(hear(1000, "\x00\x07" "abcdef") == HF_FRAGMENT_CONSUMED && hear(1501, "\x01g......") == HF_IGNORED && counters.counts[HF_LOST_FRAGMENTS] == 1
+    expect(hear(1000, "\x00\x07" "abcdef") == HF_FRAGMENT_CONSUMED && hear(1501, "\x01g......") == HF_LOST && counters.counts[HF_LOST_FRAGMENTS] == 1
                && pool.heads[HF_SLOT_IN_PROGRESS] == 1, "P11: a stray after 501 ms");
+    expect(hear(1500, "\x02g......") == HF_LOST && counters.counts[HF_LOST_FRAGMENTS] == 2 && pool.heads[HF_SLOT_IN_PROGRESS] == 0, "out of turn: the session has ended");
     expect(hear(1000, "\x00\x0E" "abcdef") == HF_FRAGMENT_CONSUMED && hear(0, "\x01g......") == HF_FRAGMENT_CONSUMED && pool.heads[HF_SLOT_LAST_TIME] == 0, "P12: continued at 0");
-    expect(hear(0, "\x20\x07......") == HF_IGNORED && counters.counts[HF_POOL_EXHAUSTED] == 1, "one slot, another key: exhausted");
+    expect(hear(0, "\x20\x07......") == HF_POOL_FULL && counters.counts[HF_POOL_EXHAUSTED] == 1, "one slot, another key: exhausted");
+    expect(hear(0, "\x20\x00......") == HF_REJECTED && hear(0, "\x20\xE0......") == HF_REJECTED && counters.counts[HF_POOL_EXHAUSTED] == 1, "a full pool: announced 0 and 224");
+    expect(hear(0, "\x20\x06......") == HF_MESSAGE_COMPLETE && message.length == 6, "a full pool: six bytes need no slot");
     expect(hear(501, "\x20\x07......") == HF_FRAGMENT_CONSUMED && counters.counts[HF_EXPIRED_SESSIONS] == 1, "silent 501: expired");
-    expect(hf_process_frame(&pool, &counters, NULL, 0, 600, 127489, 35, (const uint8_t *)"\x00\x06......", &message) == HF_IGNORED && counters.counts[HF_UNKNOWN_PGN] == 1,
+    expect(hf_process_frame(&pool, &counters, NULL, 0, 600, 127489, 35, (const uint8_t *)"\x00\x06......", &message) == HF_NOT_LISTED && counters.counts[HF_UNKNOWN_PGN] == 1,
            "an empty list, at NULL: unknown");
     expect(hf_process_frame_with_length(&pool, &counters, LIST, 1, 600, 127489, 35, (const uint8_t *)"\x00\x06" "ab....", 4, &message) == HF_MESSAGE_COMPLETE
                && message.length == 6 && !memcmp(message.payload, "ab\xFF\xFF\xFF\xFF", 6), "a frame of four bytes");
     expect(hf_receive(&pool, &counters, LIST, 1, 600, 127489, 35, (const uint8_t *)"\x00\x02" "ab....", &message) == HF_MESSAGE_COMPLETE
                && message.length == 2 && !memcmp(message.payload, "ab\0", 3), "by value");
+    expect(hf_receive(&pool, &counters, NULL, 0, 600, 127489, 35, (const uint8_t *)"\x00\x02......", &message) == HF_NOT_LISTED
+               && hf_receive(&pool, &counters, LIST, 1, 600, 127489, 35, (const uint8_t *)"\x00\x00......", &message) == HF_REJECTED
+               && hf_receive(&pool, &counters, LIST, 1, 600, 127489, 35, (const uint8_t *)"\x00\x07......", &message) == HF_POOL_FULL
+               && hf_receive(&pool, &counters, LIST, 1, 600, 127489, 35, (const uint8_t *)"\x01.......", &message) == HF_LOST, "by value: the four names");
+    expect(hf_process_frame_with_length(&pool, &counters, NULL, 0, 600, 127489, 35, (const uint8_t *)"\x00\x02......", 8, &message) == HF_NOT_LISTED
+               && hf_process_frame_with_length(&pool, &counters, LIST, 1, 600, 127489, 35, (const uint8_t *)"\x00\x02......", 1, &message) == HF_REJECTED
+               && hf_process_frame_with_length(&pool, &counters, LIST, 1, 600, 127489, 35, (const uint8_t *)"\x00\x07......", 2, &message) == HF_POOL_FULL
+               && hf_process_frame_with_length(&pool, &counters, LIST, 1, 600, 127489, 35, (const uint8_t *)"\x00\x02......", 0, &message) == HF_LOST,
+           "with a length: the four names; of one byte a first frame announces 255, of none it is a continuation");
     pool.heads[HF_SLOT_SEQUENCE] = 8;
     message.payload[0] = 0xEE;
     expect(hear(0, "\x00\x06......") == HF_REFUSED_IMPOSSIBLE_POOL && message.length == 0 && message.payload[0] == 0xEE, "an impossible pool: 1, and the payload as it was");
+    expect(hf_process_frame(&pool, &counters, NULL, 0, 0, 127489, 35, (const uint8_t *)"\x00\x06......", &message) == HF_REFUSED_IMPOSSIBLE_POOL
+               && counters.counts[HF_UNKNOWN_PGN] == 3, "an impossible pool: 1, also where the PGN is not listed");
     expect(hf_pool_new(&pool, 9) == HF_REFUSED_IMPOSSIBLE_POOL && pool.size == 0 && pool.heads[HF_SLOT_SEQUENCE] == 8, "a pool of nine leaves the heads as they were");
     pool.heads[HF_SLOT_IN_PROGRESS] = 2;
     pool.heads[HF_SLOT_SOURCE] = 300;
@@ -147,6 +171,21 @@ static void bench(void) {
     expect(hf_check_tx(NULL, 0, NULL, 0, NULL, 0, 35, 1, 5, values) == HF_REFUSED_NO_CLAIM, "no rows at all, at NULL: 32");
 }
 
+static void batch_names(void) {
+    static const uint64_t times[5];
+    static const uint8_t sources[5];
+    static const uint32_t pgns[5] = {127489, 127489, 127489, 127489, 5};
+    const uint8_t *data = (const uint8_t *)"\x00\x07......" "\x20\x07......" "\x20\x00......" "\x21......." "\x20\x06......";
+    uint64_t counts[HF_COUNTS];
+    uint8_t kinds[5], lengths[5];
+    hf_counters_new(&counters);
+    hf_pool_new(&pool, 1);
+    expect(hf_process_frames(&pool, &counters, LIST, 1, 5, times, pgns, sources, data, kinds, lengths, NULL, 0, counts) == HF_OK && counts[HF_COUNT_TAKEN] == 5
+               && kinds[0] == HF_FRAGMENT_CONSUMED && kinds[1] == HF_POOL_FULL && kinds[2] == HF_REJECTED && kinds[3] == HF_LOST && kinds[4] == HF_NOT_LISTED, "a batch: the four names");
+    expect(counters.counts[HF_POOL_EXHAUSTED] == 1 && counters.counts[HF_REJECTED_FRAMES] == 1 && counters.counts[HF_LOST_FRAGMENTS] == 1
+               && counters.counts[HF_UNKNOWN_PGN] == 1 && counters.counts[HF_EXPIRED_SESSIONS] == 0, "a batch: the counters of the four names");
+}
+
 static void batch(void) {
     uint64_t counts[HF_COUNTS], times[2] = {0, 1};
     uint8_t sources[2] = {35, 35}, kinds[2], lengths[2], arena[16];
@@ -159,7 +198,7 @@ static void batch(void) {
     expect(hf_process_frames(&pool, &counters, LIST, 1, 2, times, pgns, sources, data, kinds, lengths, arena, 16, counts) == HF_OK && counts[HF_COUNT_TAKEN] == 2
                && counts[HF_COUNT_USED] == 7 && kinds[1] == HF_MESSAGE_COMPLETE && lengths[1] == 7 && !memcmp(arena, "abcdefg", 7), "a batch");
     expect(hf_process_frames(&pool, &counters, NULL, 0, 2, times, pgns, sources, data, kinds, lengths, NULL, 0, counts) == HF_OK && counts[HF_COUNT_TAKEN] == 2
-               && kinds[1] == HF_IGNORED && counters.counts[HF_UNKNOWN_PGN] == 2, "a batch with no list and no arena, at NULL");
+               && kinds[1] == HF_NOT_LISTED && counters.counts[HF_UNKNOWN_PGN] == 2, "a batch with no list and no arena, at NULL");
     expect(hf_process_frames(&pool, &counters, NULL, 0, 0, NULL, NULL, NULL, NULL, NULL, NULL, NULL, 0, counts) == HF_OK && counts[HF_COUNT_TAKEN] == 0, "a batch of no frames, at NULL");
     expect(hf_raw_process_frames(pool.size, pool.heads, pool.bytes, counters.counts, LIST, 1, times, 2, pgns, 1, sources, 2, data, 16, kinds, 2, lengths, 2, arena, 16, counts)
                == HF_REFUSED_NO_ROOM && counts[HF_COUNT_TAKEN] == 0, "a row too short: 27");
@@ -169,10 +208,12 @@ static void batch(void) {
 static _Alignas(64) uint8_t stack[4 * HF_STACK_BYTES];
 static void calls(void) {
     identifiers();
-    lists();
+    short_frames();
     frames();
+    lists();
     messages();
     batch();
+    batch_names();
     bench();
 }
 static size_t stack_of(void (*run)(void)) {

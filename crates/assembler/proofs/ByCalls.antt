@@ -8,7 +8,8 @@ use lib.ListN.{length, getD, take, drop, replicate}
 use lib.Dec.{ltb}
 use native.Mathlib.Omega.{arith}
 use borrow.Author.Tests.{ltb-false, le-ltb}
-use Rattle.base.specs.Answer.{gives}
+use Rattle.base.specs.Answer.{gives, refuses}
+use Rattle.base.specs.Pick.{pick}
 use Rattle.base.specs.Lists.{any, fill}
 use Rattle.base.proofs.Fills.{length-fill}
 use Rattle.fast_packet.specs.FastPacket.{filledFrom}
@@ -24,7 +25,7 @@ use Rattle.assembler.specs.declared.ArrivalWithLength.{ArrivalWithLength
 use Rattle.assembler.specs.Call.{CallOk}
 use Rattle.assembler.specs.Slots.{within, onHead, impossible}
 use Rattle.assembler.specs.Step.{eventOf, saidOf, outcome, stepIf, step}
-use Rattle.assembler.specs.Making.{freshPool, madeIf, newPool}
+use Rattle.assembler.specs.Making.{freshPool, sizeMade, poolMade}
 use Rattle.assembler.specs.View.{slotsFrom, slotsOf, shown, replyOf, receiveOf}
 use Rattle.assembler.specs.Arrivals.{heardOf, heardWithLength}
 use Rattle.assembler.specs.Promises.{rulesOf}
@@ -53,8 +54,8 @@ fresh-good n small =
       sized = sized-view (replicate poolLimit freshHead) (replicate 1784 0) refl;
     }
 
-made-good : (b : Bool) (n : ℕ) → ltb poolLimit n ≡ b → Good (madeIf b n .pool)
-unfolding madeIf
+made-good : (b : Bool) (n : ℕ) → ltb poolLimit n ≡ b → Good (poolMade (pick b (refuses 1 []) (gives n)))
+unfolding pick poolMade
 made-good true n e = fresh-good 0 (omega arith)
 made-good false n e = fresh-good n (ltb-false poolLimit n e)
 
@@ -81,7 +82,7 @@ filled-ok pgns x ok =
     }
 
 by-calls-good : {p : Pool} → ByCalls p → Good p
-unfolding newPool rulesOf
+unfolding sizeMade rulesOf
 by-calls-good (made size) = made-good (ltb poolLimit size) size refl
 by-calls-good byDefault = fresh-good 4 (omega arith)
 by-calls-good (received {p} {pgns} {f} {k} ok h g) = subst Good (ap (λ (r : Received). r .pool) (sym (received-by pgns f p k h))) (left-good pgns f p k ok (by-calls-good g))
@@ -90,7 +91,7 @@ by-calls-good (processed {p} {pgns} {f} {before = k} ok h g) = subst Good (ap (�
 pub never-impossible : {p : Pool} → ByCalls p → impossible base (slotsOf p) ≡ false
 never-impossible h = by-calls-good h .possible
 
--- so every answer is one of the three: refusal 1 never comes from a pool that the calls made
+-- so every answer says what happened: refusal 1 never comes from a pool that the calls made
 pub never-refused : {p : Pool} → ByCalls p → (pgns : List ℕ) (f : Heard) (k : Counters)
     → replyOf (receiveOf base pgns f p k) ≡ gives (saidOf f (within (slotsOf p)) (eventOf base (within (slotsOf p)) (record { pgns = pgns; heard = f })))
 never-refused {p} h pgns f k = replied base pgns f p k ∙ (unfold step in rw (never-impossible h) (unfold stepIf outcome in refl))

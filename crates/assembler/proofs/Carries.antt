@@ -21,8 +21,8 @@ use Rattle.session.specs.declared.Found.{Found}
 use Rattle.session.specs.declared.Plan.{Plan}
 use Rattle.session.specs.declared.Counters.{Counters}
 use Rattle.session.specs.declared.Mark.{Mark}
-use Rattle.session.specs.declared.Kind.the-variants.{Refused, Ignored, FragmentConsumed, MessageComplete}
-use Rattle.session.specs.declared.Mark.the-variants.{Nothing, Exhausted, Rejected, Lost, Unknown}
+use Rattle.session.specs.declared.Kind.the-variants.{ImpossiblePool}
+use Rattle.session.specs.declared.Mark.the-variants.{Nothing}
 use Rattle.session.specs.Rules.{Rules, poolLimit}
 use Rattle.session.specs.Frames.{indexOf, sizeOf, badSize, firstBytes, nextBytes}
 use Rattle.session.specs.Heads.{impossibleHead, hasKey, isFree, isFreeOfSource, hasLiveKey, isExpired, inTurn, openedHead, resetHead, wanted, copiedHead, allThere}
@@ -35,9 +35,9 @@ use Rattle.assembler.specs.declared.Pool.{Pool}
 use Rattle.assembler.specs.declared.Received.{Received}
 use Rattle.assembler.specs.Call.{Call}
 use Rattle.assembler.specs.Slots.{Slot, Slots, freshSlot, onHead, impossible, chosen, live, openedSlot, resetSlot, copiedSlot}
-use Rattle.assembler.specs.Step.{Event, notListed, rejected, shortMessage, poolFull, opened, stray, outOfTurn, copied, completed, opensAt, continuesAt, eventOf, slotsAfter, markOf, ignored, padded, message, saidOf, outcome, stepIf, step}
+use Rattle.assembler.specs.Step.{Event, notListed, rejected, shortMessage, poolFull, opened, stray, outOfTurn, copied, completed, opensAt, continuesAt, eventOf, slotsAfter, markOf, Why, unlisted, badFrame, noSlot, lost, ignored, padded, message, saidOf, outcome, stepIf, step}
 use Rattle.assembler.proofs.Events.{firstShort, firstSized, copyAt, turnAt, byIndex, byList}
-use Rattle.assembler.specs.View.{slotsFrom, slotsOf, poolOf, zeros, replyKind, replyPayload, replyLength, shown, receiveOf}
+use Rattle.assembler.specs.View.{slotsFrom, slotsOf, poolOf, zeros, whyKind, replyKind, replyPayload, replyLength, shown, receiveOf}
 use Rattle.assembler.proofs.Copies.{copy-none, paste-over}
 use Rattle.assembler.proofs.Views.{Whole, slots-long, slot-at, view-back, view-same, view-set, read-back, first-view, any-view}
 
@@ -79,15 +79,15 @@ module _ (R : Rules) (f : Heard) (p : Pool) (k : Counters) (w : Whole p) (eight 
   abbrev after : Event → Received
   after e = shown (outcome f e (slotsOf p) k)
 
-  does-ignored : (e : Event) (g : ℕ) → saidOf f slots e ≡ ignored → slotsAfter f slots e ≡ slots → Does f p k (idle Ignored (markOf e) (getD (p .heads) g d)) g (after e)
+  does-ignored : (e : Event) (why : Why) (g : ℕ) → saidOf f slots e ≡ ignored why → slotsAfter f slots e ≡ slots → Does f p k (idle (whyKind why) (markOf e) (getD (p .heads) g d)) g (after e)
   unfolding idle carried shown outcome slotsOf replyKind replyPayload replyLength zeros
-  does-ignored e g said kept =
+  does-ignored e why g said kept =
       record {
         fits = record { room = omega arith; there = omega arith; whole = omega arith; short = omega arith; total = omega arith };
         is = rw (said, kept, set-getD (p .heads) g d, sym (copy-none (p .bytes) (g * 223 + 0)), view-same p w);
       }
 
-  does-refused : (g : ℕ) → Does f p k (idle (Refused 1) Nothing (getD (p .heads) g d)) g (shown (record { reply = refuses 1 []; pool = slotsOf p; counters = k }))
+  does-refused : (g : ℕ) → Does f p k (idle ImpossiblePool Nothing (getD (p .heads) g d)) g (shown (record { reply = refuses 1 []; pool = slotsOf p; counters = k }))
   unfolding idle carried shown replyKind replyPayload replyLength zeros raised
   does-refused g =
       record {
@@ -126,7 +126,7 @@ module _ (R : Rules) (f : Heard) (p : Pool) (k : Counters) (w : Whole p) (eight 
 
     does-open : (o : Option ℕ) → Inside (p .size) o → Does f p k (planOpen (found o) R f (getD (p .heads) (spot o) d)) (spot o) (after (opensAt R f slots o))
     unfolding found spot planOpen opensAt
-    does-open none u = unfold markOf saidOf slotsAfter in does-ignored poolFull 0 refl refl
+    does-open none u = unfold markOf saidOf slotsAfter whyKind in does-ignored poolFull noSlot 0 refl refl
     does-open (some i) u =
         record {
           fits = record { room = omega arith; there = omega arith; whole = omega arith; short = omega arith; total = omega arith };
@@ -185,13 +185,13 @@ module _ (R : Rules) (f : Heard) (p : Pool) (k : Counters) (w : Whole p) (eight 
           record {
             fits = unfold idle in record { room = omega arith; there = omega arith; whole = omega arith; short = omega arith; total = omega arith };
             is =
-                unfold idle carried shown outcome saidOf slotsAfter markOf slotsOf resetSlot replyKind replyPayload replyLength zeros in
+                unfold idle carried shown outcome saidOf slotsAfter markOf slotsOf resetSlot whyKind replyKind replyPayload replyLength zeros in
                 rw (slot-here i u, view-set p w i (resetHead head) 0 [] 0 u small (omega arith) (omega arith));
           }
 
     does-next : (o : Option ℕ) → Inside (p .size) o → ((i : ℕ) → o ≡ some i → Sound (getD (p .heads) i d)) → Does f p k (planNext (found o) f (getD (p .heads) (spot o) d)) (spot o) (after (continuesAt f slots o))
     unfolding found spot planNext continuesAt
-    does-next none u s = unfold markOf saidOf slotsAfter in does-ignored stray 0 refl refl
+    does-next none u s = unfold markOf saidOf slotsAfter whyKind in does-ignored stray lost 0 refl refl
     does-next (some i) u s =
         rw (slot-here i u) (does-turn i u (s i refl) (inTurn f (getD (p .heads) i d)))
 
@@ -224,7 +224,7 @@ module _ (R : Rules) (f : Heard) (p : Pool) (k : Counters) (w : Whole p) (eight 
 
     does-sized : (b : Bool) → Does f p k (planSized b (found (choice true)) R f (getD (p .heads) (spot (choice true)) d)) (spot (choice true)) (after (firstSized b R f slots))
     unfolding planSized pick
-    does-sized true = unfold markOf saidOf slotsAfter in does-ignored rejected (spot (choice true)) refl refl
+    does-sized true = unfold markOf saidOf slotsAfter whyKind in does-ignored rejected badFrame (spot (choice true)) refl refl
     does-sized false = does-first (leb (sizeOf f) 6) refl
 
     module _ (fine : any (onHead impossibleHead) slots ≡ false) where
@@ -235,7 +235,7 @@ module _ (R : Rules) (f : Heard) (p : Pool) (k : Counters) (w : Whole p) (eight 
 
       does-listed : (b : Bool) → Does f p k (planListed b (found (choice (eqb (indexOf f) 0))) R f (getD (p .heads) (spot (choice (eqb (indexOf f) 0))) d)) (spot (choice (eqb (indexOf f) 0))) (after (byList b R f slots))
       unfolding planListed pick
-      does-listed false = unfold markOf saidOf slotsAfter in does-ignored notListed (spot (choice (eqb (indexOf f) 0))) refl refl
+      does-listed false = unfold markOf saidOf slotsAfter whyKind in does-ignored notListed unlisted (spot (choice (eqb (indexOf f) 0))) refl refl
       does-listed true = does-index (eqb (indexOf f) 0)
 
     does-checked : (l : List ℕ) (b : Bool) → any (onHead impossibleHead) slots ≡ b

@@ -2,24 +2,51 @@
 use Prim.Native.Nat.{ℕ}
 use mathlib.Core.List.{List}
 use mathlib.Core.Path.{_≡_, refl, sym, ap, subst, _∙_}
+use Rattle.base.specs.Answer.{Answer, gives, refuses}
 use Rattle.session.specs.declared.Counters.{Counters}
 use Rattle.session.specs.declared.Heard.{Heard}
 use Rattle.session.specs.declared.Kind.{Kind}
-use Rattle.session.specs.declared.Kind.the-variants.{Refused, Ignored, FragmentConsumed, MessageComplete}
+use Rattle.session.specs.declared.Kind.the-variants.{ImpossiblePool, NotListed, Rejected, PoolFull, Lost, FragmentConsumed, MessageComplete}
+use Rattle.assembler.specs.declared.Made.{Made}
+use Rattle.assembler.specs.declared.Made.the-variants as made
+use Rattle.assembler.specs.declared.MadePool.{MadePool}
 use Rattle.assembler.specs.declared.Pool.{Pool}
 use Rattle.assembler.specs.declared.Processed.{Processed}
 use Rattle.assembler.specs.declared.Received.{Received}
+use Rattle.assembler.specs.Making.{sizeMade, poolMade, ofMade, MakesPool}
 use Rattle.assembler.specs.Step.{Outcome, Reply}
-use Rattle.assembler.specs.View.{poolOf, replyKind, replyPayload, replyLength, shown, replyBy, replyOf, receiveOf}
+use Rattle.assembler.specs.View.{poolOf, whyKind, replyKind, replyPayload, replyLength, shown, replyBy, replyOf, receiveOf}
 use Rattle.assembler.specs.Promises.{rulesOf, outcomeOn, Answers, ReceivesHeard, ProcessesHeard}
 use Rattle.assembler.specs.inner.Forms.{processedOf}
 use Rattle.assembler.proofs.Replies.{replied}
 
+-- ---- a pool made
+
+-- the case that 01's answer names
+unfoldable pub caseOf : Answer ℕ → Made
+caseOf (gives n) = made.Fresh
+caseOf (refuses k carried) = made.ImpossiblePool
+
+case-back : (m : Made) (size : ℕ) → caseOf (ofMade m size) ≡ m
+unfolding ofMade caseOf
+case-back made.Fresh size = refl
+case-back made.ImpossiblePool size = refl
+
+pub made-by : (wanted : ℕ) {r : MadePool} → MakesPool wanted r → r ≡ record { result = caseOf (sizeMade wanted); pool = poolMade (sizeMade wanted) }
+made-by wanted {r} h =
+    let case : r .result ≡ caseOf (sizeMade wanted) = sym (case-back (r .result) (r .pool .size)) ∙ ap caseOf (h .answer) in
+    rw (case, h .left) refl
+
+-- ---- the receive call
+
 -- 01's numbers give the kind back
 kind-back : (kind : Kind) (payload : List ℕ) (length : ℕ) → replyKind (replyBy kind payload length) ≡ kind
-unfolding replyKind replyBy
-kind-back (Refused n) payload length = refl
-kind-back Ignored payload length = refl
+unfolding replyKind whyKind replyBy
+kind-back ImpossiblePool payload length = refl
+kind-back NotListed payload length = refl
+kind-back Rejected payload length = refl
+kind-back PoolFull payload length = refl
+kind-back Lost payload length = refl
 kind-back FragmentConsumed payload length = refl
 kind-back MessageComplete payload length = refl
 

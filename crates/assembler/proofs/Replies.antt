@@ -10,12 +10,15 @@ use Rattle.session.specs.Rules.{Rules}
 use Rattle.assembler.specs.declared.Pool.{Pool}
 use Rattle.assembler.specs.Call.{Call}
 use Rattle.assembler.specs.Slots.{Slots, impossible}
-use Rattle.assembler.specs.Step.{Said, ignored, consumed, complete, outcome, stepIf, step}
-use Rattle.assembler.specs.View.{slotsOf, replyKind, replyPayload, replyLength, shown, replyBy, replyOf, receiveOf}
+use Rattle.assembler.specs.Step.{Why, unlisted, badFrame, noSlot, lost, Said, ignored, consumed, complete, outcome, stepIf, step}
+use Rattle.assembler.specs.View.{slotsOf, whyKind, replyKind, replyPayload, replyLength, shown, replyBy, replyOf, receiveOf}
 
 said-back : (s : Said) → replyBy (replyKind (gives s)) (replyPayload (gives s)) (replyLength (gives s)) ≡ gives s
-unfolding replyBy replyKind replyPayload replyLength
-said-back ignored = refl
+unfolding replyBy replyKind whyKind replyPayload replyLength
+said-back (ignored unlisted) = refl
+said-back (ignored badFrame) = refl
+said-back (ignored noSlot) = refl
+said-back (ignored lost) = refl
 said-back consumed = refl
 said-back (complete bytes n) = refl
 

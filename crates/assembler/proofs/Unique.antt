@@ -1,10 +1,8 @@
 -- Two outcomes that satisfy a call's contract are equal. Assumes nothing.
 use Prim.Native.Nat.{ℕ}
 use mathlib.Core.Path.{_≡_}
-use mathlib.Core.Bool.{Bool}
 use mathlib.Core.List.{List}
 use Rattle.base.proofs.Cases.{determined}
-use Rattle.fast_packet.specs.FastPacket.{listedIn}
 use Rattle.session.specs.declared.Counters.{Counters}
 use Rattle.assembler.specs.declared.Arrival.{Arrival}
 use Rattle.assembler.specs.declared.ArrivalWithLength.{ArrivalWithLength}
@@ -12,23 +10,20 @@ use Rattle.assembler.specs.declared.MadePool.{MadePool}
 use Rattle.assembler.specs.declared.Pool.{Pool}
 use Rattle.assembler.specs.declared.Processed.{Processed}
 use Rattle.assembler.specs.declared.Received.{Received}
-use Rattle.assembler.specs.Making.{freshPool, newPool}
+use Rattle.assembler.specs.Making.{freshPool, MakesPool}
 use Rattle.assembler.specs.Arrivals.{heardOf, heardWithLength}
 use Rattle.assembler.specs.Promises.{Receives, ReceivesWithLength, Processes, ProcessesWithLength}
-use Rattle.assembler.proofs.Promised.{received-by, processed-by}
+use Rattle.assembler.proofs.Promised.{made-by, received-by, processed-by}
 
 -- ---- making a pool
 
-pub new-unique : (size : ℕ) (r s : MadePool) → r ≡ newPool size → s ≡ newPool size → r ≡ s
-new-unique size r s = determined
+pub new-unique : (size : ℕ) (r s : MadePool) → MakesPool size r → MakesPool size s → r ≡ s
+new-unique size r s p q = determined (made-by size p) (made-by size q)
 
 pub default-unique : (r s : Pool) → r ≡ freshPool 4 → s ≡ freshPool 4 → r ≡ s
 default-unique r s = determined
 
 -- ---- the receive call
-
-pub handles-unique : (pgns : List ℕ) (pgn : ℕ) (r s : Bool) → r ≡ listedIn pgn pgns → s ≡ listedIn pgn pgns → r ≡ s
-handles-unique pgns pgn r s = determined
 
 module _ (pgns : List ℕ) (pool : Pool) (counters : Counters) where
   -- `receive`, and `process_frame_through`

@@ -1,12 +1,17 @@
 -- A fresh pool, and what making one gives.
-use mathlib.Core.Bool.{Bool, true, false}
+use mathlib.Core.List.{[]}
+use mathlib.Core.Path.{_≡_}
 use Prim.Native.Nat.{ℕ}
 use lib.ListN.{replicate}
 use lib.Dec.{ltb}
+use Rattle.base.specs.Answer.{Answer, gives, refuses}
+use Rattle.base.specs.Pick.{pick}
 use Rattle.session.specs.Rules.{poolLimit}
 use Rattle.session.specs.Heads.{freshHead}
 use Rattle.assembler.specs.declared.Pool.{Pool}
 use Rattle.assembler.specs.declared.MadePool.{MadePool}
+use Rattle.assembler.specs.declared.Made.{Made}
+use Rattle.assembler.specs.declared.Made.the-variants.{Fresh, ImpossiblePool}
 
 -- eight buffers of 223 bytes
 abbrev pub poolBytes : ℕ
@@ -16,10 +21,21 @@ poolBytes = 1784
 unfoldable pub freshPool : ℕ → Pool
 freshPool n = record { size = n; heads = replicate poolLimit freshHead; bytes = replicate poolBytes 0 }
 
--- "Asked for more, making one gives refusal 1 and a fresh pool of size 0." 0 stands for no refusal.
-unfoldable pub madeIf : Bool → ℕ → MadePool
-madeIf true n = record { refused = 1; pool = freshPool 0 }
-madeIf false n = record { refused = 0; pool = freshPool n }
+-- "A pool has 0 to 8 slots .. Asked for more, making one gives refusal 1": the size given, or the refusal
+unfoldable pub sizeMade : ℕ → Answer ℕ
+sizeMade n = pick (ltb poolLimit n) (refuses 1 []) (gives n)
 
-unfoldable pub newPool : ℕ → MadePool
-newPool n = madeIf (ltb poolLimit n) n
+-- ".. and a fresh pool of size 0"
+unfoldable pub poolMade : Answer ℕ → Pool
+poolMade (gives n) = freshPool n
+poolMade (refuses k carried) = freshPool 0
+
+-- 01's number of each case; what is given is the size
+unfoldable pub ofMade : Made → ℕ → Answer ℕ
+ofMade Fresh size = gives size
+ofMade ImpossiblePool size = refuses 1 []
+
+-- what `Pool::new` promises
+pub record MakesPool (wanted : ℕ) (r : MadePool) : Type 0 where
+  pub answer : ofMade (r .result) (r .pool .size) ≡ sizeMade wanted
+  pub left : r .pool ≡ poolMade (sizeMade wanted)

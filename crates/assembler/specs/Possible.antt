@@ -7,11 +7,11 @@ use Rattle.assembler.specs.declared.Pool.{Pool}
 use Rattle.assembler.specs.declared.Processed.{Processed}
 use Rattle.assembler.specs.declared.Received.{Received}
 use Rattle.assembler.specs.Call.{CallOk}
-use Rattle.assembler.specs.Making.{newPool, freshPool}
+use Rattle.assembler.specs.Making.{sizeMade, poolMade, freshPool}
 use Rattle.assembler.specs.Promises.{ReceivesHeard, ProcessesHeard}
 
 pub data ByCalls : Pool → Type 0 where
-  made : (size : ℕ) → ByCalls (newPool size .pool)
+  made : (size : ℕ) → ByCalls (poolMade (sizeMade size))
   byDefault : ByCalls (freshPool 4)
   received : {p : Pool} {pgns : List ℕ} {f : Heard} {k : Counters} {r : Received} → CallOk (record { pgns = pgns; heard = f }) → ReceivesHeard pgns f p k r → ByCalls p → ByCalls (r .pool)
   processed : {p : Pool} {pgns : List ℕ} {f : Heard} {before after : Counters} {r : Processed} → CallOk (record { pgns = pgns; heard = f }) → ProcessesHeard pgns f p before r after → ByCalls p

@@ -85,12 +85,17 @@ markOf (completed i) = Nothing
 
 -- ---- what is answered
 
+-- why a frame is Ignored; document 02, No. 2: "answers tell NotListed, Rejected, PoolFull and Lost apart where it now says Ignored"
+pub data Why : Type 0 where
+  unlisted badFrame noSlot lost : Why
+
 pub data Said : Type 0 where
-  ignored consumed : Said
+  ignored : Why → Said
+  consumed : Said
   -- the payload, and its length
   complete : List ℕ → ℕ → Said
 
--- an answer by 01's table: one of the three, or a refusal's number with what it carries
+-- an answer by 01's table: one of these, or a refusal's number with what it carries
 abbrev pub Reply : Type 0
 Reply = Answer Said
 
@@ -102,14 +107,15 @@ padded bytes = bytes ++ replicate (maxPayload - length bytes) 0
 unfoldable pub message : List ℕ → Said
 message bytes = complete (padded bytes) (length bytes)
 
+-- the answer follows from the event; Lost is the stray and the frame out of turn
 unfoldable pub saidOf : Heard → List Slot → Event → Said
-saidOf f ss notListed = ignored
-saidOf f ss rejected = ignored
+saidOf f ss notListed = ignored unlisted
+saidOf f ss rejected = ignored badFrame
 saidOf f ss shortMessage = message (take (sizeOf f) (firstBytes f))
-saidOf f ss poolFull = ignored
+saidOf f ss poolFull = ignored noSlot
 saidOf f ss (opened i late) = consumed
-saidOf f ss stray = ignored
-saidOf f ss (outOfTurn i) = ignored
+saidOf f ss stray = ignored lost
+saidOf f ss (outOfTurn i) = ignored lost
 saidOf f ss (copied i) = consumed
 saidOf f ss (completed i) = message (take (slotAt ss i .head .«expected_size») (copiedSlot f (slotAt ss i) .buffer))
 

@@ -8,13 +8,13 @@ use Rattle.session.specs.declared.Head.{Head}
 use Rattle.session.specs.declared.Heard.{Heard}
 use Rattle.session.specs.declared.Counters.{Counters}
 use Rattle.session.specs.declared.Kind.{Kind}
-use Rattle.session.specs.declared.Kind.the-variants.{Refused, Ignored, FragmentConsumed, MessageComplete}
+use Rattle.session.specs.declared.Kind.the-variants.{ImpossiblePool, NotListed, Rejected, PoolFull, Lost, FragmentConsumed, MessageComplete}
 use Rattle.session.specs.Rules.{Rules}
 use Rattle.assembler.specs.declared.Pool.{Pool}
 use Rattle.assembler.specs.declared.Received.{Received}
 use Rattle.assembler.specs.Call.{Call}
 use Rattle.assembler.specs.Slots.{Slot, Slots}
-use Rattle.assembler.specs.Step.{Said, ignored, consumed, complete, Reply, Outcome, step}
+use Rattle.assembler.specs.Step.{Why, unlisted, badFrame, noSlot, lost, Said, ignored, consumed, complete, Reply, Outcome, step}
 
 -- ---- the pool as slots
 
@@ -42,21 +42,29 @@ poolOf p = record { size = p .size; heads = map headOf (p .slots); bytes = flat 
 unfoldable pub zeros : List ℕ
 zeros = replicate maxPayload 0
 
+-- the names of document 02, No. 2
+unfoldable pub whyKind : Why → Kind
+whyKind unlisted = NotListed
+whyKind badFrame = Rejected
+whyKind noSlot = PoolFull
+whyKind lost = Lost
+
+-- the one refusal of a receive call is 1
 unfoldable pub replyKind : Reply → Kind
-replyKind (refuses n carried) = Refused n
-replyKind (gives ignored) = Ignored
+replyKind (refuses n carried) = ImpossiblePool
+replyKind (gives (ignored why)) = whyKind why
 replyKind (gives consumed) = FragmentConsumed
 replyKind (gives (complete bytes n)) = MessageComplete
 
 unfoldable pub replyPayload : Reply → List ℕ
 replyPayload (refuses n carried) = zeros
-replyPayload (gives ignored) = zeros
+replyPayload (gives (ignored why)) = zeros
 replyPayload (gives consumed) = zeros
 replyPayload (gives (complete bytes n)) = bytes
 
 unfoldable pub replyLength : Reply → ℕ
 replyLength (refuses n carried) = 0
-replyLength (gives ignored) = 0
+replyLength (gives (ignored why)) = 0
 replyLength (gives consumed) = 0
 replyLength (gives (complete bytes n)) = n
 
@@ -65,8 +73,11 @@ shown o = record { kind = replyKind (o .reply); payload = replyPayload (o .reply
 
 -- 01's number and values of each kind of answer, with the payload and length beside it
 unfoldable pub replyBy : Kind → List ℕ → ℕ → Reply
-replyBy (Refused n) payload length = refuses n []
-replyBy Ignored payload length = gives ignored
+replyBy ImpossiblePool payload length = refuses 1 []
+replyBy NotListed payload length = gives (ignored unlisted)
+replyBy Rejected payload length = gives (ignored badFrame)
+replyBy PoolFull payload length = gives (ignored noSlot)
+replyBy Lost payload length = gives (ignored lost)
 replyBy FragmentConsumed payload length = gives consumed
 replyBy MessageComplete payload length = gives (complete payload length)
 

@@ -32,7 +32,7 @@ fn processed_of(r: Received) -> Processed
     }
 }
 
-// Process a CAN frame that may belong to a Fast Packet session. `pgns` is the list of Fast Packet PGNs; a PGN outside it is ignored.
+// Process a CAN frame that may belong to a Fast Packet session. `pgns` is the list of Fast Packet PGNs; a frame with any other PGN is NotListed.
 pub fn process_frame(
     pool: Pool,
     counters: &mut Counters,

@@ -10,7 +10,6 @@ pub use lending::process_frame;
 pub use lending::process_frame_through;
 pub use lending::process_frame_with_length;
 pub use lending::process_frame_with_length_through;
-pub use receiving::handles;
 pub use receiving::receive;
 pub use receiving::receive_with_length;
 use session::Counters;
@@ -32,9 +31,15 @@ pub struct Pool {
     pub bytes: [u8; POOL_BYTES],
 }
 
-// What making a pool gives: the refusal's number, or 0, and the pool.
+// How the making of a pool went. Above the limit it is refused by 1.
+pub enum Made {
+    Fresh,
+    ImpossiblePool,
+}
+
+// What making a pool gives.
 pub struct MadePool {
-    pub refused: u8,
+    pub result: Made,
     pub pool: Pool,
 }
 

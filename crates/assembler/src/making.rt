@@ -1,11 +1,11 @@
 // Making a pool.
 ghost use mathlib.Core.Path.{_≡_};
-ghost use Rattle.assembler.specs.Making.{freshPool, newPool};
+ghost use Rattle.assembler.specs.Making.{freshPool, MakesPool};
 use crate::DEFAULT_SESSIONS;
+use crate::Made;
 use crate::MadePool;
 use crate::POOL_BYTES;
 use crate::Pool;
-use session::IMPOSSIBLE_POOL;
 use session::POOL_LIMIT;
 use session::fresh_head;
 
@@ -24,18 +24,18 @@ fn fresh_pool(size: usize) -> Pool
 impl Pool {
     // A fresh pool; above the limit, refusal 1 and one without sessions.
     pub fn new(size: usize) -> MadePool
-        ensures { λ r. ⌜ r ≡ newPool size ⌝ }
+        ensures { λ r. ⌜ MakesPool size r ⌝ }
     {
         if POOL_LIMIT < size {
             let pool = fresh_pool(0);
             MadePool {
-                refused: IMPOSSIBLE_POOL,
+                result: Made::ImpossiblePool,
                 pool: pool,
             }
         } else {
             let pool = fresh_pool(size);
             MadePool {
-                refused: 0,
+                result: Made::Fresh,
                 pool: pool,
             }
         }

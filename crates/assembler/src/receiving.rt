@@ -1,7 +1,6 @@
 // The receive call. It is straight-line code with one walk: a plan that changes nothing writes the same head back, stores and delivers no bytes.
 ghost use mathlib.Core.Path.{_≡_};
 ghost use Rattle.base.specs.Pick.{pick};
-ghost use Rattle.fast_packet.specs.FastPacket.{listedIn};
 ghost use Rattle.assembler.specs.View.{receiveOf};
 ghost use Rattle.assembler.specs.Promises.{rulesOf, Receives, ReceivesWithLength};
 use crate::Arrival;
@@ -24,13 +23,6 @@ use session::look;
 use session::nothing_found;
 use session::place_for;
 use session::within_limit;
-
-// True when the list has the PGN. Branch on this, not on Ignored, which cannot tell a single frame from a lost fragment.
-pub fn handles(pgns: &[u32], pgn: u32) -> bool
-    ensures { λ r. ⌜ r ≡ listedIn pgn (now (pgns .entry)) ⌝ }
-{
-    is_listed(pgns, pgn)
-}
 
 fn either(b: bool, x: usize, y: usize) -> usize
     ensures { λ r. ⌜ r ≡ pick b x y ⌝ }

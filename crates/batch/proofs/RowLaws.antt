@@ -7,6 +7,7 @@ use native.Mathlib.Omega.{arith}
 use borrow.Author.Tests.{ltb-false}
 use Rattle.base.specs.Pick.{pick}
 use Rattle.session.specs.Rules.{poolLimit}
+use Rattle.batch.specs.declared.Batched.the-variants.{Done, ImpossiblePool, NoRoom}
 use Rattle.batch.specs.inner.Ways.{refusalOf}
 
 -- a message that has room fits
@@ -15,16 +16,16 @@ has-room room used n b eb y = ltb-false room (used + n) (sym eb ∙ y)
 
 -- the refusal, by what the code's two tests say
 module _ (bad short b : Bool) (eb : b ≡ bad) where
-  pub refused-bad : b ≡ true → 1 ≡ refusalOf bad short
+  pub refused-bad : b ≡ true → ImpossiblePool ≡ refusalOf bad short
   unfolding refusalOf pick
   refused-bad y = rw (← eb, y)
 
   module _ (y : b ≡ false) (s : Bool) (es : s ≡ short) where
-    pub refused-short : s ≡ true → 27 ≡ refusalOf bad short
+    pub refused-short : s ≡ true → NoRoom ≡ refusalOf bad short
     unfolding refusalOf pick
     refused-short z = rw (← eb, y, ← es, z)
 
-    pub refused-none : s ≡ false → 0 ≡ refusalOf bad short
+    pub refused-none : s ≡ false → Done ≡ refusalOf bad short
     unfolding refusalOf pick
     refused-none z = rw (← eb, y, ← es, z)
 

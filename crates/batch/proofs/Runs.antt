@@ -2,7 +2,7 @@
 use Prim.Native.Nat.{ℕ, suc, _+_, _*_, _-_, _≤_, _<_}
 use mathlib.Core.Path.{_≡_, refl, sym, ap, subst, _∙_}
 use mathlib.Core.Logic.{_⊎_, inl, inr}
-use mathlib.Core.Bool.{Bool, true, false, _||_}
+use mathlib.Core.Bool.{Bool, true, false, _||_, true≢false}
 use mathlib.Core.List.{List, _++_}
 use lib.ListN.{length, getD, take, drop, set, replicate, length-set, length-drop, take-append-drop}
 use lib.Seq.{paste, paste-zero, take-paste, drop-paste, set-getD, length-paste, length-take-le, take-suc-set, drop-set-lt, drop-drop, take-at}
@@ -11,6 +11,7 @@ use native.Mathlib.Nat.{zero-add, add-zero, sub-zero}
 use native.Mathlib.Numerals.{add-one}
 use native.Mathlib.Omega.{arith}
 use borrow.Author.Tests.{ltb-false, le-ltb}
+use Rattle.base.specs.Answer.{gives}
 use Rattle.base.specs.Pick.{pick}
 use Rattle.base.specs.Lists.{any}
 use Rattle.session.specs.declared.Heard.{Heard}
@@ -19,7 +20,7 @@ use Rattle.session.specs.declared.Plan.{Plan}
 use Rattle.session.specs.declared.Counters.{Counters}
 use Rattle.session.specs.Kinds.{kindNumber}
 use Rattle.session.specs.Rules.{Rules, poolLimit}
-use Rattle.session.specs.declared.Kind.the-variants.{Ignored}
+use Rattle.session.specs.declared.Kind.{Kind}
 use Rattle.session.specs.declared.Mark.{Mark}
 use Rattle.session.specs.Heads.{impossibleHead, copiedHead}
 use Rattle.session.specs.Counting.{raised}
@@ -33,9 +34,10 @@ use Rattle.assembler.specs.View.{slotsFrom, slotsOf, receiveOf}
 use Rattle.assembler.proofs.Views.{Whole, any-view}
 use Rattle.assembler.proofs.Carries.{carried, Does, slot-long}
 use Rattle.batch.proofs.WayLaws.{shortPlan, runPlan}
-use Rattle.batch.specs.inner.Ways.{refusalOf}
+use Rattle.batch.specs.declared.Batched.{Batched}
+use Rattle.batch.specs.inner.Ways.{refusalOf, isRefused}
 use Rattle.batch.specs.Lengths.{tooShort}
-use Rattle.batch.specs.Rows.{Rows, frameInRows, Run, emptyRun, took, answerIn, runFrom, runOf, BatchLeft, over, leaves, refusedBy, batchOf}
+use Rattle.batch.specs.Rows.{Rows, frameInRows, Run, emptyRun, took, answerIn, runFrom, runOf, BatchLeft, over, leaves, refusedBy, batchOf, ofBatched}
 
 -- ---- the bytes of a message, in the arena and as the answer has them
 
@@ -165,7 +167,7 @@ module _ (R : Rules) (l : List ℕ) (w : Rows) (p : Pool) (k : Counters) (ks₀ 
 
     -- a run that stops here leaves the code's answer and rows
     stopped : soFar q c ks ls ar used i ≡ runOf R l w (length ar₀) p k
-        → record { answer = record { refused = 0; taken = i; used = used; counters = c; pool = q }; kinds = ks; lengths = ls; arena = ar } ≡ leaves (runOf R l w (length ar₀) p k) ks₀ ls₀ ar₀
+        → record { answer = gives i; used = used; counters = c; pool = q; kinds = ks; lengths = ls; arena = ar } ≡ leaves (runOf R l w (length ar₀) p k) ks₀ ls₀ ar₀
     unfolding leaves soFar
     stopped e =
         let ki : i ≤ length ks = omega (arith, h .low, h .fit .kinds, h .kinds) in
@@ -181,7 +183,7 @@ module _ (R : Rules) (l : List ℕ) (w : Rows) (p : Pool) (k : Counters) (ks₀ 
 
     -- all frames were taken
     pub ends : length (w .times) ≤ i
-        → record { answer = record { refused = 0; taken = i; used = used; counters = c; pool = q }; kinds = ks; lengths = ls; arena = ar } ≡ leaves (runOf R l w (length ar₀) p k) ks₀ ls₀ ar₀
+        → record { answer = gives i; used = used; counters = c; pool = q; kinds = ks; lengths = ls; arena = ar } ≡ leaves (runOf R l w (length ar₀) p k) ks₀ ls₀ ar₀
     unfolding runFrom
     ends past =
         let none-left : length (w .times) - i ≡ 0 = omega (arith, h .low) in
@@ -208,7 +210,7 @@ module _ (R : Rules) (l : List ℕ) (w : Rows) (p : Pool) (k : Counters) (ks₀ 
 
       -- the next message has no room
       stops : b ≡ true
-          → record { answer = record { refused = 0; taken = i; used = used; counters = c; pool = q }; kinds = ks; lengths = ls; arena = ar } ≡ leaves (runOf R l w (length ar₀) p k) ks₀ ls₀ ar₀
+          → record { answer = gives i; used = used; counters = c; pool = q; kinds = ks; lengths = ls; arena = ar } ≡ leaves (runOf R l w (length ar₀) p k) ks₀ ls₀ ar₀
       stops y = stopped (unfold pick in rw y at turned)
 
       fits-arena : b ≡ false → used + n ≤ length ar
@@ -288,11 +290,12 @@ module _ (R : Rules) (l : List ℕ) (w : Rows) (p : Pool) (k : Counters) (ks₀ 
       no-bytes = sym (le-ltb (length ar) (used + 0) (omega (arith, h .room)))
 
       -- neither a slot nor a message
-      pub goes-missed : (k₁ : Mark) → Does f q c (idle Ignored k₁ (getD (q .heads) g e)) g (receiveOf R l f q c) → (m : Counters) → m ≡ raised k₁ c → Running (set ks i 101) (set ls i 0) ar q m used (i + 1)
-      unfolding idle kindNumber
-      goes-missed k₁ does m em =
+      pub goes-missed : (kind : Kind) (mark : Mark) → Does f q c (idle kind mark (getD (q .heads) g e)) g (receiveOf R l f q c) → (m : Counters) → m ≡ raised mark c → (v : ℕ) → v ≡ kindNumber kind
+          → Running (set ks i v) (set ls i 0) ar q m used (i + 1)
+      unfolding idle
+      goes-missed kind mark does m em v ev =
           rw (add-zero used) at
-          (goes-past lt f ef (idle Ignored k₁ (getD (q .heads) g e)) g does 0 refl false no-bytes refl low eight e (record { head = refl; count = refl; whole = refl }) ar (paste-zero ar used (drop 2 (f .«data»))) m em 101 refl)
+          (goes-past lt f ef (idle kind mark (getD (q .heads) g e)) g does 0 refl false no-bytes refl low eight e (record { head = refl; count = refl; whole = refl }) ar (paste-zero ar used (drop 2 (f .«data»))) m em v ev)
 
       -- a message in one frame
       pub goes-short : (n : ℕ) → Does f q c (shortPlan R f (getD (q .heads) g e) n) g (receiveOf R l f q c) → (b : Bool) → b ≡ ltb (length ar) (used + n) → b ≡ false
@@ -323,12 +326,12 @@ module _ (R : Rules) (l : List ℕ) (w : Rows) (p : Pool) (k : Counters) (ks₀ 
 
       -- a message in one frame, or one from a slot, that has no room
       pub stops-short : (n : ℕ) → Does f q c (shortPlan R f (getD (q .heads) g e) n) g (receiveOf R l f q c) → (b : Bool) → b ≡ ltb (length ar) (used + n) → b ≡ true
-          → record { answer = record { refused = 0; taken = i; used = used; counters = c; pool = q }; kinds = ks; lengths = ls; arena = ar } ≡ leaves (runOf R l w (length ar₀) p k) ks₀ ls₀ ar₀
+          → record { answer = gives i; used = used; counters = c; pool = q; kinds = ks; lengths = ls; arena = ar } ≡ leaves (runOf R l w (length ar₀) p k) ks₀ ls₀ ar₀
       unfolding shortPlan
       stops-short n does b eb y = stops lt f ef (shortPlan R f (getD (q .heads) g e) n) g does n (sym (zero-add n)) b eb y
 
       pub stops-by : (d : Plan) → Does f q c d g (receiveOf R l f q c) → d .short ≡ 0 → (b : Bool) → b ≡ ltb (length ar) (used + d .whole) → b ≡ true
-          → record { answer = record { refused = 0; taken = i; used = used; counters = c; pool = q }; kinds = ks; lengths = ls; arena = ar } ≡ leaves (runOf R l w (length ar₀) p k) ks₀ ls₀ ar₀
+          → record { answer = gives i; used = used; counters = c; pool = q; kinds = ks; lengths = ls; arena = ar } ≡ leaves (runOf R l w (length ar₀) p k) ks₀ ls₀ ar₀
       stops-by d does none b eb y = stops lt f ef d g does (d .whole) (rw none (sym (add-zero (d .whole)))) b eb y
 
 -- ---- the call's ways out
@@ -337,24 +340,25 @@ module _ (R : Rules) (l : List ℕ) (w : Rows) (p : Pool) (k : Counters) (ks ls 
   abbrev short : Bool
   short = tooShort (length (w .times)) (length (w .pgns)) (length (w .sources)) (length (w .bytes)) (length ks) (length ls)
 
-  module _ (limit : R .limit ≡ poolLimit) (f : Heard) (r : ℕ) (said : r ≡ refusalOf (foundIn R f (p .size) (p .heads) .bad) short) where
+  module _ (limit : R .limit ≡ poolLimit) (f : Heard) (r : Batched) (said : r ≡ refusalOf (foundIn R f (p .size) (p .heads) .bad) short) where
     er : r ≡ refusalOf (impossible R (slotsOf p)) short
     er = said ∙ rw (looked-at R f p limit)
 
-    pub gives-refused : (r ≡ 0 → ⊥) → refusedBy r p k ks ls ar ≡ batchOf R l w p k ks ls ar
-    unfolding batchOf refusalOf pick
-    gives-refused n = go (impossible R (slotsOf p)) short er
+    pub gives-refused : isRefused r ≡ true → record { answer = ofBatched r 0; used = 0; counters = k; pool = p; kinds = ks; lengths = ls; arena = ar } ≡ batchOf R l w p k ks ls ar
+    unfolding batchOf refusedBy refusalOf isRefused ofBatched pick
+    gives-refused y = go (impossible R (slotsOf p)) short er
       where
-        go : (b s : Bool) → r ≡ refusalOf b s → refusedBy r p k ks ls ar ≡ pick b (refusedBy 1 p k ks ls ar) (pick s (refusedBy 27 p k ks ls ar) (leaves (runOf R l w (length ar) p k) ks ls ar))
+        go : (b s : Bool) → r ≡ refusalOf b s
+            → record { answer = ofBatched r 0; used = 0; counters = k; pool = p; kinds = ks; lengths = ls; arena = ar } ≡ pick b (refusedBy 1 p k ks ls ar) (pick s (refusedBy 27 p k ks ls ar) (leaves (runOf R l w (length ar) p k) ks ls ar))
         go true s e = rw e
         go false true e = rw e
-        go false false e = absurd (n e)
+        go false false e = absurd (true≢false (sym y ∙ ap isRefused e))
 
-    module _ (z : r ≡ 0) where
+    module _ (z : isRefused r ≡ false) where
       unrefused : (b s : Bool) → r ≡ refusalOf b s → (b ≡ false) × (s ≡ false)
-      unfolding refusalOf pick
-      unrefused true s e = absurd (omega (arith, e, z))
-      unrefused false true e = absurd (omega (arith, e, z))
+      unfolding refusalOf isRefused pick
+      unrefused true s e = absurd (true≢false (sym (ap isRefused e) ∙ z))
+      unrefused false true e = absurd (true≢false (sym (ap isRefused e) ∙ z))
       unrefused false false e = (refl, refl)
 
       pub possible : impossible R (slotsOf p) ≡ false

@@ -19,9 +19,9 @@ use Rattle.session.specs.declared.Heard.{Heard}
 use Rattle.session.specs.declared.Head.{Head}
 use Rattle.session.specs.declared.Plan.{Plan}
 use Rattle.session.specs.declared.Kind.{Kind}
-use Rattle.session.specs.declared.Kind.the-variants.{Ignored}
+use Rattle.session.specs.declared.Kind.the-variants.{NotListed, Rejected}
 use Rattle.session.specs.declared.Mark.{Mark}
-use Rattle.session.specs.declared.Mark.the-variants.{Rejected, Unknown}
+use Rattle.session.specs.declared.Mark.the-variants as mark
 use Rattle.session.specs.declared.Counters.{Counters}
 use Rattle.session.specs.Rules.{Rules, base, poolLimit, silence, keysEqual}
 use Rattle.session.specs.Frames.{sequenceOf, indexOf, sizeOf, badSize, keyOf}
@@ -41,7 +41,7 @@ use Rattle.assembler.proofs.Views.{sized-view}
 use Rattle.assembler.proofs.Keeps.{keeps}
 use Rattle.assembler.proofs.Carries.{carried, Fits, Does, receives}
 use Rattle.batch.specs.inner.Mirror.{packed, keyNumber, frameKey, InRange, Shows, Mirrors, firstFrom, keyAt, openAt, ownAt, liveAt, chosenIn, liveIn, quiet, sought}
-use Rattle.batch.specs.inner.Ways.{shortIn, missMark, runsOn}
+use Rattle.batch.specs.inner.Ways.{shortIn, missKind, missMark, runsOn}
 use Rattle.batch.proofs.WayLaws.{plan-missed, shortPlan, plan-short, runPlan, plan-runs}
 use Rattle.batch.proofs.Runs.{looked-at}
 
@@ -248,11 +248,11 @@ module _ (l : List ℕ) (f : Heard) (p : Pool) (k : Counters) (w : Whole p) (eig
 
   at-unlisted : (i : ℕ) → At false real → At false i
   unfolding planOf planListed
-  at-unlisted i x = moves f p k e (still-idle f p k e Ignored Unknown) (withinLimit real) (withinLimit i) x
+  at-unlisted i x = moves f p k e (still-idle f p k e NotListed mark.Unknown) (withinLimit real) (withinLimit i) x
 
   at-rejected : (i : ℕ) → eqb (indexOf f) 0 ≡ true → badSize f ≡ true → At true real → At true i
   unfolding planOf planListed planIndex planFirst planSized
-  at-rejected i z b x = rw (z, b) (moves f p k e (still-idle f p k e Ignored Rejected) (withinLimit real) (withinLimit i) (rw (z, b) at x))
+  at-rejected i z b x = rw (z, b) (moves f p k e (still-idle f p k e Rejected mark.Rejected) (withinLimit real) (withinLimit i) (rw (z, b) at x))
 
   at-short : (i : ℕ) → eqb (indexOf f) 0 ≡ true → badSize f ≡ false → leb (sizeOf f) 6 ≡ true → At true real → At true i
   unfolding planOf planListed planIndex planFirst planSized planShort
@@ -303,7 +303,7 @@ module _ (l : List ℕ) (f : Heard) (p : Pool) (k : Counters) (w : Whole p) (eig
     unfolding withinLimit pick
     at-none past = rw (le-ltb i poolLimit past) at at-place
 
-    pub seeks-missed : poolLimit ≤ i → (s : ℕ) → s ≡ shortIn t f → s ≡ 0 → Does f p k (idle Ignored (missMark t f) (getD (p .heads) 0 e)) 0 (receiveOf base l f p k)
+    pub seeks-missed : poolLimit ≤ i → (s : ℕ) → s ≡ shortIn t f → s ≡ 0 → Does f p k (idle (missKind t f) (missMark t f) (getD (p .heads) 0 e)) 0 (receiveOf base l f p k)
     seeks-missed past s es z = rw (plan-missed base f (getD (p .heads) 0 e) t (sym z ∙ es)) at (at-none past)
 
     pub seeks-short : poolLimit ≤ i → (s : ℕ) → s ≡ shortIn t f → (s ≡ 0 → ⊥) → Does f p k (shortPlan base f (getD (p .heads) 0 e) s) 0 (receiveOf base l f p k)

@@ -8,6 +8,7 @@ use lib.ListN.{length, getD, drop, set}
 use lib.Seq.{paste}
 use lib.Dec.{ltb}
 use native.Mathlib.Omega.{arith}
+use Rattle.base.specs.Answer.{gives}
 use Rattle.fast_packet.specs.FastPacket.{listedIn}
 use Rattle.session.specs.declared.Heard.{Heard}
 use Rattle.session.specs.declared.Head.{Head}
@@ -24,7 +25,7 @@ use Rattle.assembler.specs.View.{slotsOf, receiveOf}
 use Rattle.assembler.proofs.Carries.{Fits, Does}
 use Rattle.batch.specs.Rows.{Rows, frameInRows, BatchLeft, leaves, runOf}
 use Rattle.batch.specs.inner.Mirror.{InRange, Shows, Mirrors, frameKey, sought}
-use Rattle.batch.specs.inner.Ways.{shortIn, missMark, runsOn}
+use Rattle.batch.specs.inner.Ways.{shortIn, missKind, missMark, runsOn}
 use Rattle.batch.proofs.WayLaws.{runPlan}
 use Rattle.batch.proofs.Runs.{Running, goes-missed, goes-short, goes-running, goes-by, stops-short, stops-by, frame-long}
 use Rattle.batch.proofs.Sought.{seeks-missed, seeks-short, seeks-slot, seeks-running, slot-alone, stays-possible, runs-possible}
@@ -39,7 +40,7 @@ module _ (l : List ℕ) (w : Rows) (p₀ : Pool) (k₀ : Counters) (ks₀ ls₀ 
 
   -- the batch ends here
   abbrev Ends : List ℕ → List ℕ → List ℕ → Pool → Counters → ℕ → ℕ → Type 0
-  Ends ks ls ar q c used i = record { answer = record { refused = 0; taken = i; used = used; counters = c; pool = q }; kinds = ks; lengths = ls; arena = ar } ≡ leaves (runOf base l w (length ar₀) p₀ k₀) ks₀ ls₀ ar₀
+  Ends ks ls ar q c used i = record { answer = gives i; used = used; counters = c; pool = q; kinds = ks; lengths = ls; arena = ar } ≡ leaves (runOf base l w (length ar₀) p₀ k₀) ks₀ ls₀ ar₀
 
   module _ (ks ls ar : List ℕ) (q : Pool) (keys owners lasts : List ℕ) (c : Counters) (used i : ℕ) (s : Stands ks ls ar q keys owners lasts c used i) (turn : i < length (w .times)) (f : Heard) (row : f ≡ frameInRows w i) (t : Bool) (et : t ≡ listedIn (f .pgn) l)
       (key : ℕ) (ek : (key ≡ frameKey f) × InRange (f .pgn) (getD (f .«data») 0 0)) (g : ℕ) (eg : g ≡ sought keys owners lasts (q .size) t key f) where
@@ -48,11 +49,11 @@ module _ (l : List ℕ) (w : Rows) (p₀ : Pool) (k₀ : Counters) (ks₀ ls₀ 
 
     -- no slot
     module _ (past : poolLimit ≤ g) (n : ℕ) (en : n ≡ shortIn t f) where
-      pub step-missed : n ≡ 0 → (m : Counters) → m ≡ raised (missMark t f) c → Stands (set ks i 101) (set ls i 0) ar q keys owners lasts m used (i + 1)
-      step-missed z m em =
+      pub step-missed : n ≡ 0 → (v : ℕ) → v ≡ kindNumber (missKind t f) → (m : Counters) → m ≡ raised (missMark t f) c → Stands (set ks i v) (set ls i 0) ar q keys owners lasts m used (i + 1)
+      step-missed z v ev m em =
           let does = seeks-missed l f q c (s .run .whole) long freshHead (s .possible) keys owners lasts (s .mirrors) (ek .1) t et key (ek .0) g eg past n en z in
           record {
-            run = goes-missed base l w p₀ k₀ ks₀ ls₀ ar₀ ks ls ar q c used i (s .run) turn f row 0 (omega arith) long freshHead (missMark t f) does m em;
+            run = goes-missed base l w p₀ k₀ ks₀ ls₀ ar₀ ks ls ar q c used i (s .run) turn f row 0 (omega arith) long freshHead (missKind t f) (missMark t f) does m em v ev;
             possible = s .possible;
             mirrors = s .mirrors;
           }

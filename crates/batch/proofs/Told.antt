@@ -1,4 +1,4 @@
--- No entry of a batch's kinds is a refusal's: a possible pool stays possible, so each is 101, 102 or 103. Assumes nothing.
+-- No entry of a batch's kinds is a refusal's: a possible pool stays possible, so each is from 102 to 107. Assumes nothing.
 use Prim.Native.Nat.{ℕ, zero, suc, _+_, _*_, _≤_, _<_}
 use mathlib.Core.Path.{_≡_, refl, ap, subst}
 use mathlib.Core.Bool.{Bool, true, false}
@@ -20,8 +20,8 @@ use Rattle.session.specs.inner.Search.{withinLimit}
 use Rattle.assembler.specs.declared.Pool.{Pool}
 use Rattle.assembler.specs.declared.Received.{Received}
 use Rattle.assembler.specs.Slots.{impossible}
-use Rattle.assembler.specs.Step.{Said, ignored, consumed, complete, outcome, stepIf, step}
-use Rattle.assembler.specs.View.{slotsOf, replyKind, shown, receiveOf}
+use Rattle.assembler.specs.Step.{Why, unlisted, badFrame, noSlot, lost, Said, ignored, consumed, complete, outcome, stepIf, step}
+use Rattle.assembler.specs.View.{slotsOf, whyKind, replyKind, shown, receiveOf}
 use Rattle.assembler.proofs.Views.{Whole}
 use Rattle.assembler.proofs.Carries.{carried, Does, receives, slot-long}
 use Rattle.batch.specs.Rows.{Rows, frameInRows, Run, emptyRun, took, answerIn, runFrom, runOf}
@@ -29,13 +29,16 @@ use Rattle.batch.proofs.Sought.{call-possible}
 
 -- ---- one answer
 
--- Ignored, FragmentConsumed or MessageComplete
+-- FragmentConsumed, MessageComplete, NotListed, Rejected, PoolFull or Lost
 abbrev pub OfFrame : ℕ → Type 0
-OfFrame n = (101 ≤ n) × (n ≤ 103)
+OfFrame n = (102 ≤ n) × (n ≤ 107)
 
 said-kind : (s : Said) → OfFrame (kindNumber (replyKind (gives s)))
-unfolding kindNumber replyKind
-said-kind ignored = (omega arith, omega arith)
+unfolding kindNumber whyKind replyKind
+said-kind (ignored unlisted) = (omega arith, omega arith)
+said-kind (ignored badFrame) = (omega arith, omega arith)
+said-kind (ignored noSlot) = (omega arith, omega arith)
+said-kind (ignored lost) = (omega arith, omega arith)
 said-kind consumed = (omega arith, omega arith)
 said-kind (complete bytes n) = (omega arith, omega arith)
 
@@ -103,7 +106,7 @@ module _ (l : List ℕ) (w : Rows) (bytes : (j : ℕ) → getD (w .bytes) j 0 < 
       go true r = t
       go false r = r
 
-  -- rows of bytes, a whole and possible pool: every kind is 101, 102 or 103
+  -- rows of bytes, a whole and possible pool: every kind is from 102 to 107
   pub told : (room : ℕ) (p : Pool) (k : Counters) → length (w .times) * 8 ≤ length (w .bytes) → Whole p → impossible base (slotsOf p) ≡ false → Told (runOf base l w room p k .kinds)
   unfolding runOf emptyRun
   told room p k long whole fine = told-from room (length (w .times)) 0 (emptyRun p k) (omega (arith, long)) whole fine none

@@ -11,34 +11,40 @@ use Rattle.session.specs.declared.Heard.{Heard}
 use Rattle.session.specs.declared.Head.{Head}
 use Rattle.session.specs.declared.Plan.{Plan}
 use Rattle.session.specs.declared.Counters.{Counters}
-use Rattle.session.specs.declared.Kind.the-variants.{Ignored, FragmentConsumed, MessageComplete}
-use Rattle.session.specs.declared.Mark.the-variants.{Nothing, Exhausted, Rejected, Lost, Unknown}
+use Rattle.session.specs.declared.Kind.the-variants.{NotListed, Rejected, PoolFull, Lost, FragmentConsumed, MessageComplete}
+use Rattle.session.specs.declared.Mark.the-variants as mark
 use Rattle.session.specs.Rules.{Rules}
 use Rattle.session.specs.Frames.{indexOf, sizeOf, badSize}
 use Rattle.session.specs.Heads.{inTurn, wanted, copiedHead, allThere}
 use Rattle.session.specs.Counting.{raised}
+use Rattle.session.specs.Kinds.{kindNumber}
 use Rattle.session.specs.inner.Plan.{idle, planOpen, planShort, planSized, planFirst, planCopy, planTurn, planNext, planIndex, planListed, planOf}
-use Rattle.batch.specs.inner.Ways.{shortIn, missMark, runsOn}
+use Rattle.batch.specs.declared.ways.Untaken.{Untaken}
+use Rattle.batch.specs.inner.Ways.{shortIn, missKind, missMark, runsOn}
 
 -- ---- the code's tests
+
+-- what `ways::missed` promises
+abbrev MissedBy : Bool → Heard → Counters → Untaken → Type 0
+MissedBy listed f c r = (r .number ≡ kindNumber (missKind listed f)) × (r .counters ≡ raised (missMark listed f) c)
 
 module _ (listed : Bool) (f : Heard) where
   pub short-unlisted : not listed ≡ true → (0 ≡ shortIn listed f) × (0 ≤ 6)
   unfolding shortIn pick
   short-unlisted e = (rw (not-true listed e), omega arith)
 
-  pub miss-unlisted : (c r : Counters) → not listed ≡ true → r ≡ raised Unknown c → r ≡ raised (missMark listed f) c
-  unfolding missMark pick
-  miss-unlisted c r e er = er ∙ rw (not-true listed e)
+  pub miss-unlisted : (c : Counters) (r : Untaken) → not listed ≡ true → (r .number ≡ 104) × (r .counters ≡ raised mark.Unknown c) → MissedBy listed f c r
+  unfolding missKind missMark kindNumber pick
+  miss-unlisted c r e er = rw (not-true listed e) er
 
   module _ (e : not listed ≡ false) where
     pub short-next : (getD (f .«data») 0 0 % 32 ≡ 0 → ⊥) → (0 ≡ shortIn listed f) × (0 ≤ 6)
     unfolding shortIn pick indexOf
     short-next z = (rw (not-false listed e, ne-eqb (getD (f .«data») 0 0 % 32) 0 z), omega arith)
 
-    pub miss-next : (c r : Counters) → (getD (f .«data») 0 0 % 32 ≡ 0 → ⊥) → r ≡ raised Lost c → r ≡ raised (missMark listed f) c
-    unfolding missMark pick indexOf
-    miss-next c r z er = er ∙ rw (not-false listed e, ne-eqb (getD (f .«data») 0 0 % 32) 0 z)
+    pub miss-next : (c : Counters) (r : Untaken) → (getD (f .«data») 0 0 % 32 ≡ 0 → ⊥) → (r .number ≡ 107) × (r .counters ≡ raised mark.Lost c) → MissedBy listed f c r
+    unfolding missKind missMark kindNumber pick indexOf
+    miss-next c r z er = rw (not-false listed e, ne-eqb (getD (f .«data») 0 0 % 32) 0 z) er
 
     module _ (z : getD (f .«data») 0 0 % 32 ≡ 0) where
       pub short-here : getD (f .«data») 1 0 ≤ 6 → (getD (f .«data») 1 0 ≡ shortIn listed f) × (getD (f .«data») 1 0 ≤ 6)
@@ -49,18 +55,18 @@ module _ (listed : Bool) (f : Heard) where
       unfolding shortIn pick indexOf sizeOf
       short-over l = (rw (not-false listed e, eq-eqb (getD (f .«data») 0 0 % 32) 0 z, lt-leb (getD (f .«data») 1 0) 6 l), omega arith)
 
-      module _ (c r : Counters) where
-        pub miss-none : getD (f .«data») 1 0 ≡ 0 → r ≡ raised Rejected c → r ≡ raised (missMark listed f) c
-        unfolding missMark pick indexOf badSize sizeOf
-        miss-none s er = er ∙ rw (not-false listed e, eq-eqb (getD (f .«data») 0 0 % 32) 0 z, eq-eqb (getD (f .«data») 1 0) 0 s)
+      module _ (c : Counters) (r : Untaken) where
+        pub miss-none : getD (f .«data») 1 0 ≡ 0 → (r .number ≡ 105) × (r .counters ≡ raised mark.Rejected c) → MissedBy listed f c r
+        unfolding missKind missMark kindNumber pick indexOf badSize sizeOf
+        miss-none s er = rw (not-false listed e, eq-eqb (getD (f .«data») 0 0 % 32) 0 z, eq-eqb (getD (f .«data») 1 0) 0 s) er
 
-        pub miss-over : (getD (f .«data») 1 0 ≡ 0 → ⊥) → 223 < getD (f .«data») 1 0 → r ≡ raised Rejected c → r ≡ raised (missMark listed f) c
-        unfolding missMark pick indexOf badSize sizeOf
-        miss-over s l er = er ∙ rw (not-false listed e, eq-eqb (getD (f .«data») 0 0 % 32) 0 z, ne-eqb (getD (f .«data») 1 0) 0 s, lt-ltb 223 (getD (f .«data») 1 0) l)
+        pub miss-over : (getD (f .«data») 1 0 ≡ 0 → ⊥) → 223 < getD (f .«data») 1 0 → (r .number ≡ 105) × (r .counters ≡ raised mark.Rejected c) → MissedBy listed f c r
+        unfolding missKind missMark kindNumber pick indexOf badSize sizeOf
+        miss-over s l er = rw (not-false listed e, eq-eqb (getD (f .«data») 0 0 % 32) 0 z, ne-eqb (getD (f .«data») 1 0) 0 s, lt-ltb 223 (getD (f .«data») 1 0) l) er
 
-        pub miss-full : (getD (f .«data») 1 0 ≡ 0 → ⊥) → getD (f .«data») 1 0 ≤ 223 → r ≡ raised Exhausted c → r ≡ raised (missMark listed f) c
-        unfolding missMark pick indexOf badSize sizeOf
-        miss-full s l er = er ∙ rw (not-false listed e, eq-eqb (getD (f .«data») 0 0 % 32) 0 z, ne-eqb (getD (f .«data») 1 0) 0 s, le-ltb 223 (getD (f .«data») 1 0) l)
+        pub miss-full : (getD (f .«data») 1 0 ≡ 0 → ⊥) → getD (f .«data») 1 0 ≤ 223 → (r .number ≡ 106) × (r .counters ≡ raised mark.Exhausted c) → MissedBy listed f c r
+        unfolding missKind missMark kindNumber pick indexOf badSize sizeOf
+        miss-full s l er = rw (not-false listed e, eq-eqb (getD (f .«data») 0 0 % 32) 0 z, ne-eqb (getD (f .«data») 1 0) 0 s, le-ltb 223 (getD (f .«data») 1 0) l) er
 
 module _ (f : Heard) (h : Head) where
   pub runs-other : (getD (f .«data») 0 0 % 32 ≡ h .«last_frame_index» + 1 → ⊥) → false ≡ runsOn f h
@@ -86,25 +92,26 @@ module _ (R : Rules) (f : Heard) (h : Head) where
   none-bad z = rw (eq-eqb (sizeOf f) 0 (sym z))
 
   -- no slot and no message: a counter, and nothing else
-  miss-sized : (b s : Bool) → badSize f ≡ b → leb (sizeOf f) 6 ≡ s → 0 ≡ pick s (sizeOf f) 0 → planSized b false R f h ≡ idle Ignored (pick b Rejected Exhausted) h
+  miss-sized : (b s : Bool) → badSize f ≡ b → leb (sizeOf f) 6 ≡ s → 0 ≡ pick s (sizeOf f) 0 → planSized b false R f h ≡ idle (pick b Rejected PoolFull) (pick b mark.Rejected mark.Exhausted) h
   unfolding planSized planShort planOpen pick
   miss-sized true s eb es z = refl
   miss-sized false true eb es z = absurd (true≢false (sym (none-bad z) ∙ eb))
   miss-sized false false eb es z = rw es
 
-  miss-index : (b : Bool) → eqb (indexOf f) 0 ≡ b → 0 ≡ pick b (pick (leb (sizeOf f) 6) (sizeOf f) 0) 0 → planIndex b false R f h ≡ idle Ignored (pick b (pick (badSize f) Rejected Exhausted) Lost) h
+  miss-index : (b : Bool) → eqb (indexOf f) 0 ≡ b → 0 ≡ pick b (pick (leb (sizeOf f) 6) (sizeOf f) 0) 0 → planIndex b false R f h
+      ≡ idle (pick b (pick (badSize f) Rejected PoolFull) Lost) (pick b (pick (badSize f) mark.Rejected mark.Exhausted) mark.Lost) h
   unfolding planIndex planFirst planNext pick
   miss-index true eb z = miss-sized (badSize f) (leb (sizeOf f) 6) refl refl z
   miss-index false eb z = refl
 
-  pub plan-missed : (t : Bool) → 0 ≡ shortIn t f → planOf false t false R f h ≡ idle Ignored (missMark t f) h
-  unfolding planOf planListed shortIn missMark pick
+  pub plan-missed : (t : Bool) → 0 ≡ shortIn t f → planOf false t false R f h ≡ idle (missKind t f) (missMark t f) h
+  unfolding planOf planListed shortIn missKind missMark pick
   plan-missed true z = miss-index (eqb (indexOf f) 0) refl z
   plan-missed false z = refl
 
   -- a message in one frame
   unfoldable pub shortPlan : ℕ → Plan
-  shortPlan n = record { kind = MessageComplete; mark = Nothing; head = h; at = 0; from = 0; count = 0; whole = 0; short = n }
+  shortPlan n = record { kind = MessageComplete; mark = mark.Nothing; head = h; at = 0; from = 0; count = 0; whole = 0; short = n }
 
   short-sized : (s : Bool) → leb (sizeOf f) 6 ≡ s → (pick s (sizeOf f) 0 ≡ 0 → ⊥) → planSized (badSize f) false R f h ≡ shortPlan (pick s (sizeOf f) 0)
   unfolding planSized planShort shortPlan pick badSize
@@ -123,7 +130,7 @@ module _ (R : Rules) (f : Heard) (h : Head) where
 
   -- seven bytes more
   unfoldable pub runPlan : Plan
-  runPlan = record { kind = FragmentConsumed; mark = Nothing; head = copiedHead f h; at = h .«current_size»; from = 1; count = 7; whole = 0; short = 0 }
+  runPlan = record { kind = FragmentConsumed; mark = mark.Nothing; head = copiedHead f h; at = h .«current_size»; from = 1; count = 7; whole = 0; short = 0 }
 
   and-left : (a b : Bool) → (a && b) ≡ true → a ≡ true
   and-left true b e = refl

@@ -4,6 +4,7 @@ use mathlib.Core.Path.{_≡_}
 use Prim.Native.Nat.{ℕ, zero, suc, _+_, _*_}
 use lib.ListN.{length, getD, take, drop}
 use lib.Dec.{ltb}
+use Rattle.base.specs.Answer.{Answer, gives, refuses}
 use Rattle.base.specs.Pick.{pick}
 use Rattle.session.specs.declared.Heard.{Heard}
 use Rattle.session.specs.declared.Counters.{Counters}
@@ -16,6 +17,8 @@ use Rattle.assembler.specs.View.{slotsOf, receiveOf}
 use Rattle.assembler.specs.Promises.{rulesOf}
 use Rattle.batch.specs.Lengths.{tooShort}
 use Rattle.batch.specs.declared.Batch.{Batch}
+use Rattle.batch.specs.declared.Batched.{Batched}
+use Rattle.batch.specs.declared.Batched.the-variants.{Done, ImpossiblePool, NoRoom}
 
 -- ---- the frames
 
@@ -71,7 +74,12 @@ runOf R pgns w room p k = runFrom R pgns w room (length (w .times)) 0 (emptyRun 
 -- ---- the answer, and what is left in the lent rows
 
 pub record BatchLeft : Type 0 where
-  pub answer : Batch
+  -- how many frames were taken, or the refusal
+  pub answer : Answer ℕ
+  -- how many bytes of the arena their messages take
+  pub used : ℕ
+  pub counters : Counters
+  pub pool : Pool
   pub kinds : List ℕ
   pub lengths : List ℕ
   pub arena : List ℕ
@@ -80,11 +88,14 @@ pub record BatchLeft : Type 0 where
 unfoldable pub over : List ℕ → List ℕ → List ℕ
 over row new = new ++ drop (length new) row
 
--- 0 stands for no refusal; one entry of kinds and lengths for each frame taken, the messages from the arena's start
+-- one entry of kinds and lengths for each frame taken, the messages from the arena's start
 unfoldable pub leaves : Run → List ℕ → List ℕ → List ℕ → BatchLeft
 leaves z kinds lengths arena =
     record {
-      answer = record { refused = 0; taken = length (z .kinds); used = length (z .messages); counters = z .counters; pool = z .pool };
+      answer = gives (length (z .kinds));
+      used = length (z .messages);
+      counters = z .counters;
+      pool = z .pool;
       kinds = over kinds (z .kinds);
       lengths = over lengths (z .lengths);
       arena = over arena (z .messages);
@@ -93,7 +104,7 @@ leaves z kinds lengths arena =
 -- "None changes lent memory; the pool comes back unchanged with 1."
 unfoldable pub refusedBy : ℕ → Pool → Counters → List ℕ → List ℕ → List ℕ → BatchLeft
 refusedBy n p k kinds lengths arena =
-    record { answer = record { refused = n; taken = 0; used = 0; counters = k; pool = p }; kinds = kinds; lengths = lengths; arena = arena }
+    record { answer = refuses n []; used = 0; counters = k; pool = p; kinds = kinds; lengths = lengths; arena = arena }
 
 -- the call: refusal 1 for an impossible pool, then 27 for a row too short, else the run
 unfoldable pub batchOf : Rules → List ℕ → Rows → Pool → Counters → List ℕ → List ℕ → List ℕ → BatchLeft
@@ -102,9 +113,28 @@ batchOf R pgns w p k kinds lengths arena =
     (pick (tooShort (length (w .times)) (length (w .pgns)) (length (w .sources)) (length (w .bytes)) (length kinds) (length lengths)) (refusedBy 27 p k kinds lengths arena)
     (leaves (runOf R pgns w (length arena) p k) kinds lengths arena))
 
+-- 01's number of each case; what is given is how many frames were taken
+unfoldable pub ofBatched : Batched → ℕ → Answer ℕ
+ofBatched Done taken = gives taken
+ofBatched ImpossiblePool taken = refuses 1 []
+ofBatched NoRoom taken = refuses 27 []
+
+-- none with a refusal
+unfoldable pub takenIn : Answer ℕ → ℕ
+takenIn (gives taken) = taken
+takenIn (refuses n carried) = 0
+
+-- an answer and lent rows are what the batch leaves
+pub record AreLeft (l : BatchLeft) (r : Batch) (kinds lengths arena : List ℕ) : Type 0 where
+  pub answer : ofBatched (r .result) (r .taken) ≡ l .answer
+  pub taken : r .taken ≡ takenIn (l .answer)
+  pub used : r .used ≡ l .used
+  pub counted : r .counters ≡ l .counters
+  pub left : r .pool ≡ l .pool
+  pub told : kinds ≡ l .kinds
+  pub measured : lengths ≡ l .lengths
+  pub delivered : arena ≡ l .arena
+
 -- what `process_frames` promises: its answer, and the lent rows of kinds and lengths and the arena after it, under the rules of the pool at hand
 pub record Batches (list times pgns sources bytes : List ℕ) (p : Pool) (k : Counters) (kinds lengths arena : List ℕ) (r : Batch) (kinds′ lengths′ arena′ : List ℕ) : Type 0 where
-  pub answer : r ≡ batchOf (rulesOf p) list (record { times = times; pgns = pgns; sources = sources; bytes = bytes }) p k kinds lengths arena .answer
-  pub told : kinds′ ≡ batchOf (rulesOf p) list (record { times = times; pgns = pgns; sources = sources; bytes = bytes }) p k kinds lengths arena .kinds
-  pub measured : lengths′ ≡ batchOf (rulesOf p) list (record { times = times; pgns = pgns; sources = sources; bytes = bytes }) p k kinds lengths arena .lengths
-  pub delivered : arena′ ≡ batchOf (rulesOf p) list (record { times = times; pgns = pgns; sources = sources; bytes = bytes }) p k kinds lengths arena .arena
+  pub leaves-these : AreLeft (batchOf (rulesOf p) list (record { times = times; pgns = pgns; sources = sources; bytes = bytes }) p k kinds lengths arena) r kinds′ lengths′ arena′

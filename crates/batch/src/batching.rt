@@ -4,8 +4,9 @@ ghost use Rattle.session.specs.Rules.{base};
 ghost use Rattle.session.specs.inner.Search.{foundIn};
 ghost use Rattle.batch.specs.Lengths.{tooShort};
 ghost use Rattle.batch.specs.Rows.{Batches};
-ghost use Rattle.batch.specs.inner.Ways.{blankHeard, refusalOf};
+ghost use Rattle.batch.specs.inner.Ways.{blankHeard, refusalOf, isRefused};
 use crate::Batch;
+use crate::Batched;
 use crate::bytes::deliver_short;
 use crate::bytes::keep;
 use crate::list_memory::PLACES;
@@ -29,14 +30,9 @@ use session::Counters;
 use session::FRAGMENT_CONSUMED;
 use session::Head;
 use session::Heard;
-use session::IGNORED;
 use session::MESSAGE_COMPLETE;
 use session::POOL_LIMIT;
 use session::decide;
-
-const IMPOSSIBLE_POOL: u8 = 1;
-
-const NO_ROOM: u8 = 27;
 
 // A blank frame: what the pool is looked at with, before the first.
 fn blank() -> Heard
@@ -50,7 +46,7 @@ fn blank() -> Heard
     }
 }
 
-// The refusal's number, or 0: an impossible pool before a row that is too short for its n frames.
+// The refusal, if there is one: of an impossible pool before that of a row that is too short for its n frames.
 fn refusal(
     heads: [Head; POOL_LIMIT],
     size: usize,
@@ -60,17 +56,27 @@ fn refusal(
     bytes: usize,
     kinds: usize,
     lengths: usize,
-) -> u8
+) -> Batched
     ensures { λ r. ⌜ r ≡ refusalOf (foundIn base blankHeard size heads .bad) (tooShort n pgns sources bytes kinds lengths) ⌝ }
 {
     let before = walk(heads, size, blank());
     if before.bad {
-        return IMPOSSIBLE_POOL;
+        return Batched::ImpossiblePool;
     }
     if too_short(n, pgns, sources, bytes, kinds, lengths) {
-        return NO_ROOM;
+        return Batched::NoRoom;
     }
-    0
+    Batched::Done
+}
+
+fn is_refused(result: Batched) -> bool
+    ensures { λ r. ⌜ r ≡ isRefused result ⌝ }
+{
+    match result {
+        Batched::Done => false,
+        Batched::ImpossiblePool => true,
+        Batched::NoRoom => true,
+    }
 }
 
 // Takes frames one after the other, as long as the arena has room for their messages.
@@ -92,7 +98,7 @@ pub fn process_frames(
     let mut q = pool;
     let heads = q.heads;
     let n = times.len();
-    let refused = refusal(
+    let result = refusal(
         heads,
         q.size,
         n,
@@ -102,9 +108,9 @@ pub fn process_frames(
         kinds.len(),
         lengths.len(),
     );
-    if refused != 0 {
+    if is_refused(result) {
         return Batch {
-            refused: refused,
+            result: result,
             taken: 0,
             used: 0,
             counters: counters,
@@ -132,15 +138,16 @@ pub fn process_frames(
         if POOL_LIMIT <= g {
             let short = short_in(listed, heard);
             if short == 0 {
-                c = missed(c, listed, heard);
-                kinds[i] = IGNORED;
+                let m = missed(c, listed, heard);
+                c = m.counters;
+                kinds[i] = m.number;
                 lengths[i] = 0;
                 i += 1;
                 continue;
             }
             if no_room(arena.len(), used, short) {
                 return Batch {
-                    refused: 0,
+                    result: Batched::Done,
                     taken: i,
                     used: used,
                     counters: c,
@@ -168,7 +175,7 @@ pub fn process_frames(
         let d = decide(false, true, true, h, heard);
         if no_room(arena.len(), used, d.whole) {
             return Batch {
-                refused: 0,
+                result: Batched::Done,
                 taken: i,
                 used: used,
                 counters: c,
@@ -188,7 +195,7 @@ pub fn process_frames(
         lasts[g] = after.last_seen_ms;
     }
     Batch {
-        refused: 0,
+        result: Batched::Done,
         taken: i,
         used: used,
         counters: c,

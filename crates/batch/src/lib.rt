@@ -13,9 +13,16 @@ use assembler::Pool;
 pub use batching::process_frames;
 use session::Counters;
 
-// What a batch answers: the refusal's number, or 0; how many frames were taken, and how many bytes of the arena their messages take.
+// How a batch went. An impossible pool is refused by 1, a row that is too short for its frames by 27.
+pub enum Batched {
+    Done,
+    ImpossiblePool,
+    NoRoom,
+}
+
+// What a batch answers: how it went; how many frames were taken, and how many bytes of the arena their messages take.
 pub struct Batch {
-    pub refused: u8,
+    pub result: Batched,
     pub taken: usize,
     pub used: usize,
     pub counters: Counters,

@@ -6,9 +6,13 @@ ghost use Rattle.batch.specs.Rows.{frameInRows};
 ghost use Rattle.session.specs.Kinds.{kindNumber};
 use session::FRAGMENT_CONSUMED;
 use session::Heard;
-use session::IGNORED;
+use session::IMPOSSIBLE_POOL;
 use session::Kind;
+use session::LOST;
 use session::MESSAGE_COMPLETE;
+use session::NOT_LISTED;
+use session::POOL_FULL;
+use session::REJECTED;
 
 fn eight(data: &[u8], at: usize) -> [u8; 8]
     requires { ⌜ at + 8 ≤ length (now «data») ⌝ }
@@ -40,9 +44,12 @@ pub(crate) fn number_of(kind: Kind) -> u8
     ensures { λ r. ⌜ r ≡ kindNumber kind ⌝ }
 {
     match kind {
-        Kind::Ignored => IGNORED,
+        Kind::ImpossiblePool => IMPOSSIBLE_POOL,
+        Kind::NotListed => NOT_LISTED,
+        Kind::Rejected => REJECTED,
+        Kind::PoolFull => POOL_FULL,
+        Kind::Lost => LOST,
         Kind::FragmentConsumed => FRAGMENT_CONSUMED,
         Kind::MessageComplete => MESSAGE_COMPLETE,
-        Kind::Refused(number) => number,
     }
 }

@@ -3,14 +3,19 @@ ghost use mathlib.Core.Path.{_≡_};
 ghost use Prim.Native.Nat.{_-_, _≤_, _<_};
 ghost use Rattle.session.specs.Counting.{raised};
 ghost use Rattle.session.specs.Heads.{copiedHead};
-ghost use Rattle.batch.specs.inner.Ways.{shortIn, missMark, runsOn};
+ghost use Rattle.session.specs.Kinds.{kindNumber};
+ghost use Rattle.batch.specs.inner.Ways.{shortIn, missKind, missMark, runsOn};
 use fast_packet::MAX_FAST_PACKET_PAYLOAD;
 use session::CONTINUATION_PAYLOAD;
 use session::Counters;
 use session::FIRST_FRAME_PAYLOAD;
 use session::Head;
 use session::Heard;
+use session::LOST;
 use session::Mark;
+use session::NOT_LISTED;
+use session::POOL_FULL;
+use session::REJECTED;
 use session::count;
 
 // How many bytes the message has that comes in this one frame; 0 where none does.
@@ -28,25 +33,39 @@ pub(crate) fn short_in(listed: bool, heard: Heard) -> usize
     if size <= FIRST_FRAME_PAYLOAD { size } else { 0 }
 }
 
-// The counters after a frame that takes no slot and brings no message.
-pub(crate) fn missed(counters: Counters, listed: bool, heard: Heard) -> Counters
-    ensures { λ r. ⌜ r ≡ raised (missMark listed heard) counters ⌝ }
+// What a frame that takes no slot and brings no message leaves: the number of its kind, and the counters.
+pub(crate) struct Untaken {
+    pub(crate) number: u8,
+    pub(crate) counters: Counters,
+}
+
+fn told(number: u8, counters: Counters, mark: Mark) -> Untaken
+    ensures { λ r. ⌜ (r .number ≡ number) × (r .counters ≡ raised mark counters) ⌝ }
+{
+    Untaken {
+        number: number,
+        counters: count(counters, mark),
+    }
+}
+
+pub(crate) fn missed(counters: Counters, listed: bool, heard: Heard) -> Untaken
+    ensures { λ r. ⌜ (r .number ≡ kindNumber (missKind listed heard)) × (r .counters ≡ raised (missMark listed heard) counters) ⌝ }
 {
     if !listed {
-        return count(counters, Mark::Unknown);
+        return told(NOT_LISTED, counters, Mark::Unknown);
     }
     let data = heard.data;
     if data[0] % 32 != 0 {
-        return count(counters, Mark::Lost);
+        return told(LOST, counters, Mark::Lost);
     }
     let size = data[1] as usize;
     if size == 0 {
-        return count(counters, Mark::Rejected);
+        return told(REJECTED, counters, Mark::Rejected);
     }
     if MAX_FAST_PACKET_PAYLOAD < size {
-        return count(counters, Mark::Rejected);
+        return told(REJECTED, counters, Mark::Rejected);
     }
-    count(counters, Mark::Exhausted)
+    told(POOL_FULL, counters, Mark::Exhausted)
 }
 
 // Whether the frame is the session's next, and more than its seven bytes are missing.

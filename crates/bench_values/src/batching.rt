@@ -1,34 +1,80 @@
-// The batch's own refusals: one first frame, for a pool whose size is over eight, and with no row for its kind.
-use crate::receiving::no_counts;
+// A batch of one frame, and the batch's own refusals.
+use crate::left;
 use crate::say;
+use assembler::Arrival;
 use assembler::Pool;
+use batch::Batch;
+use batch::Batched;
 use batch::process_frames;
+use session::Counters;
 
 const PGN: u32 = 127489;
 
-fn refused(pool: Pool, kinds: &mut [u8]) -> u8 {
-    let mut lengths = [0u8; 1];
-    let mut arena = [0u8; 8];
-    let r = process_frames(
+fn show_result(result: Batched, kind: u8) {
+    match result {
+        Batched::Done => say::number(kind as u64),
+        Batched::ImpossiblePool => say::refused_by(1),
+        Batched::NoRoom => say::refused_by(27),
+    }
+}
+
+fn batch_of(
+    pool: Pool,
+    counters: Counters,
+    arrival: Arrival,
+    kinds: &mut [u8],
+    lengths: &mut [u8],
+) -> Batch {
+    let data = arrival.data;
+    let mut arena = [0u8; 7];
+    process_frames(
         pool,
-        no_counts(),
+        counters,
         &[PGN],
-        &[0],
-        &[PGN],
-        &[35],
-        &[0, 7, 1, 2, 3, 4, 5, 6],
+        &[arrival.now_ms],
+        &[arrival.pgn],
+        &[arrival.source_address],
+        &data,
         kinds,
-        &mut lengths,
+        lengths,
         &mut arena,
-    );
-    r.refused
+    )
+}
+
+fn wide(x: u8) -> u64 {
+    x as u64
+}
+
+pub(crate) fn show(pool: Pool, counters: Counters, arrival: Arrival) {
+    let mut kinds = [0u8; 1];
+    let mut lengths = [0u8; 1];
+    let r = batch_of(pool, counters, arrival, &mut kinds, &mut lengths);
+    let result = r.result;
+    let counted = r.counters;
+    let after = r.pool;
+    say::text(b"  in a batch: ");
+    show_result(result, kinds[0]);
+    left::show(wide(lengths[0]), counted, after);
+}
+
+fn without_kinds(words: &[u8], pool: Pool) {
+    say::text(words);
+    let arrival = Arrival {
+        now_ms: 0,
+        pgn: PGN,
+        source_address: 35,
+        data: [0, 7, 1, 2, 3, 4, 5, 6],
+    };
+    let mut lengths = [0u8; 1];
+    let r = batch_of(pool, left::no_counts(), arrival, &mut [], &mut lengths);
+    let result = r.result;
+    show_result(result, 0);
+    say::line();
 }
 
 pub(crate) fn refusals() {
     let mut pool = Pool::default();
-    say::text(b"a batch with no row for its kinds: ");
-    say::refusal(refused(pool, &mut []) as u64);
+    without_kinds(b"a batch with no row for its kinds: ", pool);
     pool.size = 9;
-    say::text(b"a batch for a pool of size nine: ");
-    say::refusal(refused(pool, &mut [0]) as u64);
+    without_kinds(b"  and for a pool of size nine: ", pool);
 }

@@ -1,15 +1,20 @@
-// Runs the values of document 01 that are not proved as theorems: one slot at 500 and 501 ms, and every refusal number that a call can give, once
-// each, with what it carries; those of the bench once in separate slices and once over a row of frames. The file 'stdout' was written by hand from
-// document 01's text. The builder's frames are in the program builder_values.
+// Runs the values of document 01 that are not proved as theorems: one slot at 500 and 501 ms; the names that document 02's No. 2 gives to Ignored, at
+// their borders, each by the single call and in a batch; and every refusal number that a call can give, with what it carries, those of the bench once in
+// separate slices and once over a row of frames. The file 'stdout' was written by hand from the text of both, the numbers of the kinds from
+// docs/REFUSALS.md. The builder's frames are in the program builder_values.
 mod batching;
 mod bench_calls;
 mod building;
 mod frame_rows;
+mod left;
 mod receiving;
 mod say;
 
 fn main() {
     receiving::one_slot();
+    receiving::full_pool();
+    receiving::continuations();
+    receiving::made();
     receiving::refusals();
     batching::refusals();
     building::refusals();

@@ -1,6 +1,9 @@
-// Receiving: a pool of one slot, and refusal 1.
+// Receiving: what a frame is answered, and what it leaves, by the single call and in a batch; and refusal 1.
+use crate::batching;
+use crate::left;
 use crate::say;
 use assembler::Arrival;
+use assembler::Made;
 use assembler::Pool;
 use assembler::Received;
 use assembler::receive;
@@ -9,82 +12,130 @@ use session::Kind;
 
 const PGN: u32 = 127489;
 
-pub(crate) fn no_counts() -> Counters {
-    Counters {
-        expired_sessions: 0,
-        pool_exhausted: 0,
-        rejected_frames: 0,
-        lost_fragments: 0,
-        unknown_pgn: 0,
-    }
-}
-
-// A first frame that announces seven bytes.
-fn first_frame(now_ms: u64, source_address: u8) -> Arrival {
+// A frame of sequence 0; of a first frame, index 0, the byte after it is the announced size.
+fn frame(now_ms: u64, source_address: u8, index: u8, next: u8) -> Arrival {
     Arrival {
         now_ms: now_ms,
         pgn: PGN,
         source_address: source_address,
-        data: [0, 7, 1, 2, 3, 4, 5, 6],
+        data: [index, next, 1, 2, 3, 4, 5, 6],
     }
+}
+
+fn unlisted_frame() -> Arrival {
+    let mut arrival = frame(0, 36, 0, 7);
+    arrival.pgn = 60928;
+    arrival
 }
 
 fn show_kind(kind: Kind) {
     match kind {
-        Kind::Refused(number) => say::refusal(number as u64),
-        Kind::Ignored => say::text(b"Ignored\n"),
-        Kind::FragmentConsumed => say::text(b"FragmentConsumed\n"),
-        Kind::MessageComplete => say::text(b"MessageComplete\n"),
+        Kind::ImpossiblePool => say::refused_by(1),
+        Kind::NotListed => say::text(b"NotListed"),
+        Kind::Rejected => say::text(b"Rejected"),
+        Kind::PoolFull => say::text(b"PoolFull"),
+        Kind::Lost => say::text(b"Lost"),
+        Kind::FragmentConsumed => say::text(b"FragmentConsumed"),
+        Kind::MessageComplete => say::text(b"MessageComplete"),
     }
-}
-
-fn show_counts(c: Counters) {
-    say::text(b"pool_exhausted ");
-    say::number(c.pool_exhausted as u64);
-    say::counted(b" expired_sessions ", c.expired_sessions as u64);
 }
 
 fn show(pool: Pool, counters: Counters, arrival: Arrival) {
     let r = receive(pool, counters, &[PGN], arrival);
     let kind = r.kind;
-    let c = r.counters;
+    let counted = r.counters;
+    let after = r.pool;
     show_kind(kind);
-    show_counts(c);
+    left::show(r.length as u64, counted, after);
+    batching::show(pool, counters, arrival);
 }
 
-// A pool of one slot, which source 35 has taken at 0.
+// A pool of one slot, which source 35 has taken at 0: seven bytes are announced, one is missing.
 fn taken() -> Received {
     let made = Pool::new(1);
     let pool = made.pool;
-    receive(pool, no_counts(), &[PGN], first_frame(0, 35))
+    receive(pool, left::no_counts(), &[PGN], frame(0, 35, 0, 7))
 }
 
-fn second_source_at(words: &[u8], now_ms: u64) {
+fn heard_by_one(words: &[u8], arrival: Arrival) {
     say::text(words);
     let r = taken();
     let pool = r.pool;
     let counters = r.counters;
-    show(pool, counters, first_frame(now_ms, 36));
+    show(pool, counters, arrival);
 }
 
 // One slot, another key's message silent 500, and 501.
 pub(crate) fn one_slot() {
-    second_source_at(b"one slot, silent 500: ", 500);
-    second_source_at(b"one slot, silent 501: ", 501);
+    heard_by_one(b"one slot, silent 500: ", frame(500, 36, 0, 7));
+    heard_by_one(b"one slot, silent 501: ", frame(501, 36, 0, 7));
 }
 
-fn show_made(refused: u8, size: usize) {
-    say::text(b"a pool of nine: ");
-    say::refusal(refused as u64);
-    say::counted(b"its size: ", size as u64);
+// With no slot free only a message that needs one finds the pool full.
+pub(crate) fn full_pool() {
+    heard_by_one(b"no slot free, an unlisted PGN: ", unlisted_frame());
+    heard_by_one(b"no slot free, announced 0: ", frame(0, 36, 0, 0));
+    heard_by_one(b"no slot free, announced 1: ", frame(0, 36, 0, 1));
+    heard_by_one(b"no slot free, announced 6: ", frame(0, 36, 0, 6));
+    heard_by_one(b"no slot free, announced 7: ", frame(0, 36, 0, 7));
+    heard_by_one(b"no slot free, announced 223: ", frame(0, 36, 0, 223));
+    heard_by_one(b"no slot free, announced 224: ", frame(0, 36, 0, 224));
 }
 
-// A pool of nine, and a frame for a pool whose size is over eight.
-pub(crate) fn refusals() {
-    let made = Pool::new(9);
-    let mut pool = made.pool;
-    show_made(made.refused, pool.size);
+// A continuation that is lost leaves its slot, unless it is out of turn.
+pub(crate) fn continuations() {
+    heard_by_one(b"a continuation of another source: ", frame(0, 36, 1, 7));
+    heard_by_one(b"a continuation out of turn: ", frame(0, 35, 2, 7));
+    heard_by_one(b"a continuation after 500 ms: ", frame(500, 35, 1, 7));
+    heard_by_one(b"a continuation after 501 ms: ", frame(501, 35, 1, 7));
+}
+
+fn show_made(words: &[u8], size: usize) {
+    say::text(words);
+    let made = Pool::new(size);
+    let result = made.result;
+    let pool = made.pool;
+    match result {
+        Made::Fresh => say::text(b"fresh"),
+        Made::ImpossiblePool => say::refused_by(1),
+    }
+    say::counted(b", size ", pool.size as u64);
+}
+
+pub(crate) fn made() {
+    show_made(b"a pool of eight: ", 8);
+    show_made(b"a pool of nine: ", 9);
+}
+
+fn heard_by_nine(words: &[u8], arrival: Arrival) {
+    say::text(words);
+    let mut pool = Pool::default();
     pool.size = 9;
-    say::text(b"a frame for a pool of size nine: ");
-    show(pool, no_counts(), first_frame(0, 35));
+    show(pool, left::no_counts(), arrival);
+}
+
+fn heard_by_sequence_eight(words: &[u8], arrival: Arrival) {
+    say::text(words);
+    let r = taken();
+    let mut pool = r.pool;
+    let counters = r.counters;
+    pool.heads[0].sequence_id = 8;
+    show(pool, counters, arrival);
+}
+
+// An impossible pool is refused before the frame is looked at.
+pub(crate) fn refusals() {
+    heard_by_nine(
+        b"a first frame for a pool of size nine: ",
+        frame(0, 35, 0, 7),
+    );
+    heard_by_nine(
+        b"an unlisted PGN for a pool of size nine: ",
+        unlisted_frame(),
+    );
+    heard_by_nine(b"six bytes for a pool of size nine: ", frame(0, 35, 0, 6));
+    heard_by_sequence_eight(
+        b"an unlisted PGN for a slot with sequence 8: ",
+        unlisted_frame(),
+    );
 }

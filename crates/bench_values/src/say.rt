@@ -21,7 +21,7 @@ pub(crate) fn counted(words: &[u8], n: u64) {
 }
 
 // A refusal's number, and what it carries.
-fn numbered(n: u64) {
+pub(crate) fn refused_by(n: u64) {
     text(b"refusal ");
     number(n);
 }
@@ -37,25 +37,25 @@ fn also(a: u64) {
 }
 
 pub(crate) fn refusal(n: u64) {
-    numbered(n);
+    refused_by(n);
     line();
 }
 
 pub(crate) fn refusal_with(n: u64, a: u64) {
-    numbered(n);
+    refused_by(n);
     carried(a);
     line();
 }
 
 pub(crate) fn refusal_with_two(n: u64, a: u64, b: u64) {
-    numbered(n);
+    refused_by(n);
     carried(a);
     also(b);
     line();
 }
 
 pub(crate) fn refusal_with_five(n: u64, a: u64, b: u64, c: u64, d: u64, e: u64) {
-    numbered(n);
+    refused_by(n);
     carried(a);
     also(b);
     also(c);

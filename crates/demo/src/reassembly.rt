@@ -1,4 +1,4 @@
-// Engine hours reassembled: an old half message, a full pool, a clock set back.
+// Engine hours reassembled: an old half message, a full pool, a clock set back, and frames that are not taken.
 use crate::engine;
 use crate::say;
 use assembler::Arrival;
@@ -35,11 +35,16 @@ fn show_message(r: Received) {
     say::hours(engine::hours(payload));
 }
 
+// The name says why a frame was not taken; beside it, the counter that went up.
 fn show_answer(r: Received) {
     let kind = r.kind;
+    let c = r.counters;
     match kind {
-        Kind::Refused(number) => say::refusal(number as u64),
-        Kind::Ignored => say::text(b"Ignored"),
+        Kind::ImpossiblePool => say::refusal(1),
+        Kind::NotListed => say::told(b"NotListed, unknown_pgn ", c.unknown_pgn as u64),
+        Kind::Rejected => say::told(b"Rejected, rejected_frames ", c.rejected_frames as u64),
+        Kind::PoolFull => say::told(b"PoolFull, pool_exhausted ", c.pool_exhausted as u64),
+        Kind::Lost => say::told(b"Lost, lost_fragments ", c.lost_fragments as u64),
         Kind::FragmentConsumed => say::text(b"FragmentConsumed"),
         Kind::MessageComplete => show_message(r),
     }
@@ -78,12 +83,16 @@ fn after(r: Received) -> Gateway {
     }
 }
 
+fn answered(g: Gateway, arrival: Arrival) -> Gateway {
+    let r = received(g, arrival);
+    show_answer(r);
+    after(r)
+}
+
 // One frame of an engine record is heard.
 fn hear(g: Gateway, now_ms: u64, source: u8, sequence: u8, index: u8, hours: u32) -> Gateway {
     show_frame(now_ms, source, sequence, index);
-    let r = received(g, arrived_frame(now_ms, source, sequence, index, hours));
-    show_answer(r);
-    after(r)
+    answered(g, arrived_frame(now_ms, source, sequence, index, hours))
 }
 
 // The last two frames of a record, ten milliseconds apart.
@@ -157,8 +166,44 @@ fn show_clock_set_back() {
     show_counters(g);
 }
 
+// A first frame with a PGN that is not in the list.
+fn unlisted_frame() -> Arrival {
+    let mut arrival = arrived_frame(10, 36, 0, 0, 7200);
+    arrival.pgn = 60928;
+    arrival
+}
+
+// A first frame that announces more than a message can have.
+fn overlong_frame() -> Arrival {
+    let mut arrival = arrived_frame(10, 36, 0, 0, 7200);
+    arrival.data[1] = 224;
+    arrival
+}
+
+fn say_not_taken() {
+    say::text(b"A frame that is not taken: the answer says why, and its counter goes up");
+    say::text(b" (a pool of one slot)\n");
+}
+
+fn show_not_taken() {
+    say_not_taken();
+    let mut g = started(1);
+    g = hear(g, 0, 35, 0, 0, 7200);
+    say::text(b"  from 36, a PGN that is not in the list: ");
+    g = answered(g, unlisted_frame());
+    say::text(b"  from 36, 224 bytes announced, one too many: ");
+    g = answered(g, overlong_frame());
+    say::text(b"  from 36, a first frame, and no slot is free: ");
+    g = answered(g, arrived_frame(10, 36, 0, 0, 7200));
+    say::text(b"  from 36, frame 1, and no message is open: ");
+    g = answered(g, arrived_frame(10, 36, 0, 1, 7200));
+    say::text(b"  from 35, frame 2 where frame 1 is next: ");
+    answered(g, arrived_frame(10, 35, 0, 2, 7200));
+}
+
 pub(crate) fn show() {
     show_old_half();
     show_full_pool();
     show_clock_set_back();
+    show_not_taken();
 }

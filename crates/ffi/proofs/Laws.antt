@@ -1,8 +1,8 @@
 -- What an entry passes on: from what its calls say to what it says. Assumes nothing.
 use Prim.Native.Nat.{ℕ}
-use mathlib.Core.List.{List}
-use mathlib.Core.Path.{_≡_, refl, ap, subst, _∙_}
-use Rattle.base.specs.Answer.{Answer}
+use mathlib.Core.List.{List, [], _∷_}
+use mathlib.Core.Path.{_≡_, refl, sym, ap, subst, _∙_}
+use Rattle.base.specs.Answer.{Answer, gives}
 use Rattle.can_id.specs.Build.{newIdBuilder, buildOf, idWithPriority, idWithDestination}
 use Rattle.can_id.specs.declared.CanIdBuilder.{CanIdBuilder}
 use Rattle.can_id.specs.declared.Destination.{Destination}
@@ -14,6 +14,7 @@ use Rattle.builder.specs.declared.FrameIterator.{FrameIterator}
 use Rattle.builder.specs.declared.FastPacketBuilder.{FastPacketBuilder}
 use Rattle.session.specs.declared.Heard.{Heard}
 use Rattle.session.specs.declared.Counters.{Counters}
+use Rattle.assembler.specs.Making.{freshPool, ofMade}
 use Rattle.assembler.specs.View.{receiveOf}
 use Rattle.assembler.specs.declared.Arrival.{Arrival}
 use Rattle.assembler.specs.declared.ArrivalWithLength.{ArrivalWithLength}
@@ -21,9 +22,9 @@ use Rattle.assembler.specs.Arrivals.{heardOf, heardWithLength}
 use Rattle.assembler.specs.Promises.{rulesOf, ReceivesHeard, Receives, ReceivesWithLength}
 use Rattle.assembler.proofs.Promised.{received-by as equation}
 use Rattle.assembler.specs.declared.Received.{Received}
-use Rattle.assembler.specs.declared.MadePool.{MadePool}
+use Rattle.assembler.specs.declared.Made.the-variants.{Fresh}
 use Rattle.assembler.specs.declared.Pool.{Pool}
-use Rattle.batch.specs.Rows.{Rows, batchOf, BatchLeft, Batches}
+use Rattle.batch.specs.Rows.{Rows, batchOf, BatchLeft, takenIn, Batches}
 use Rattle.batch.proofs.Promised.{batched-by}
 use Rattle.batch.specs.declared.Batch.{Batch}
 use Rattle.numbers.specs.Numbers.{toAddress, Answered}
@@ -106,11 +107,13 @@ set-by pgn source priority d f g h = h ∙ ap (λ (x : CanIdBuilder). setDestina
 pub left-by : {r s : Received} {before after : CallMemory} {code : ℕ} → CallLeft r before code after → r ≡ s → CallLeft s before code after
 left-by {before = before} {after} {code} h e = subst (λ (x : Received). CallLeft x before code after) e h
 
-pub made-by : {m n : MadePool} {before after : PoolMemory} {code : ℕ} → PoolLeft m before code after → m ≡ n → PoolLeft n before code after
-made-by {before = before} {after} {code} h e = subst (λ (x : MadePool). PoolLeft x before code after) e h
+pub made-by : {a b : Answer ℕ} {p q : Pool} {before after : PoolMemory} {code : ℕ} → PoolLeft a p before code after → a ≡ b → p ≡ q → PoolLeft b q before code after
+made-by {b = b} {p} {before = before} {after} {code} h e f =
+    subst (λ (x : Pool). PoolLeft b x before code after) f (subst (λ (x : Answer ℕ). PoolLeft x p before code after) e h)
 
-pub default-by : {p q : Pool} → p ≡ q → _≡_ {A = MadePool} (record { refused = 0; pool = p }) (record { refused = 0; pool = q })
-default-by e = ap (λ (p : Pool). record { refused = 0; pool = p }) e
+pub default-by : {p : Pool} → p ≡ freshPool 4 → ofMade Fresh (p .size) ≡ gives 4
+unfolding ofMade freshPool
+default-by e = ap (λ (p : Pool). gives (p .size)) e
 
 -- ---- the receive call on a pool and counters from numbers
 module _ (size : ℕ) (pgns : List ℕ) (before : CallMemory) {p : Pool} {k : Counters} {r : Received} (e : p ≡ poolFrom size (before .heads) (before .bytes)) (f : k ≡ countersFrom (before .counters)) where
@@ -141,7 +144,8 @@ module _ (size : ℕ) (pgns : List ℕ) (rows : Rows) (before : BatchMemory) {p 
       → Batches pgns (rows .times) (rows .pgns) (rows .sources) (rows .bytes) p k (before .kinds) (before .lengths) (before .arena) r kinds lengths arena
       → PoolAfter r (before .heads) code heads bytes counters counts
       → FramesLeft size pgns rows before code (record { heads = heads; bytes = bytes; counters = counters; kinds = kinds; lengths = lengths; arena = arena; counts = counts })
-  batch-left {heads = heads} {bytes} {counters} {kinds} {lengths} {arena} {counts} {code} g h =
+  batch-left {r} {heads} {bytes} {counters} {kinds} {lengths} {arena} {counts} {code} g h =
+      let left = g .leaves-these in
       subst
       (λ (l : BatchLeft).
       BatchMemoryLeft l before code (record { heads = heads; bytes = bytes; counters = counters; kinds = kinds; lengths = lengths; arena = arena; counts = counts }))
@@ -154,5 +158,5 @@ module _ (size : ℕ) (pgns : List ℕ) (rows : Rows) (before : BatchMemory) {p 
         answered = refl;
         measured = refl;
         delivered = refl;
-        taken = h .taken;
+        taken = h .taken ∙ ap (λ (n : ℕ). n ∷ r .used ∷ []) (left .taken ∙ ap takenIn (sym (left .answer)));
       })

@@ -3,26 +3,25 @@ use Prim.Native.Nat.{ℕ, zero, suc, _+_, _*_, _%_, _<_, _≤_}
 use mathlib.Core.Bool.{Bool, true, false}
 use mathlib.Core.List.{List, [], _∷_}
 use mathlib.Core.Path.{_≡_, refl, sym, ap, subst, _∙_}
-use lib.Dec.{eqb}
 use lib.ListN.{getD, length, length-append, List·getD-append}
 use lib.Seq.{sets, getD-at}
 use native.Mathlib.Nat.{add-zero}
 use native.Mathlib.Omega.{arith}
-use Rattle.base.specs.Answer.{gives}
+use Rattle.base.specs.Answer.{Answer, gives, refuses}
 use Rattle.base.specs.Pick.{pick}
-use Rattle.base.proofs.Cases.{when-eq, when-ne, pick-all, same?}
+use Rattle.base.proofs.Cases.{when-eq, pick-all, same?}
 use Rattle.session.specs.Kinds.{kindNumber}
 use Rattle.session.specs.Rules.{Rules, poolLimit}
 use Rattle.session.specs.Heads.{freshHead}
 use Rattle.session.specs.declared.Head.{Head}
 use Rattle.session.specs.declared.Heard.{Heard}
-use Rattle.session.specs.declared.Kind.the-variants.{Refused}
+use Rattle.session.specs.declared.Kind.the-variants.{ImpossiblePool}
 use Rattle.session.specs.declared.Counters.{Counters}
 use Rattle.assembler.specs.Call.{Call}
-use Rattle.assembler.specs.Making.{poolBytes, newPool}
+use Rattle.assembler.specs.Making.{poolBytes, sizeMade}
 use Rattle.assembler.specs.Slots.{within}
-use Rattle.assembler.specs.Step.{Said, ignored, consumed, complete, saidOf, eventOf, step, stepIf, outcome}
-use Rattle.assembler.specs.View.{slotsOf, poolOf, zeros, replyKind, replyPayload, replyLength, shown, receiveOf}
+use Rattle.assembler.specs.Step.{unlisted, badFrame, noSlot, lost, Said, ignored, consumed, complete, saidOf, eventOf, step, stepIf, outcome}
+use Rattle.assembler.specs.View.{slotsOf, poolOf, zeros, whyKind, replyKind, replyPayload, replyLength, shown, receiveOf}
 use Rattle.assembler.specs.declared.Pool.{Pool}
 use Rattle.assembler.specs.declared.Arrival.{Arrival}
 use Rattle.assembler.specs.declared.ArrivalWithLength.{ArrivalWithLength}
@@ -30,9 +29,9 @@ use Rattle.assembler.specs.Arrivals.{heardOf, heardWithLength}
 use Rattle.assembler.specs.Promises.{rulesOf}
 use Rattle.assembler.specs.declared.Received.{Received}
 use Rattle.assembler.proofs.Views.{view-back}
-use Rattle.batch.specs.Rows.{Rows, Run, batchOf, leaves, refusedBy, BatchLeft}
+use Rattle.batch.specs.Rows.{Rows, Run, batchOf, leaves, refusedBy, takenIn, BatchLeft}
 use Rattle.numbers.specs.Numbers.{isSet, laidOn}
-use Rattle.numbers.specs.Pool.{headAt, headOver, headsTo, headsFrom, laidTo, laidOver, poolFrom, countersFrom, counterNumbers, CallMemory, CallLeft, PoolMemory}
+use Rattle.numbers.specs.Pool.{headAt, headOver, headsTo, headsFrom, laidTo, laidOver, poolFrom, countersFrom, counterNumbers, CallMemory, CallLeft, PoolMemory, PoolLeft}
 use Rattle.numbers.proofs.Sets.{sets-same}
 use Rattle.ffi.specs.Calls.{NewPoolLeft, poolIn, receivedIn, receivedWithLengthIn, FrameLeft, FrameWithLengthLeft}
 use Rattle.ffi.specs.Batches.{BatchMemory, BatchMemoryLeft, batchIn, FramesLeft}
@@ -106,11 +105,14 @@ counters-back (a ∷ b ∷ c ∷ d ∷ e ∷ f ∷ l) h = absurd (omega arith)
 -- ---- the receive calls: the number of a refusal is below 100, that of every other answer is not
 
 refusal : Pool → Counters → Received
-refusal p k = record { kind = Refused 1; payload = zeros; length = 0; pool = p; counters = k }
+refusal p k = record { kind = ImpossiblePool; payload = zeros; length = 0; pool = p; counters = k }
 
 given : (s : Said) → kindNumber (replyKind (gives s)) < 100 → ⊥
-unfolding replyKind kindNumber
-given ignored h = omega arith
+unfolding replyKind whyKind kindNumber
+given (ignored unlisted) h = omega arith
+given (ignored badFrame) h = omega arith
+given (ignored noSlot) h = omega arith
+given (ignored lost) h = omega arith
 given consumed h = omega arith
 given (complete bytes n) h = omega arith
 
@@ -185,7 +187,7 @@ module _ (before : BatchMemory) (code : ℕ) (after : BatchMemory) where
 
   module _ (size : ℕ) (five : length (before .counters) ≡ 5) where
     by-refusal : (n : ℕ) → Leaves (refusedBy n (poolFrom size (before .heads) (before .bytes)) (countersFrom (before .counters)) (before .kinds) (before .lengths) (before .arena))
-    unfolding refusedBy poolFrom
+    unfolding refusedBy poolFrom takenIn
     by-refusal n l h =
         record {
           heads-kept = l .kept ∙ laid-back (before .heads);
@@ -209,6 +211,8 @@ module _ (before : BatchMemory) (code : ℕ) (after : BatchMemory) where
 -- ---- making a pool: `hf_raw_pool_new`
 pub refused-making-leaves : (wanted : ℕ) (before : PoolMemory) (code : ℕ) (after : PoolMemory) → NewPoolLeft wanted before code after → (code ≡ 0 → ⊥)
     → (after .heads ≡ before .heads) × (after .bytes ≡ before .bytes)
-refused-making-leaves wanted before code after l h =
-    let refused : newPool wanted .refused ≡ 0 → ⊥ = λ e. h (l .told ∙ e) in
-    (l .kept ∙ sym (when-ne _ (before .heads) refused refl), l .stored ∙ sym (when-ne _ (before .bytes) refused refl))
+refused-making-leaves wanted before code after = by-answer (sizeMade wanted)
+  where
+    by-answer : (a : Answer ℕ) {p : Pool} → PoolLeft a p before code after → (code ≡ 0 → ⊥) → (after .heads ≡ before .heads) × (after .bytes ≡ before .bytes)
+    by-answer (gives size) l h = absurd (h (l .told))
+    by-answer (refuses n carried) l h = (l .kept, l .stored)

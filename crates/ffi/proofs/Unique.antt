@@ -1,12 +1,11 @@
 -- The promise of each entry determines what it returns and what it lends out: two outcomes that satisfy it are equal. Assumes nothing.
 use Prim.Native.Nat.{ℕ}
-use mathlib.Core.Bool.{Bool}
 use mathlib.Core.List.{List}
 use mathlib.Core.Path.{_≡_, ap, _∙_}
 use Rattle.base.specs.Answer.{Answer, counted}
 use Rattle.base.proofs.Cases.{determined}
 use Rattle.can_id.specs.Layout.{priorityOf, pgnOf, sourceOf}
-use Rattle.fast_packet.specs.FastPacket.{listedIn, filledFrom}
+use Rattle.fast_packet.specs.FastPacket.{filledFrom}
 use Rattle.assembler.specs.declared.Arrival.{Arrival}
 use Rattle.assembler.specs.declared.ArrivalWithLength.{ArrivalWithLength}
 use Rattle.batch.specs.Rows.{Rows}
@@ -17,7 +16,7 @@ use Rattle.splitter.specs.Frames.{countIn}
 use Rattle.numbers.specs.Fives.{ToldInFive}
 use Rattle.numbers.specs.Numbers.{Answered}
 use Rattle.numbers.specs.Pool.{CallMemory, PoolMemory}
-use Rattle.numbers.proofs.Unique.{leave-unique, leave-made-unique}
+use Rattle.numbers.proofs.Unique.{leave-unique, pool-left-unique}
 use Rattle.ffi.specs.Ids.{readDestination, readParts, PartsBuilt, SetBuilt, BothBuilt}
 use Rattle.ffi.specs.Frames.{NewBuilderLeft, sequenceSet, prioritySet, destinationSet, startedPlace, FrameMemory, NextFrameLeft, TurnLeft}
 use Rattle.ffi.specs.Calls.{NewPoolLeft, DefaultPoolLeft, FrameLeft, FrameWithLengthLeft}
@@ -98,22 +97,16 @@ hf-raw-frame-iterator-next-unique builder payload place r s a b p q = (
   frames-same a b (determined (p .asked .filled) (q .asked .filled)) (determined (p .asked .named) (q .asked .named)) (determined (p .goes-on) (q .goes-on)),
 )
 
--- ---- the list and the filling
-pub hf-is-listed-unique : (pgn : ℕ) (pgns : List ℕ) (r s : Bool) → r ≡ listedIn pgn pgns → s ≡ listedIn pgn pgns → r ≡ s
-hf-is-listed-unique pgn pgns r s = determined
-
+-- ---- a frame cut short
 pub hf-fill-short-unique : (len : ℕ) (bytes r s : List ℕ) → r ≡ filledFrom len bytes → s ≡ filledFrom len bytes → r ≡ s
 hf-fill-short-unique len bytes r s = determined
 
-pub hf-handles-unique : (pgn : ℕ) (pgns : List ℕ) (r s : Bool) → r ≡ listedIn pgn pgns → s ≡ listedIn pgn pgns → r ≡ s
-hf-handles-unique pgn pgns r s = determined
-
 -- ---- the pool and the receive calls: what is returned, and all that was lent
 pub hf-raw-pool-new-unique : (wanted : ℕ) (before : PoolMemory) (r s : ℕ) (a b : PoolMemory) → NewPoolLeft wanted before r a → NewPoolLeft wanted before s b → (r ≡ s) × (a ≡ b)
-hf-raw-pool-new-unique wanted before r s a b = leave-made-unique _ before r s a b
+hf-raw-pool-new-unique wanted before r s a b = pool-left-unique _ _ before r s a b
 
 pub hf-raw-pool-default-unique : (before : PoolMemory) (r s : ℕ) (a b : PoolMemory) → DefaultPoolLeft before r a → DefaultPoolLeft before s b → (r ≡ s) × (a ≡ b)
-hf-raw-pool-default-unique before r s a b = leave-made-unique _ before r s a b
+hf-raw-pool-default-unique before r s a b = pool-left-unique _ _ before r s a b
 
 module _ (size : ℕ) (pgns : List ℕ) (before : CallMemory) (r s : ℕ) (a b : CallMemory) where
   -- of `hf_raw_receive` too

@@ -4,7 +4,8 @@ use mathlib.Core.List.{List, [], _∷_}
 use mathlib.Core.Path.{_≡_}
 use Rattle.assembler.specs.declared.Pool.{Pool}
 use Rattle.assembler.specs.Promises.{rulesOf}
-use Rattle.batch.specs.Rows.{Rows, BatchLeft, batchOf}
+use Rattle.batch.specs.Rows.{Rows, BatchLeft, batchOf, takenIn}
+use Rattle.numbers.specs.Numbers.{codeOf}
 use Rattle.numbers.specs.Pool.{laidOver, poolFrom, countersFrom, counterNumbers}
 
 -- the memory that a caller lends; `counts` is how many frames were taken and how many bytes of the arena
@@ -19,14 +20,14 @@ pub record BatchMemory : Type 0 where
 
 -- what the batch leaves: what is returned, and that memory, from what it was before
 pub record BatchMemoryLeft (l : BatchLeft) (before : BatchMemory) (code : ℕ) (after : BatchMemory) : Type 0 where
-  pub told : code ≡ l .answer .refused
-  pub kept : after .heads ≡ laidOver (before .heads) (l .answer .pool .heads)
-  pub stored : after .bytes ≡ l .answer .pool .bytes
-  pub counted : after .counters ≡ counterNumbers (l .answer .counters)
+  pub told : code ≡ codeOf (l .answer)
+  pub kept : after .heads ≡ laidOver (before .heads) (l .pool .heads)
+  pub stored : after .bytes ≡ l .pool .bytes
+  pub counted : after .counters ≡ counterNumbers (l .counters)
   pub answered : after .kinds ≡ l .kinds
   pub measured : after .lengths ≡ l .lengths
   pub delivered : after .arena ≡ l .arena
-  pub taken : after .counts ≡ l .answer .taken ∷ l .answer .used ∷ []
+  pub taken : after .counts ≡ takenIn (l .answer) ∷ l .used ∷ []
 
 unfoldable pub batchIn : ℕ → List ℕ → Rows → BatchMemory → BatchLeft
 batchIn size pgns rows before =

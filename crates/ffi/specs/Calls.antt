@@ -1,7 +1,8 @@
 -- What making a pool and the receive calls leave, on a pool and counters of numbers.
 use Prim.Native.Nat.{ℕ}
 use mathlib.Core.List.{List}
-use Rattle.assembler.specs.Making.{freshPool, newPool}
+use Rattle.base.specs.Answer.{gives}
+use Rattle.assembler.specs.Making.{freshPool, sizeMade, poolMade}
 use Rattle.assembler.specs.View.{receiveOf}
 use Rattle.assembler.specs.declared.Pool.{Pool}
 use Rattle.assembler.specs.declared.Received.{Received}
@@ -14,11 +15,11 @@ use Rattle.numbers.specs.Pool.{poolFrom, countersFrom, CallMemory, CallLeft, Po
 -- ---- a pool made
 -- `hf_raw_pool_new`
 abbrev pub NewPoolLeft : ℕ → PoolMemory → ℕ → PoolMemory → Type 0
-NewPoolLeft wanted before code after = PoolLeft (newPool wanted) before code after
+NewPoolLeft wanted before code after = PoolLeft (sizeMade wanted) (poolMade (sizeMade wanted)) before code after
 
 -- `hf_raw_pool_default`: "4 by default", never refused
 abbrev pub DefaultPoolLeft : PoolMemory → ℕ → PoolMemory → Type 0
-DefaultPoolLeft before code after = PoolLeft (record { refused = 0; pool = freshPool 4 }) before code after
+DefaultPoolLeft before code after = PoolLeft (gives 4) (freshPool 4) before code after
 
 -- ---- the receive calls, on the pool and counters that the lent memory has
 unfoldable pub poolIn : ℕ → CallMemory → Pool

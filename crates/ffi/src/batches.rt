@@ -1,15 +1,34 @@
 // The batch: many frames in one call.
 ghost use mathlib.Core.Path.{_≡_};
+ghost use Prim.Native.Nat.{ℕ};
+ghost use Rattle.batch.specs.Rows.{ofBatched};
+ghost use Rattle.numbers.specs.Numbers.{codeOf};
 ghost use Rattle.ffi.specs.Batches.{FramesLeft};
 ghost use Rattle.ffi.specs.inner.Batches.{PoolAfter};
 use assembler::POOL_BYTES;
 use batch::Batch;
+use batch::Batched;
 use batch::process_frames;
 use numbers::HEAD_NUMBERS;
 use numbers::counter_numbers;
 use numbers::counters_from;
 use numbers::pool_from;
 use numbers::put_heads;
+use session::IMPOSSIBLE_POOL;
+
+// The refusal of a row that is too short.
+const NO_ROOM: u32 = 27;
+
+// The number of how a batch went, which is the same however many frames were taken.
+fn batched_number(result: Batched) -> u32
+    ensures { λ code. ⌜ ((taken : ℕ) → code ≡ codeOf (ofBatched result taken)) ⌝ }
+{
+    match result {
+        Batched::Done => 0,
+        Batched::ImpossiblePool => IMPOSSIBLE_POOL as u32,
+        Batched::NoRoom => NO_ROOM,
+    }
+}
 
 fn leave_batch(
     r: Batch,
@@ -28,11 +47,12 @@ fn leave_batch(
     let after = r.counters;
     *counters = counter_numbers(after);
     *counts = [r.taken as u64, r.used as u64];
-    r.refused as u32
+    let result = r.result;
+    batched_number(result)
 }
 
-// 0, 1 or 27. Of each frame taken, `kinds` has 101 Ignored, 102 FragmentConsumed or 103 MessageComplete, and `lengths` the message's; the messages stand end to
-// end from the arena's start. `counts` is how many frames were taken and how many bytes of the arena.
+// 0, 1 or 27. Of each frame taken, `kinds` has 102 FragmentConsumed, 103 MessageComplete, 104 NotListed, 105 Rejected, 106 PoolFull or 107 Lost, and
+// `lengths` the message's; the messages stand end to end from the arena's start. `counts` is how many frames were taken and how many bytes of the arena.
 #[no_mangle]
 pub extern "C" fn hf_raw_process_frames(
     size: usize,

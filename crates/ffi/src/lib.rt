@@ -5,5 +5,5 @@ mod batches;
 mod bench_entries;
 mod frames;
 mod ids;
-mod listed;
 mod pools;
+mod short_frames;

@@ -1,13 +1,11 @@
 // The receive call: a pool as its size, eight numbers for each head of its slots and their bytes, the counters as five numbers.
-ghost use mathlib.Core.Path.{_≡_};
-ghost use Rattle.fast_packet.specs.FastPacket.{listedIn};
 ghost use Rattle.ffi.specs.Calls.{NewPoolLeft, DefaultPoolLeft, FrameLeft, FrameWithLengthLeft};
 use assembler::Arrival;
 use assembler::ArrivalWithLength;
+use assembler::Made;
 use assembler::MadePool;
 use assembler::POOL_BYTES;
 use assembler::Pool;
-use assembler::handles;
 use assembler::process_frame_through;
 use assembler::process_frame_with_length_through;
 use assembler::receive;
@@ -17,13 +15,6 @@ use numbers::counters_from;
 use numbers::leave;
 use numbers::leave_made;
 use numbers::pool_from;
-
-#[no_mangle]
-pub extern "C" fn hf_handles(pgns: &[u32], pgn: u32) -> bool
-    ensures { λ r. ⌜ r ≡ listedIn pgn (now (pgns .entry)) ⌝ }
-{
-    handles(pgns, pgn)
-}
 
 // 0, or 1 and heads and bytes as they were; `size` is the pool's.
 #[no_mangle]
@@ -51,13 +42,13 @@ pub extern "C" fn hf_raw_pool_default(
 {
     let pool = Pool::default();
     let made = MadePool {
-        refused: 0,
+        result: Made::Fresh,
         pool: pool,
     };
     leave_made(made, heads, bytes, size)
 }
 
-// A refusal's number, 101 Ignored, 102 FragmentConsumed or 103 MessageComplete.
+// Refusal 1 for an impossible pool, 102 FragmentConsumed, 103 MessageComplete, 104 NotListed, 105 Rejected, 106 PoolFull or 107 Lost.
 #[no_mangle]
 pub extern "C" fn hf_raw_process_frame(
     size: usize,

@@ -1,11 +1,13 @@
 -- Nothing is vacuous: one run of the receive call in which every fate and every other deed occurs, told by its ledger, by computation.
 -- Assumes nothing.
-use mathlib.Core.List.{List, [], _∷_}
+use mathlib.Core.List.{List, [], _∷_, map}
 use mathlib.Core.Path.{_≡_, refl}
 use Prim.Native.Nat.{ℕ}
 use Rattle.base.specs.Pick.{pick}
 use Rattle.base.specs.Lists.{nextPlace, here, orElse, firstAt, any, total}
 use Rattle.fast_packet.specs.FastPacket.{listedIn}
+use Rattle.session.specs.declared.Kind.{Kind}
+use Rattle.session.specs.declared.Kind.the-variants as kind
 use Rattle.session.specs.Rules.{base, silence, keysEqual}
 use Rattle.session.specs.Frames.{sequenceOf, indexOf, sizeOf, firstBytes, nextBytes, badSize, keyOf}
 use Rattle.session.specs.Heads.{freshHead, headKey, impossibleHead, hasKey, isSilent, isFree, isFreeOfSource, hasLiveKey, isExpired, inTurn, openedHead, resetHead, wanted, copiedHead, allThere}
@@ -14,8 +16,8 @@ use Rattle.assembler.specs.Call.{Call}
 use Rattle.assembler.specs.Slots.{freshSlot, freshSlots, impossible, chosen, live, openedSlot, resetSlot, copiedSlot}
 use Rattle.assembler.specs.Step.{opensAt, continuesAt, eventOf, slotsAfter, markOf, padded, message, saidOf, outcome, stepIf, step}
 use Rattle.assembler.specs.Making.{freshPool}
-use Rattle.assembler.specs.View.{slotsFrom, slotsOf, headOf, flat, poolOf, zeros, replyKind, replyPayload, replyLength, shown, receiveOf}
-use Rattle.ledger.specs.Ledger.{Ledger, ledgerOf, tells, tell, written, numbered, blank, tellOne, nothingMoved, opensIn, continuesIn, given, heldIn, openingAt, newMessage, left, full, itsTurn, grown, takenBy, keyHeld, late, free, sourceAt, freeOfSource, liveHeld, latestOf, ownBytes, framesBytes, announced, briefly, delivery, saying, sayingDue}
+use Rattle.assembler.specs.View.{slotsFrom, slotsOf, headOf, flat, poolOf, zeros, whyKind, replyKind, replyPayload, replyLength, shown, receiveOf}
+use Rattle.ledger.specs.Ledger.{Ledger, Saying, ledgerOf, tells, tell, written, numbered, blank, tellOne, nothingMoved, opensIn, continuesIn, given, heldIn, openingAt, newMessage, left, full, itsTurn, grown, takenBy, keyHeld, late, free, sourceAt, freeOfSource, liveHeld, latestOf, ownBytes, framesBytes, announced, briefly, delivery, kindDue, saying, sayingDue}
 use Rattle.ledger.specs.Ledger.{deedNumber, isOneOf, opens, begins, copies, ends, asNumber, howMany, did, openings, isSome, held, Delivered, Broken, Restarting, Reclaiming, NoSlot, Stray, BadSize, Unlisted, AtOnce}
 use Rattle.ledger.specs.Demand3.{Seen, inProgress}
 use Rattle.ledger.specs.Runs.{start, keptSource, sourcesOf, sayingOf, seenIn}
@@ -24,12 +26,12 @@ use Rattle.ledger.specs.Runs as run
 
 -- to unfold `ran` is to unfold all that its line names
 unfoldable pub ran : ℕ → List Call → Seen
-unfolding base silence keysEqual listedIn sequenceOf indexOf sizeOf firstBytes nextBytes badSize keyOf nextPlace here orElse firstAt any total pick freshHead headKey impossibleHead hasKey isSilent isFree isFreeOfSource hasLiveKey isExpired inTurn openedHead resetHead wanted copiedHead allThere freshCounters most raise raised expiredMark freshSlot freshSlots impossible chosen live openedSlot resetSlot copiedSlot opensAt continuesAt eventOf slotsAfter markOf padded message saidOf outcome stepIf step slotsFrom slotsOf headOf flat poolOf zeros replyKind replyPayload replyLength shown receiveOf freshPool start sayingOf run.afterCall receives seenIn seenAfter inProgress howMany asNumber
+unfolding base silence keysEqual listedIn sequenceOf indexOf sizeOf firstBytes nextBytes badSize keyOf nextPlace here orElse firstAt any total pick freshHead headKey impossibleHead hasKey isSilent isFree isFreeOfSource hasLiveKey isExpired inTurn openedHead resetHead wanted copiedHead allThere freshCounters most raise raised expiredMark freshSlot freshSlots impossible chosen live openedSlot resetSlot copiedSlot opensAt continuesAt eventOf slotsAfter markOf padded message saidOf outcome stepIf step slotsFrom slotsOf headOf flat poolOf zeros whyKind replyKind replyPayload replyLength shown receiveOf freshPool start sayingOf run.afterCall receives seenIn seenAfter inProgress howMany asNumber
 ran n cs = seenAfter (receiveOf base) (freshPool n) cs
 
 -- to unfold `told` is to unfold all that tells a ledger
 unfoldable pub told : ℕ → List Call → Ledger
-unfolding ran keptSource sourcesOf ledgerOf tells tell written numbered blank tellOne nothingMoved opensIn continuesIn given heldIn openingAt newMessage left full itsTurn grown takenBy keyHeld late free sourceAt freeOfSource liveHeld latestOf ownBytes framesBytes announced briefly delivery saying sayingDue deedNumber isOneOf opens begins copies ends did openings isSome held
+unfolding ran keptSource sourcesOf ledgerOf tells tell written numbered blank tellOne nothingMoved opensIn continuesIn given heldIn openingAt newMessage left full itsTurn grown takenBy keyHeld late free sourceAt freeOfSource liveHeld latestOf ownBytes framesBytes announced briefly delivery kindDue saying sayingDue deedNumber isOneOf opens begins copies ends did openings isSome held
 told n cs = ledgerOf base (sourcesOf (freshPool n)) cs
 
 -- ---- frames of PGN 127489, sequence 0
@@ -61,6 +63,9 @@ every =
     ∷ goes-on 1 507 35 ∷ announces 6 508 36 ∷ announces 224 509 36
     ∷ record { pgns = []; heard = announces 7 510 36 .heard } ∷ []
 
+unfoldable pub saidKind : Saying → Kind
+saidKind a = a .kind
+
 pub record Every : Type 0 where
   pub opened : openings (told 1 every) ≡ 5
   pub delivered : did Delivered (told 1 every) ≡ 1
@@ -73,6 +78,10 @@ pub record Every : Type 0 where
   pub bad : did BadSize (told 1 every) ≡ 1
   pub unlisted : did Unlisted (told 1 every) ≡ 1
   pub at-once : did AtOnce (told 1 every) ≡ 1
+  -- what was said, the latest first: every name that a call can give on a pool that the calls made
+  pub names : map saidKind (ran 1 every .said)
+      ≡ kind.NotListed ∷ kind.Rejected ∷ kind.MessageComplete ∷ kind.Lost ∷ kind.FragmentConsumed ∷ kind.PoolFull
+      ∷ kind.FragmentConsumed ∷ kind.FragmentConsumed ∷ kind.Lost ∷ kind.FragmentConsumed ∷ kind.MessageComplete ∷ kind.FragmentConsumed ∷ []
   pub in-progress : inProgress (ran 1 every .heads) ≡ 1
   pub lost : ran 1 every .counters .«lost_fragments» ≡ 2
   pub expired : ran 1 every .counters .«expired_sessions» ≡ 1
@@ -81,7 +90,7 @@ pub record Every : Type 0 where
   pub unknown : ran 1 every .counters .«unknown_pgn» ≡ 1
 
 pub every-fate : Every
-unfolding told every announces goes-on frame
+unfolding told every announces goes-on frame saidKind
 every-fate =
     record {
       opened = refl;
@@ -95,6 +104,7 @@ every-fate =
       bad = refl;
       unlisted = refl;
       at-once = refl;
+      names = refl;
       in-progress = refl;
       lost = refl;
       expired = refl;

@@ -15,3 +15,5 @@ pub mod Wrong
 pub mod TooLittle
 pub mod Keys
 pub mod Mixed
+pub mod Demand2
+pub mod Names

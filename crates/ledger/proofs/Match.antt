@@ -26,10 +26,10 @@ use Rattle.assembler.specs.Call.{Call, CallOk, listed}
 use Rattle.assembler.specs.Slots.{Slot, slotAt, freshSlot, onHead, chosen, live, copiedSlot}
 use Rattle.assembler.specs.Step as act
 use Rattle.assembler.specs.Step.{Event, message, padded, saidOf, slotsAfter, opensAt, continuesAt, eventOf}
-use Rattle.assembler.specs.View.{replyKind, replyPayload, replyLength}
+use Rattle.assembler.specs.View.{whyKind, replyKind, replyPayload, replyLength}
 use Rattle.ledger.specs.Ledger.{Message, Place, idle, holds, heldIn, newMessage, grown, keyHeld, late, free, freeOfSource, liveHeld, takenBy, full, itsTurn, left}
 use Rattle.ledger.specs.Ledger.{Deed, Unlisted, BadSize, NoSlot, Stray, AtOnce, Opening, Restarting, Reclaiming, Copied, Delivered, Broken, deedNumber, isOneOf, openingAt}
-use Rattle.ledger.specs.Ledger.{Told, nothingMoved, opensIn, continuesIn, given, tellOne, framesBytes, ownBytes, announced, briefly, delivery, saying}
+use Rattle.ledger.specs.Ledger.{Told, nothingMoved, opensIn, continuesIn, given, tellOne, framesBytes, ownBytes, announced, briefly, delivery, kindDue, saying}
 use Rattle.ledger.specs.Assemblers.{replySays}
 use Rattle.ledger.proofs.Moves.{within-taken}
 use Rattle.ledger.proofs.Shows.{Shows, HeldSlot, room-of, held-source, key-same, late-same, free-same, freeOfSource-same, live-same, possible, reset-shows, opened-shows, copied-room, full-same, copied-shows, cut-same, copied-source, turn-same, short-cut, short-due, whole-due}
@@ -97,13 +97,13 @@ module _ (R : Rules) where
   opening-marks c (holds m) s h = cc (h .busy, late-same R c m s h, late-marks (late R c m))
 
   late-says : (b : Bool) (m : Option Message) → briefly FragmentConsumed ≡ saying (pick b Reclaiming Restarting) m
-  unfolding saying isOneOf any deedNumber pick
+  unfolding kindDue saying isOneOf any deedNumber pick
   late-says true m = refl
   late-says false m = refl
 
   opening-says : (c : Call) (p : Place) → briefly FragmentConsumed ≡ saying (openingAt (late R c) p) (heldIn p)
   unfolding openingAt heldIn
-  opening-says c (idle kept) = unfold saying isOneOf any deedNumber pick in refl
+  opening-says c (idle kept) = unfold kindDue saying isOneOf any deedNumber pick in refl
   opening-says c (holds m) = late-says (late R c m) (some m)
 
   or-false : (a b : Bool) → (a || b) ≡ false → b ≡ false
@@ -116,8 +116,8 @@ module _ (R : Rules) where
 
   module _ (n : ℕ) (c : Call) (ok : CallOk c) {ps : List Place} {ss : List Slot} (h : All2 (Shows R) ps ss) where
     match-open : 7 ≤ sizeOf (c .heard) → sizeOf (c .heard) ≤ maxPayload → (o : Option ℕ) → Within (length ps) o → Match c ss (given o (nothingMoved NoSlot ps) (opensIn R n ps c)) (opensAt R (c .heard) ss o)
-    unfolding given opensIn opensAt nothingMoved slotsAfter saidOf act.markOf replySays replyKind replyPayload replyLength briefly
-    match-open low high none u = record { kept = refl; shows = h; says = unfold saying isOneOf any deedNumber pick in refl; marks = unfold markOf in refl }
+    unfolding given opensIn opensAt nothingMoved slotsAfter saidOf act.markOf replySays whyKind replyKind replyPayload replyLength briefly
+    match-open low high none u = record { kept = refl; shows = h; says = unfold kindDue saying isOneOf any deedNumber pick in refl; marks = unfold markOf in refl }
     match-open low high (some i) u =
         let q : Shows R (getD ps i (idle 0)) (slotAt ss i) = all2-at h i u (idle 0) freshSlot in
         record {
@@ -139,15 +139,15 @@ module _ (R : Rules) where
 
     -- the calls that move nothing
     match-unlisted : Match c ss (nothingMoved Unlisted ps) act.notListed
-    unfolding nothingMoved slotsAfter saidOf act.markOf markOf replySays replyKind replyPayload replyLength saying isOneOf any deedNumber pick briefly
+    unfolding nothingMoved slotsAfter saidOf act.markOf markOf replySays whyKind replyKind replyPayload replyLength kindDue saying isOneOf any deedNumber pick briefly
     match-unlisted = record { kept = refl; shows = h; says = refl; marks = refl }
 
     match-bad : Match c ss (nothingMoved BadSize ps) act.rejected
-    unfolding nothingMoved slotsAfter saidOf act.markOf markOf replySays replyKind replyPayload replyLength saying isOneOf any deedNumber pick briefly
+    unfolding nothingMoved slotsAfter saidOf act.markOf markOf replySays whyKind replyKind replyPayload replyLength kindDue saying isOneOf any deedNumber pick briefly
     match-bad = record { kept = refl; shows = h; says = refl; marks = refl }
 
     match-stray : Match c ss (nothingMoved Stray ps) act.stray
-    unfolding nothingMoved slotsAfter saidOf act.markOf markOf replySays replyKind replyPayload replyLength saying isOneOf any deedNumber pick briefly
+    unfolding nothingMoved slotsAfter saidOf act.markOf markOf replySays whyKind replyKind replyPayload replyLength kindDue saying isOneOf any deedNumber pick briefly
     match-stray = record { kept = refl; shows = h; says = refl; marks = refl }
 
     module _ (i : ℕ) (m : Message) (q : HeldSlot R m (slotAt ss i)) where
@@ -162,11 +162,11 @@ module _ (R : Rules) where
           }
 
       match-copied : itsTurn c m ≡ true → full (grown m c) ≡ false → Match c ss (record { deed = Copied; message = some (grown m c); places = set ps i (holds (grown m c)) }) (act.copied i)
-      unfolding slotsAfter saidOf act.markOf markOf replySays replyKind replyPayload replyLength saying isOneOf any deedNumber pick briefly
+      unfolding slotsAfter saidOf act.markOf markOf replySays whyKind replyKind replyPayload replyLength kindDue saying isOneOf any deedNumber pick briefly
       match-copied turn e = record { kept = simp length-set; shows = all2-set h i (copied-shows R c m (slotAt ss i) ok q turn e); says = refl; marks = refl }
 
       match-broken : Match c ss (record { deed = Broken; message = some m; places = set ps i (left m) }) (act.outOfTurn i)
-      unfolding slotsAfter saidOf act.markOf markOf replySays replyKind replyPayload replyLength saying isOneOf any deedNumber pick briefly
+      unfolding slotsAfter saidOf act.markOf markOf replySays whyKind replyKind replyPayload replyLength kindDue saying isOneOf any deedNumber pick briefly
       match-broken = record { kept = simp length-set; shows = all2-set h i (reset-shows R m (slotAt ss i) (held-source R m (slotAt ss i) q) (q .room)); says = refl; marks = refl }
 
       match-own : Match c ss (continuesIn ps c i m) (continuesAt (c .heard) ss (some i))

@@ -2,10 +2,11 @@
 -- second, and the batch delivers it in its arena. The run exists, and what it says is computed.
 -- Assumes nothing.
 use mathlib.Core.List.{List, [], _∷_, _++_}
-use mathlib.Core.Path.{_≡_, refl}
+use mathlib.Core.Path.{_≡_, refl, _∙_}
 use Prim.Native.Nat.{ℕ, zero, suc, _<_}
 use lib.ListN.{length, getD, replicate}
 use lib.Dec.{lit<}
+use Rattle.base.specs.Answer.{gives}
 use Rattle.base.specs.Lists.{fill}
 use Rattle.fast_packet.specs.FastPacket.{filledFrom}
 use Rattle.session.specs.declared.Kind.the-variants.{FragmentConsumed, MessageComplete}
@@ -22,8 +23,10 @@ use Rattle.assembler.specs.Arrivals.{heardOf, heardWithLength}
 use Rattle.assembler.specs.Promises.{rulesOf}
 use Rattle.assembler.specs.inner.Forms.{processedOf}
 use Rattle.assembler.proofs.Promised.{promised, process-promised}
+use Rattle.batch.specs.declared.Batch.{Batch}
+use Rattle.batch.specs.declared.Batched.the-variants.{Done}
 use Rattle.batch.specs.Rows as rows
-use Rattle.batch.specs.Rows.{Rows, frameInRows, BatchLeft, batchOf, runFrom, runOf, took, answerIn, over, leaves, refusedBy}
+use Rattle.batch.specs.Rows.{Rows, frameInRows, BatchLeft, batchOf, runFrom, runOf, took, answerIn, over, leaves, refusedBy, Batches}
 use Rattle.batch.specs.Lengths.{tooShort}
 use Rattle.batch.proofs.Promised.{batched}
 use Rattle.ledger.specs.Ledger.{briefly}
@@ -55,14 +58,20 @@ afterFirst =
 unfoldable pub afterSecond : State
 afterSecond = afterCall afterFirst (receiveOf base list (heardWithLength second) (afterFirst .pool) (afterFirst .counters))
 
+-- to unfold `batch` is to unfold all that its line names
 unfoldable pub batch : BatchLeft
+unfolding ran afterSecond afterFirst first second third arrives heardOf heardWithLength filledFrom fill afterLent kindNumber batchOf runFrom runOf took answerIn over leaves refusedBy tooShort frameInRows rows.emptyRun
 batch = batchOf base list third (afterSecond .pool) (afterSecond .counters) (0 ∷ []) (0 ∷ []) (replicate 20 0)
 
+-- one frame was taken, and its message has 20 bytes
+unfoldable pub answer : Batch
+answer = record { result = Done; taken = 1; used = 20; counters = batch .counters; pool = batch .pool }
+
 unfoldable pub afterThird : State
-afterThird = afterBatch afterSecond (batch .answer) (batch .kinds) (batch .lengths) (batch .arena)
+afterThird = afterBatch afterSecond answer (batch .kinds) (batch .lengths) (batch .arena)
 
 unfoldable pub calls : List Call
-calls = (call list (heardOf first) ∷ []) ++ ((call list (heardWithLength second) ∷ []) ++ (callsOf list third (batch .answer .taken) 0 ++ []))
+calls = (call list (heardOf first) ∷ []) ++ ((call list (heardWithLength second) ∷ []) ++ (callsOf list third 1 0 ++ []))
 
 -- every number of a row is a byte
 record Bytes (l : List ℕ) : Type 0 where
@@ -82,15 +91,34 @@ low : Bytes (third .bytes)
 unfolding third
 low = more (lit< tt) (more (lit< tt) (more (lit< tt) (more (lit< tt) (more (lit< tt) (more (lit< tt) (more (lit< tt) (more (lit< tt) none)))))))
 
+left-by : (l : BatchLeft) (taken used : ℕ) → l .answer ≡ gives taken → l .used ≡ used
+    → record { answer = gives taken; used = used; counters = l .counters; pool = l .pool; kinds = l .kinds; lengths = l .lengths; arena = l .arena } ≡ l
+left-by l taken used ea eu = rw (← ea, ← eu) refl
+
+one-taken : batch .answer ≡ gives 1
+unfolding batch
+one-taken = refl
+
+twenty-used : batch .used ≡ 20
+unfolding batch
+twenty-used = refl
+
+kept : Batches list (third .times) (third .pgns) (third .sources) (third .bytes) (afterSecond .pool) (afterSecond .counters) (0 ∷ []) (0 ∷ []) (replicate 20 0) answer (batch .kinds) (batch .lengths) (batch .arena)
+unfolding answer
+kept = batched (left-by batch 1 20 one-taken twenty-used ∙ is)
+  where
+    is : batch ≡ batchOf base list (record { times = third .times; pgns = third .pgns; sources = third .sources; bytes = third .bytes }) (afterSecond .pool) (afterSecond .counters) (0 ∷ []) (0 ∷ []) (replicate 20 0)
+    is = unfold batch in refl
+
 pub mixed : Ran (start (freshPool 1)) calls afterThird
-unfolding calls afterThird afterSecond afterFirst batch rulesOf start
+unfolding calls afterThird afterSecond afterFirst answer rulesOf start
 mixed =
     on (processed list first (unfold heardOf first arrives in record { eight = refl; byte = lit< tt }) (process-promised list (heardOf first) (freshPool 1) _ refl refl))
     (on (receivedWithLength list second (unfold heardOf second arrives in record { eight = refl; byte = lit< tt }) (promised list (heardWithLength second) _ _ refl))
-    (on (run.batched (low .small) (batched refl)) stop))
+    (on (run.batched (low .small) kept) stop))
 
 pub mixed-says : afterThird .said
     ≡ record { kind = MessageComplete; payload = padded (1 ∷ 2 ∷ 3 ∷ 4 ∷ 5 ∷ 6 ∷ 7 ∷ 8 ∷ 9 ∷ 10 ∷ 11 ∷ 12 ∷ 13 ∷ 14 ∷ 15 ∷ 16 ∷ 17 ∷ 18 ∷ 19 ∷ 20 ∷ []); length = 20 }
     ∷ briefly FragmentConsumed ∷ briefly FragmentConsumed ∷ []
-unfolding ran afterThird afterSecond afterFirst batch first second third arrives heardOf heardWithLength filledFrom fill afterLent afterBatch saidInRows kindOfNumber kindNumber batchOf runFrom runOf took answerIn over leaves refusedBy tooShort frameInRows rows.emptyRun briefly
+unfolding batch answer afterThird afterBatch saidInRows kindOfNumber briefly
 mixed-says = refl

@@ -4,10 +4,11 @@
 use mathlib.Core.Bool.{Bool, true, false}
 use mathlib.Core.List.{List, [], _∷_, _++_, map, append-assoc, append-nil}
 use mathlib.Core.Path.{_≡_, refl, sym, ap, subst, _∙_}
-use Prim.Native.Nat.{ℕ, suc, _+_, _%_, _≤_, _<_}
+use Prim.Native.Nat.{ℕ, suc, _+_, _≤_, _<_}
 use native.Mathlib.Omega.{arith}
 use lib.ListN.{length, getD, drop, length-append}
 use lib.Seq.{drop-drop}
+use Rattle.base.specs.Answer.{Answer, gives, refuses}
 use Rattle.base.specs.Pick.{pick}
 use Rattle.base.specs.Lists.{any}
 use Rattle.session.specs.declared.Counters.{Counters}
@@ -20,9 +21,11 @@ use Rattle.assembler.specs.Slots.{impossible}
 use Rattle.assembler.specs.View.{slotsOf, receiveOf}
 use Rattle.assembler.specs.Promises.{rulesOf}
 use Rattle.batch.specs.declared.Batch.{Batch}
+use Rattle.batch.specs.declared.Batched.{Batched}
+use Rattle.batch.specs.declared.Batched.the-variants.{ImpossiblePool}
 use Rattle.batch.specs.Lengths.{tooShort}
-use Rattle.batch.specs.Rows.{Rows, runOf, leaves, refusedBy, batchOf, Batches}
-use Rattle.ledger.specs.Ledger.{Message, Entry, Ledger, tellOne, tell, tells, written, blank, ledgerOf, briefly, delivery, saying, sayingDue, Saying}
+use Rattle.batch.specs.Rows.{Rows, runOf, leaves, refusedBy, batchOf, ofBatched, Batches}
+use Rattle.ledger.specs.Ledger.{Message, Entry, Ledger, tellOne, tell, tells, written, blank, ledgerOf, briefly, delivery, kindDue, saying, sayingDue, Saying}
 use Rattle.ledger.specs.Ledger as book
 use Rattle.ledger.specs.Demand3.{Seen, Agreed, Closes}
 use Rattle.ledger.specs.Rows.{RowsDue}
@@ -79,44 +82,61 @@ answers-kept {z} {ds = ds} r = rw (ran-taken r .is) (said-kept (receiveOf base) 
 
 -- ---- what follows
 
+-- the refusal's number, or 0
+numberIn : Answer ℕ → ℕ
+numberIn (gives taken) = 0
+numberIn (refuses n carried) = n
+
 -- of a possible pool a batch is refused by 27 or not at all
-by-length : (list : List ℕ) (w : Rows) (p : Pool) (k : Counters) (kinds lengths arena : List ℕ) → impossible base (slotsOf p) ≡ false → batchOf base list w p k kinds lengths arena .answer .refused % 27 ≡ 0
-unfolding batchOf
+by-length : (list : List ℕ) (w : Rows) (p : Pool) (k : Counters) (kinds lengths arena : List ℕ) → impossible base (slotsOf p) ≡ false → batchOf base list w p k kinds lengths arena .answer ≡ refuses 1 [] → ⊥
+unfolding batchOf pick refusedBy leaves numberIn
 by-length list w p k kinds lengths arena e = rw e (go (tooShort (length (w .times)) (length (w .pgns)) (length (w .sources)) (length (w .bytes)) (length kinds) (length lengths)))
   where
-    go : (b : Bool) → pick false (refusedBy 1 p k kinds lengths arena) (pick b (refusedBy 27 p k kinds lengths arena) (leaves (runOf base list w (length arena) p k) kinds lengths arena)) .answer .refused % 27 ≡ 0
-    go true = unfold pick refusedBy in refl
-    go false = unfold pick leaves in refl
+    go : (b : Bool) → pick false (refusedBy 1 p k kinds lengths arena) (pick b (refusedBy 27 p k kinds lengths arena) (leaves (runOf base list w (length arena) p k) kinds lengths arena)) .answer ≡ refuses 1 [] → ⊥
+    go true one = omega (arith, ap numberIn one)
+    go false one = omega (arith, ap numberIn one)
 
 -- no answer that the ledger calls for is a refusal
 unfoldable pub saysRefused : Saying → Bool
 saysRefused a = refusal (a .kind)
   where
     refusal : Kind → Bool
-    refusal (kind.Refused n) = true
-    refusal kind.Ignored = false
+    refusal kind.ImpossiblePool = true
+    refusal kind.NotListed = false
+    refusal kind.Rejected = false
+    refusal kind.PoolFull = false
+    refusal kind.Lost = false
     refusal kind.FragmentConsumed = false
     refusal kind.MessageComplete = false
 
-briefly-says : (b : Bool) → saysRefused (pick b (briefly kind.FragmentConsumed) (briefly kind.Ignored)) ≡ false
-unfolding saysRefused pick briefly
-briefly-says true = refl
-briefly-says false = refl
+briefly-says : (d : book.Deed) → saysRefused (briefly (kindDue d)) ≡ false
+unfolding saysRefused briefly kindDue
+briefly-says book.Unlisted = refl
+briefly-says book.BadSize = refl
+briefly-says book.NoSlot = refl
+briefly-says book.Stray = refl
+briefly-says book.AtOnce = refl
+briefly-says book.Opening = refl
+briefly-says book.Restarting = refl
+briefly-says book.Reclaiming = refl
+briefly-says book.Copied = refl
+briefly-says book.Delivered = refl
+briefly-says book.Broken = refl
 
 delivery-says : (m : Option Message) → saysRefused (delivery m) ≡ false
 unfolding saysRefused delivery briefly
 delivery-says none = refl
 delivery-says (some m) = refl
 
-saying-says : (b c : Bool) (m : Option Message) → saysRefused (pick b (delivery m) (pick c (briefly kind.FragmentConsumed) (briefly kind.Ignored))) ≡ false
+saying-says : (b : Bool) (d : book.Deed) (m : Option Message) → saysRefused (pick b (delivery m) (briefly (kindDue d))) ≡ false
 unfolding pick
-saying-says true c m = delivery-says m
-saying-says false c m = briefly-says c
+saying-says true d m = delivery-says m
+saying-says false d m = briefly-says d
 
 none-refused : (es : List Entry) → any saysRefused (map sayingDue es) ≡ false
 unfolding any sayingDue saying
 none-refused [] = refl
-none-refused (e ∷ es) = rw (saying-says (book.isOneOf (book.AtOnce ∷ book.Delivered ∷ []) (e .deed)) _ (e .message), none-refused es)
+none-refused (e ∷ es) = rw (saying-says (book.isOneOf (book.AtOnce ∷ book.Delivered ∷ []) (e .deed)) (e .deed) (e .message), none-refused es)
 
 pub never-refused : {s : Seen} {L : Ledger} → Agreed s L → any saysRefused (s .said) ≡ false
 never-refused {L = L} a = rw (a .answers) (none-refused (L .entries))
@@ -124,12 +144,12 @@ never-refused {L = L} a = rw (a .answers) (none-refused (L .entries))
 -- nor is a batch: what it is refused by, if anything, is 27
 pub batch-not-impossible : (p : Pool) → Empty p → {cs : List Call} {y : State} → Ran (start p) cs y → length cs ≤ 4294967295
     → {list times pgns sources bytes kinds lengths arena : List ℕ} {r : Batch} {kinds′ lengths′ arena′ : List ℕ}
-    → Batches list times pgns sources bytes (y .pool) (y .counters) kinds lengths arena r kinds′ lengths′ arena′ → r .refused ≡ 1 → ⊥
+    → Batches list times pgns sources bytes (y .pool) (y .counters) kinds lengths arena r kinds′ lengths′ arena′ → r .result ≡ ImpossiblePool → ⊥
 unfolding rulesOf
 batch-not-impossible p e {cs} {y} run l {list} {times} {pgns} {sources} {bytes} {kinds} {lengths} {arena} {r} h one =
     let w : Rows = record { times = times; pgns = pgns; sources = sources; bytes = bytes } in
-    let refused : r .refused ≡ batchOf base list w (y .pool) (y .counters) kinds lengths arena .answer .refused = ap (λ (b : Batch). b .refused) (h .answer) in
-    omega (arith, one, refused, by-length list w (y .pool) (y .counters) kinds lengths arena (pool-possible p e run l))
+    let refused : batchOf base list w (y .pool) (y .counters) kinds lengths arena .answer ≡ refuses 1 [] = sym (h .leaves-these .answer) ∙ ap (λ (b : Batched). ofBatched b (r .taken)) one ∙ (unfold ofBatched in refl) in
+    by-length list w (y .pool) (y .counters) kinds lengths arena (pool-possible p e run l) refused
 
 -- a batch after any run: what is seen then closes with the ledger of its frames too, and its rows of kinds and lengths and its arena hold what the ledger's
 -- newest entries call for

@@ -16,7 +16,7 @@ use Rattle.session.specs.Counting.{raised, expiredMark}
 use Rattle.assembler.specs.declared.Pool.{Pool}
 use Rattle.assembler.specs.Call.{Call}
 use Rattle.assembler.specs.Slots.{Slot, Slots, within, slotAt, impossible, openedSlot, resetSlot, copiedSlot}
-use Rattle.assembler.specs.Step.{Event, notListed, rejected, shortMessage, poolFull, opened, stray, outOfTurn, copied, completed, eventOf, slotsAfter, markOf, Said, ignored, consumed, message, saidOf, Outcome, outcome, stepIf, step}
+use Rattle.assembler.specs.Step.{Event, notListed, rejected, shortMessage, poolFull, opened, stray, outOfTurn, copied, completed, eventOf, slotsAfter, markOf, Said, unlisted, badFrame, noSlot, lost, ignored, consumed, message, saidOf, Outcome, outcome, stepIf, step}
 use Rattle.assembler.specs.View.{slotsOf, shown, receiveOf}
 use Rattle.ledger.specs.Assemblers.{Receive}
 
@@ -65,13 +65,13 @@ markBy q (copied i) = Nothing
 markBy q (completed i) = Nothing
 
 unfoldable pub saidBy : Parts → Heard → List Slot → Event → Said
-saidBy q f ss notListed = ignored
-saidBy q f ss rejected = ignored
+saidBy q f ss notListed = ignored unlisted
+saidBy q f ss rejected = ignored badFrame
 saidBy q f ss shortMessage = message (take (sizeOf f) (firstBytes f))
-saidBy q f ss poolFull = ignored
+saidBy q f ss poolFull = ignored noSlot
 saidBy q f ss (opened i late) = consumed
-saidBy q f ss stray = ignored
-saidBy q f ss (outOfTurn i) = ignored
+saidBy q f ss stray = ignored lost
+saidBy q f ss (outOfTurn i) = ignored lost
 saidBy q f ss (copied i) = consumed
 saidBy q f ss (completed i) = message (q .delivering f (slotAt ss i))
 

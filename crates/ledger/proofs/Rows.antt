@@ -13,60 +13,72 @@ use Rattle.base.specs.Answer.{gives, refuses}
 use Rattle.base.specs.Pick.{pick}
 use Rattle.session.specs.declared.Heard.{Heard}
 use Rattle.session.specs.declared.Counters.{Counters}
+use Rattle.session.specs.declared.Kind.{Kind}
+use Rattle.session.specs.declared.Kind.the-variants.{ImpossiblePool, NotListed, Rejected, PoolFull, Lost, FragmentConsumed, MessageComplete}
 use Rattle.session.specs.Kinds.{kindNumber}
 use Rattle.session.specs.Rules.{Rules, base}
 use Rattle.assembler.specs.declared.Pool.{Pool}
 use Rattle.assembler.specs.declared.Received.{Received}
 use Rattle.assembler.specs.Call.{Call, CallOk}
 use Rattle.assembler.specs.Slots.{Slot, Slots, impossible}
-use Rattle.assembler.specs.Step.{Event, notListed, rejected, shortMessage, poolFull, opened, stray, outOfTurn, copied, completed, ignored, consumed, Reply, padded, message, saidOf, outcome, stepIf, step}
+use Rattle.assembler.specs.Step.{Event, notListed, rejected, shortMessage, poolFull, opened, stray, outOfTurn, copied, completed, Why, ignored, consumed, Reply, padded, message, saidOf, outcome, stepIf, step}
 use Rattle.assembler.specs.View.{slotsOf, zeros, replyKind, replyPayload, replyLength, shown, receiveOf}
 use Rattle.assembler.specs.Promises.{rulesOf}
 use Rattle.batch.specs.declared.Batch.{Batch}
 use Rattle.batch.specs.Lengths.{tooShort}
 use Rattle.batch.specs.Rows as rows
-use Rattle.batch.specs.Rows.{Rows, frameInRows, took, answerIn, runOf, over, leaves, refusedBy, batchOf, BatchLeft, Batches}
+use Rattle.batch.specs.Rows.{Rows, frameInRows, took, answerIn, runOf, over, leaves, refusedBy, batchOf, BatchLeft, takenIn, AreLeft, Batches}
 use Rattle.batch.specs.Calls.{callEach, joined}
 use Rattle.batch.proofs.Continues.{as-far}
-use Rattle.batch.proofs.Promised.{batched-by}
+use Rattle.batch.proofs.Promised.{answerFrom}
 use Rattle.ledger.specs.Rows.{newestRow, itsKind, itsLength, itsMessage, RowsDue}
 use Rattle.ledger.specs.Runs.{State, sayingOf, afterCall, call, callsOf, kindOfNumber, saidInRows, afterBatch}
 use Rattle.ledger.specs.Assemblers.{AllOk, none, more, receives}
 
--- ---- an answer can be read off a row: its length is within its payload, the rest of which is zeros
+-- ---- an answer can be read off a row: its kind by its number, its length within its payload, the rest of which is zeros
+
+-- no two kinds have one number
+pub kind-back : (k : Kind) → kindOfNumber (kindNumber k) ≡ k
+unfolding kindOfNumber kindNumber pick
+kind-back ImpossiblePool = refl
+kind-back NotListed = refl
+kind-back Rejected = refl
+kind-back PoolFull = refl
+kind-back Lost = refl
+kind-back FragmentConsumed = refl
+kind-back MessageComplete = refl
 
 record Readable (r : Reply) : Type 0 where
-  kind : kindOfNumber (kindNumber (replyKind r)) ≡ replyKind r
   long : length (take (replyLength r) (replyPayload r)) ≡ replyLength r
   filled : padded (take (replyLength r) (replyPayload r)) ≡ replyPayload r
 
-readable-ignored : Readable (gives ignored)
-unfolding kindOfNumber kindNumber replyKind replyPayload replyLength pick padded zeros
-readable-ignored = record { kind = refl; long = refl; filled = refl }
+readable-ignored : (why : Why) → Readable (gives (ignored why))
+unfolding replyPayload replyLength padded zeros
+readable-ignored why = record { long = refl; filled = refl }
 
 readable-consumed : Readable (gives consumed)
-unfolding kindOfNumber kindNumber replyKind replyPayload replyLength pick padded zeros
-readable-consumed = record { kind = refl; long = refl; filled = refl }
+unfolding replyPayload replyLength padded zeros
+readable-consumed = record { long = refl; filled = refl }
 
 readable-message : (bytes : List ℕ) → Readable (gives (message bytes))
-unfolding kindOfNumber kindNumber replyKind replyPayload replyLength pick message
+unfolding replyPayload replyLength message
 readable-message bytes =
     let back : take (length bytes) (padded bytes) ≡ bytes = unfold padded in take-at bytes _ (length bytes) refl in
-    record { kind = refl; long = ap length back; filled = ap padded back }
+    record { long = ap length back; filled = ap padded back }
 
 readable-refused : Readable (refuses 1 [])
-unfolding kindOfNumber kindNumber replyKind replyPayload replyLength pick padded zeros
-readable-refused = record { kind = refl; long = refl; filled = refl }
+unfolding replyPayload replyLength padded zeros
+readable-refused = record { long = refl; filled = refl }
 
 readable-said : (f : Heard) (ss : List Slot) (e : Event) → Readable (gives (saidOf f ss e))
 unfolding saidOf
-readable-said f ss notListed = readable-ignored
-readable-said f ss rejected = readable-ignored
+readable-said f ss notListed = readable-ignored _
+readable-said f ss rejected = readable-ignored _
 readable-said f ss shortMessage = readable-message _
-readable-said f ss poolFull = readable-ignored
+readable-said f ss poolFull = readable-ignored _
 readable-said f ss (opened i late) = readable-consumed
-readable-said f ss stray = readable-ignored
-readable-said f ss (outOfTurn i) = readable-ignored
+readable-said f ss stray = readable-ignored _
+readable-said f ss (outOfTurn i) = readable-ignored _
 readable-said f ss (copied i) = readable-consumed
 readable-said f ss (completed i) = readable-message _
 
@@ -90,7 +102,7 @@ told R pgns f p k arena =
     let h = readable R pgns f p k in
     let r : Reply = step R (slotsOf p) k (record { pgns = pgns; heard = f }) .reply in
     let bytes : List ℕ = take (replyLength r) (replyPayload r) in
-    record { same = rw (take-at bytes arena (replyLength r) (h .long), h .kind, h .filled); rest = drop-at bytes arena (replyLength r) (h .long) }
+    record { same = rw (take-at bytes arena (replyLength r) (h .long), kind-back (replyKind r), h .filled); rest = drop-at bytes arena (replyLength r) (h .long) }
 
 -- ---- single calls, and what they say
 
@@ -189,22 +201,22 @@ pub record Taken (z y : State) (cs : List Call) : Type 0 where
 
 -- ... and what the rows of a batch then hold
 abbrev RowsAfter : State → BatchLeft → List ℕ → List ℕ → List ℕ → Type 0
-RowsAfter y b kinds lengths arena = RowsDue (b .answer .taken) (y .said) kinds lengths arena (b .kinds) (b .lengths) (b .arena)
+RowsAfter y b kinds lengths arena = RowsDue (takenIn (b .answer)) (y .said) kinds lengths arena (b .kinds) (b .lengths) (b .arena)
 
 module _ (l : List ℕ) (w : Rows) (z : State) (kinds lengths arena : List ℕ) (small : (i : ℕ) → getD (w .bytes) i 0 < 256) where
   after : BatchLeft → State
-  after b = afterBatch z (b .answer) (b .kinds) (b .lengths) (b .arena)
+  after b = afterBatch z (answerFrom b) (b .kinds) (b .lengths) (b .arena)
 
   abbrev Good : BatchLeft → Type 0
-  Good b = Taken z (after b) (callsOf l w (b .answer .taken) 0) × RowsAfter (receives (receiveOf base) z (callsOf l w (b .answer .taken) 0)) b kinds lengths arena
+  Good b = Taken z (after b) (callsOf l w (takenIn (b .answer)) 0) × RowsAfter (receives (receiveOf base) z (callsOf l w (takenIn (b .answer)) 0)) b kinds lengths arena
 
   good-refused : (n : ℕ) → Good (refusedBy n (z .pool) (z .counters) kinds lengths arena)
-  unfolding after refusedBy afterBatch callsOf receives saidInRows newestRow over
+  unfolding after answerFrom takenIn refusedBy afterBatch callsOf receives saidInRows newestRow over
   good-refused n = (record { is = refl; oks = none }, record { told = refl; measured = refl; delivered = refl })
 
   good-run : tooShort (length (w .times)) (length (w .pgns)) (length (w .sources)) (length (w .bytes)) (length kinds) (length lengths) ≡ false
       → Good (leaves (runOf base l w (length arena) (z .pool) (z .counters)) kinds lengths arena)
-  unfolding after leaves afterBatch over
+  unfolding after answerFrom takenIn leaves afterBatch over
   good-run e =
       let y : rows.Run = runOf base l w (length arena) (z .pool) (z .counters) in
       let t : ℕ = length (y .kinds) in
@@ -240,12 +252,15 @@ module _ {l times pgns sources bytes : List ℕ} (z : State) {kinds lengths aren
   abbrev heardRows : Rows
   heardRows = record { times = times; pgns = pgns; sources = sources; bytes = bytes }
 
-  kept : Good l heardRows z kinds lengths arena small (record { answer = r; kinds = kinds′; lengths = lengths′; arena = arena′ })
-  unfolding rulesOf
-  kept = subst (Good l heardRows z kinds lengths arena small) (sym (batched-by h)) (good-batch l heardRows z kinds lengths arena small)
+  abbrev promise : AreLeft (batchOf base l heardRows (z .pool) (z .counters) kinds lengths arena) r kinds′ lengths′ arena′
+  promise = unfold rulesOf in h .leaves-these
+
+  batch-after : afterBatch z r kinds′ lengths′ arena′ ≡ after l heardRows z kinds lengths arena small (batchOf base l heardRows (z .pool) (z .counters) kinds lengths arena)
+  unfolding after afterBatch answerFrom
+  batch-after = rw (promise .left, promise .counted, promise .taken, promise .told, promise .measured, promise .delivered) refl
 
   pub batch-taken : Taken z (afterBatch z r kinds′ lengths′ arena′) (callsOf l heardRows (r .taken) 0)
-  batch-taken = unfold after in kept .0
+  batch-taken = subst (λ (y : State). Taken z y (callsOf l heardRows (r .taken) 0)) (sym batch-after) (rw (promise .taken) (good-batch l heardRows z kinds lengths arena small .0))
 
   pub batch-rows : RowsDue (r .taken) (afterBatch z r kinds′ lengths′ arena′ .said) kinds lengths arena kinds′ lengths′ arena′
-  batch-rows = rw (batch-taken .is) (kept .1)
+  batch-rows = rw (batch-taken .is) (rw (promise .taken, promise .told, promise .measured, promise .delivered) (good-batch l heardRows z kinds lengths arena small .1))

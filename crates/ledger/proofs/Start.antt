@@ -9,6 +9,8 @@ use lib.ListN.{length, take, drop, replicate, length-replicate, length-drop}
 use lib.Seq.{length-take-le}
 use lib.Dec.{ltb}
 use borrow.Author.Tests.{ltb-false}
+use Rattle.base.specs.Answer.{gives, refuses}
+use Rattle.base.specs.Pick.{pick}
 use Rattle.base.specs.Lists.{total}
 use Rattle.base.proofs.Paired.{All2, nil, cons}
 use Rattle.session.specs.declared.Head.{Head}
@@ -16,7 +18,7 @@ use Rattle.session.specs.Rules.{Rules, poolLimit}
 use Rattle.session.specs.Heads.{freshHead}
 use Rattle.assembler.specs.declared.Pool.{Pool}
 use Rattle.assembler.specs.Slots.{freshSlot, freshSlots}
-use Rattle.assembler.specs.Making.{poolBytes, freshPool, madeIf, newPool}
+use Rattle.assembler.specs.Making.{poolBytes, freshPool, sizeMade, poolMade}
 use Rattle.assembler.specs.View.{slotsFrom, slotsOf}
 use Rattle.assembler.proofs.Views.{Sized, sized-view, slots-long}
 use Rattle.ledger.specs.Ledger.{idle, asNumber, howMany, blank}
@@ -59,14 +61,14 @@ pub fresh-empty : (n : ℕ) → n ≤ poolLimit → Empty (freshPool n)
 unfolding freshPool
 fresh-empty n h = record { size = h; idle = all-idle n poolLimit; heads = length-replicate poolLimit freshHead; bytes = length-replicate {A = ℕ} poolBytes 0 }
 
-made-by : (b : Bool) (n : ℕ) → ltb poolLimit n ≡ b → Empty (madeIf b n .pool)
-unfolding madeIf
+made-by : (b : Bool) (n : ℕ) → ltb poolLimit n ≡ b → Empty (poolMade (pick b (refuses 1 []) (gives n)))
+unfolding poolMade pick
 made-by true n e = fresh-empty 0 (omega arith)
 made-by false n e = fresh-empty n (ltb-false poolLimit n e)
 
 -- whatever size is asked for
-pub made-empty : (n : ℕ) → Empty (newPool n .pool)
-unfolding newPool
+pub made-empty : (n : ℕ) → Empty (poolMade (sizeMade n))
+unfolding sizeMade
 made-empty n = made-by (ltb poolLimit n) n refl
 
 -- ---- fresh slots, at every limit

@@ -1,11 +1,13 @@
 -- "Reject these": no assembler with one fixed kind of answer meets demand 2, and none that never stores a fragment. Each is shown by frames on which it answers
 -- otherwise than document 01's steps. (Those that demand 3 rejects stand in Wrong.antt.)
 -- Assumes nothing.
-use mathlib.Core.List.{List, [], _∷_}
+use mathlib.Core.Bool.{Bool, true, false, true≢false}
+use mathlib.Core.List.{List}
 use mathlib.Core.Path.{_≡_, refl, sym, ap, _∙_}
 use Prim.Native.Nat.{ℕ}
 use native.Mathlib.Omega.{arith}
 use lib.ListN.{getD, take}
+use Rattle.base.specs.Answer.{Answer, gives, refuses}
 use Rattle.session.specs.declared.Heard.{Heard}
 use Rattle.session.specs.declared.Kind.{Kind}
 use Rattle.session.specs.declared.Kind.the-variants as kind
@@ -17,50 +19,81 @@ use Rattle.assembler.specs.declared.Received.{Received}
 use Rattle.assembler.specs.Call.{Call}
 use Rattle.assembler.specs.Slots.{Slot, resetSlot}
 use Rattle.assembler.specs.Making.{freshPool}
-use Rattle.assembler.specs.View.{receiveOf}
-use Rattle.ledger.specs.Demand3.{Seen}
-use Rattle.ledger.specs.Runs.{State, start, afterCall, seenIn}
-use Rattle.ledger.specs.Assemblers.{Receive, receives, seenAfter, Demand2, OneKind, NeverStores}
+use Rattle.assembler.specs.View.{replyBy, replyOf, receiveOf}
+use Rattle.ledger.specs.Demand2.{Answered, Ignored, FragmentConsumed, MessageComplete, whole, answerOf, Original, happens, originalIf, originalOf, asIgnored, readReply, asOriginal}
+use Rattle.ledger.specs.Assemblers.{Receive, Demand2, AlwaysIgnores, OneKind, NeverStores}
+use Rattle.ledger.proofs.Demand2.{call-as}
 use Rattle.ledger.proofs.EveryFate.{ran, frame, announces, goes-on}
-use Rattle.ledger.proofs.Trials.{pair, lastByte}
 use Rattle.ledger.proofs.Parts.{Parts, untouched, slotsBy, markBy, saidBy, outcomeBy, stepBy, by}
+use Rattle.ledger.proofs.Wrong.{completes}
 
 -- what an assembler gives on a fresh pool of four slots and zero counters
 abbrev first : Receive → Call → Received
 first f c = f (c .pgns) (c .heard) (freshPool 4) freshCounters
 
+-- ---- the receive call itself meets demand 2
+
+pub meets-demand-2 : Demand2 (receiveOf base)
+unfolding Demand2
+meets-demand-2 pgns heard pool counters = call-as base pgns heard pool counters
+
 -- ---- one fixed kind of answer
 
-completes : Kind → ℕ
-completes (kind.Refused n) = 0
-completes kind.Ignored = 0
-completes kind.FragmentConsumed = 0
-completes kind.MessageComplete = 1
+isMessage : Answer Answered → Bool
+isMessage (refuses n carried) = false
+isMessage (gives Ignored) = false
+isMessage (gives FragmentConsumed) = false
+isMessage (gives (MessageComplete bytes n)) = true
+
+-- what document 01's steps give there
+abbrev firstly : Call → Original
+firstly c = originalOf base (c .pgns) (c .heard) (freshPool 4) freshCounters
 
 -- 00 06 and six bytes are a message; 00 00 is ignored
-six-completes : completes (first (receiveOf base) (announces 6 0 35) .kind) ≡ 1
-unfolding ran announces frame completes
+six-completes : isMessage (firstly (announces 6 0 35) .answer) ≡ true
+unfolding ran announces frame isMessage originalOf originalIf happens answerOf whole
 six-completes = refl
 
-nothing-completes : completes (first (receiveOf base) (announces 0 0 35) .kind) ≡ 0
-unfolding ran announces frame completes
+nothing-completes : isMessage (firstly (announces 0 0 35) .answer) ≡ false
+unfolding ran announces frame isMessage originalOf originalIf happens answerOf whole
 nothing-completes = refl
 
+-- whether an answer is a message is told by its kind
+by-kind : (k : Kind) (payload : List ℕ) (length : ℕ) → isMessage (readReply (replyBy k payload length)) ≡ completes k
+unfolding isMessage readReply asIgnored replyBy completes
+by-kind kind.ImpossiblePool payload length = refl
+by-kind kind.NotListed payload length = refl
+by-kind kind.Rejected payload length = refl
+by-kind kind.PoolFull payload length = refl
+by-kind kind.Lost payload length = refl
+by-kind kind.FragmentConsumed payload length = refl
+by-kind kind.MessageComplete payload length = refl
+
 module _ (f : Receive) (meets : Demand2 f) where
-  as-steps : (c : Call) → first f c ≡ first (receiveOf base) c
+  as-steps : (c : Call) → asOriginal (first f c) ≡ firstly c
   unfolding Demand2
   as-steps c = meets (c .pgns) (c .heard) (freshPool 4) freshCounters
 
-  kind-of : (k : Kind) → OneKind k f → (c : Call) → first (receiveOf base) c .kind ≡ k
-  unfolding OneKind
-  kind-of k one c = ap (λ (r : Received). r .kind) (sym (as-steps c)) ∙ one (c .pgns) (c .heard) (freshPool 4) freshCounters
+  answers-as : (c : Call) → readReply (replyOf (first f c)) ≡ firstly c .answer
+  answers-as c = unfold asOriginal in ap (λ (o : Original). o .answer) (as-steps c)
+
+  -- the two frames are not answered alike
+  not-alike : (b : Bool) → ((c : Call) → isMessage (readReply (replyOf (first f c))) ≡ b) → ⊥
+  not-alike b same =
+      let six : b ≡ true = sym (same (announces 6 0 35)) ∙ ap isMessage (answers-as (announces 6 0 35)) ∙ six-completes in
+      let nothing : b ≡ false = sym (same (announces 0 0 35)) ∙ ap isMessage (answers-as (announces 0 0 35)) ∙ nothing-completes in
+      true≢false (sym six ∙ nothing)
+
+  pub rejects-always-ignored : AlwaysIgnores f → ⊥
+  unfolding AlwaysIgnores
+  rejects-always-ignored ignores = not-alike false (λ c. ap isMessage (ignores (c .pgns) (c .heard) (freshPool 4) freshCounters) ∙ (unfold isMessage in refl))
+
+  of-one-kind : (k : Kind) → OneKind k f → (c : Call) → isMessage (readReply (replyOf (first f c))) ≡ completes k
+  unfolding OneKind replyOf
+  of-one-kind k one c = by-kind (first f c .kind) (first f c .payload) (first f c .length) ∙ ap completes (one (c .pgns) (c .heard) (freshPool 4) freshCounters)
 
   pub rejects-one-kind : (k : Kind) → OneKind k f → ⊥
-  rejects-one-kind k one =
-      omega (arith, ap completes (kind-of k one (announces 6 0 35)), ap completes (kind-of k one (announces 0 0 35)), six-completes, nothing-completes)
-
-  pub rejects-always-ignored : OneKind kind.Ignored f → ⊥
-  rejects-always-ignored = rejects-one-kind kind.Ignored
+  rejects-one-kind k one = not-alike (completes k) (of-one-kind k one)
 
   pub rejects-always-consumed : OneKind kind.FragmentConsumed f → ⊥
   rejects-always-consumed = rejects-one-kind kind.FragmentConsumed
@@ -71,8 +104,8 @@ module _ (f : Receive) (meets : Demand2 f) where
 -- ---- never storing
 
 -- the first of P10's frames leaves its first byte in the pool
-seven-stores : getD (first (receiveOf base) (announces 7 0 35) .pool .bytes) 0 0 ≡ 1
-unfolding ran announces frame
+seven-stores : getD (firstly (announces 7 0 35) .pool .bytes) 0 0 ≡ 1
+unfolding ran announces frame originalOf originalIf happens
 seven-stores = refl
 
 fresh-byte : getD (freshPool 4 .bytes) 0 0 ≡ 0
@@ -85,7 +118,8 @@ rejects-never-stores f meets never =
     let c : Call = announces 7 0 35 in
     let kept : first f c .pool .bytes ≡ freshPool 4 .bytes = never (c .pgns) (c .heard) (freshPool 4) freshCounters in
     let byte : (getD (first f c .pool .bytes) 0 0 ≡ getD (freshPool 4 .bytes) 0 0) = ap (λ (l : List ℕ). getD l 0 0) kept in
-    omega (arith, ap (λ (r : Received). getD (r .pool .bytes) 0 0) (as-steps f meets c), byte, seven-stores, fresh-byte)
+    let stored : getD (first f c .pool .bytes) 0 0 ≡ getD (firstly c .pool .bytes) 0 0 = unfold asOriginal in ap (λ (o : Original). getD (o .pool .bytes) 0 0) (as-steps f meets c) in
+    omega (arith, stored, byte, seven-stores, fresh-byte)
 
 -- the receive call that only lacks the stores: it gives another message on P10's frames
 unfoldable pub storesNothing : Parts
@@ -100,21 +134,28 @@ storesNothing =
       delivering = λ (f : Heard) (s : Slot). take (s .head .«expected_size») (s .buffer);
     }
 
-nothing-says : lastByte 0 (seenAfter (by storesNothing) (freshPool 4) (pair 1 1) .said) ≡ 0
-unfolding ran pair announces goes-on frame by stepBy outcomeBy slotsBy markBy saidBy untouched storesNothing lastByte
+-- its pool and counters after the first frame, and what it says to the second; and what document 01's steps give there
+halfway : Received
+halfway = first (by storesNothing) (announces 7 0 35)
+
+unfoldable pub lastOf : Answer Answered → ℕ
+lastOf (refuses n carried) = 0
+lastOf (gives Ignored) = 0
+lastOf (gives FragmentConsumed) = 0
+lastOf (gives (MessageComplete bytes n)) = getD bytes 6 0
+
+nothing-says : lastOf (readReply (replyOf (by storesNothing (goes-on 1 1 35 .pgns) (goes-on 1 1 35 .heard) (halfway .pool) (halfway .counters)))) ≡ 0
+unfolding ran announces goes-on frame by stepBy outcomeBy slotsBy markBy saidBy untouched storesNothing halfway replyOf replyBy readReply asIgnored lastOf
 nothing-says = refl
 
-steps-say : lastByte 0 (seenAfter (receiveOf base) (freshPool 4) (pair 1 1) .said) ≡ 1
-unfolding ran pair announces goes-on frame lastByte
+steps-say : lastOf (originalOf base (goes-on 1 1 35 .pgns) (goes-on 1 1 35 .heard) (halfway .pool) (halfway .counters) .answer) ≡ 7
+unfolding ran announces goes-on frame by stepBy outcomeBy slotsBy markBy saidBy untouched storesNothing halfway originalOf originalIf happens answerOf whole lastOf
 steps-say = refl
 
--- an assembler that meets demand 2 runs as the steps do
-runs-as-steps : (f : Receive) → Demand2 f → (z : State) (cs : List Call) → receives f z cs ≡ receives (receiveOf base) z cs
-unfolding receives Demand2
-runs-as-steps f meets z [] = refl
-runs-as-steps f meets z (c ∷ cs) = rw (meets (c .pgns) (c .heard) (z .pool) (z .counters)) (runs-as-steps f meets (afterCall z (receiveOf base (c .pgns) (c .heard) (z .pool) (z .counters))) cs)
-
 pub rejects-stores-nothing : Demand2 (by storesNothing) → ⊥
+unfolding Demand2
 rejects-stores-nothing meets =
-    let same : seenAfter (by storesNothing) (freshPool 4) (pair 1 1) ≡ seenAfter (receiveOf base) (freshPool 4) (pair 1 1) = unfold seenAfter in ap seenIn (runs-as-steps (by storesNothing) meets (start (freshPool 4)) (pair 1 1)) in
-    omega (arith, ap (λ (s : Seen). lastByte 0 (s .said)) same, nothing-says, steps-say)
+    let c : Call = goes-on 1 1 35 in
+    let same : lastOf (readReply (replyOf (by storesNothing (c .pgns) (c .heard) (halfway .pool) (halfway .counters)))) ≡ lastOf (originalOf base (c .pgns) (c .heard) (halfway .pool) (halfway .counters) .answer) =
+    unfold asOriginal in ap (λ (o : Original). lastOf (o .answer)) (meets (c .pgns) (c .heard) (halfway .pool) (halfway .counters)) in
+    omega (arith, same, nothing-says, steps-say)

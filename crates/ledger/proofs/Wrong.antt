@@ -32,8 +32,11 @@ use Rattle.ledger.proofs.Parts.{Parts, wholeOf, untouched, slotsBy, mar
 -- ---- one that reassembles the first message and only says FragmentConsumed later
 
 unfoldable pub completes : Kind → Bool
-completes (kind.Refused n) = false
-completes kind.Ignored = false
+completes kind.ImpossiblePool = false
+completes kind.NotListed = false
+completes kind.Rejected = false
+completes kind.PoolFull = false
+completes kind.Lost = false
 completes kind.FragmentConsumed = false
 completes kind.MessageComplete = true
 

@@ -14,7 +14,7 @@ pub use Rattle.book.specs.Book.{idle, holds, Deed, Unlisted, BadSize, NoSlot, S
 unfoldable pub use Rattle.book.specs.Book.{deedNumber, isOneOf, opens, begins, copies, ends, newMessage, grown, heldIn, openingAt, numbered, written, tell, tells, blank}
 unfoldable pub use Rattle.book.specs.Book.{asNumber, howMany, did, openings, isSome, held, isMessage, wasOpened, fatesOf, belongs, framesOf, Owned, OwnBook}
 use Rattle.session.specs.declared.Kind.{Kind}
-use Rattle.session.specs.declared.Kind.the-variants.{Ignored, FragmentConsumed, MessageComplete}
+use Rattle.session.specs.declared.Kind.the-variants.{NotListed, Rejected, PoolFull, Lost, FragmentConsumed, MessageComplete}
 use Rattle.session.specs.Rules.{Rules}
 use Rattle.session.specs.Frames.{keyOf, indexOf, sizeOf, badSize, firstBytes, nextBytes}
 use Rattle.assembler.specs.Call.{Call, listed}
@@ -157,11 +157,22 @@ unfoldable pub delivery : Option Message → Saying
 delivery none = briefly MessageComplete
 delivery (some m) = record { kind = MessageComplete; payload = padded (take (announced m) (ownBytes m)); length = announced m }
 
+-- each deed calls for one name; where 01 says Ignored, document 02's No. 2 tells why
+unfoldable pub kindDue : Deed → Kind
+kindDue Unlisted = NotListed
+kindDue BadSize = Rejected
+kindDue NoSlot = PoolFull
+kindDue Stray = Lost
+kindDue AtOnce = MessageComplete
+kindDue Opening = FragmentConsumed
+kindDue Restarting = FragmentConsumed
+kindDue Reclaiming = FragmentConsumed
+kindDue Copied = FragmentConsumed
+kindDue Delivered = MessageComplete
+kindDue Broken = Lost
+
 unfoldable pub saying : Deed → Option Message → Saying
-saying d m =
-    pick (isOneOf (AtOnce ∷ Delivered ∷ []) d) (delivery m)
-    (pick (isOneOf (Opening ∷ Restarting ∷ Reclaiming ∷ Copied ∷ []) d) (briefly FragmentConsumed)
-    (briefly Ignored))
+saying d m = pick (isOneOf (AtOnce ∷ Delivered ∷ []) d) (delivery m) (briefly (kindDue d))
 
 unfoldable pub sayingDue : Entry → Saying
 sayingDue e = saying (e .deed) (e .message)

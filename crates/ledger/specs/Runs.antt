@@ -9,7 +9,7 @@ use Rattle.session.specs.declared.Head.{Head}
 use Rattle.session.specs.declared.Heard.{Heard}
 use Rattle.session.specs.declared.Counters.{Counters}
 use Rattle.session.specs.declared.Kind.{Kind}
-use Rattle.session.specs.declared.Kind.the-variants.{Refused, Ignored, FragmentConsumed, MessageComplete}
+use Rattle.session.specs.declared.Kind.the-variants.{ImpossiblePool, NotListed, Rejected, PoolFull, Lost, FragmentConsumed, MessageComplete}
 use Rattle.session.specs.Rules.{poolLimit}
 use Rattle.session.specs.Counting.{freshCounters}
 use Rattle.assembler.specs.declared.Pool.{Pool}
@@ -77,7 +77,13 @@ callsOf list w (suc n) i = call list (frameInRows w i) ∷ callsOf list w n (suc
 
 -- the kind of answer that has this number
 unfoldable pub kindOfNumber : ℕ → Kind
-kindOfNumber n = pick (eqb n 101) Ignored (pick (eqb n 102) FragmentConsumed (pick (eqb n 103) MessageComplete (Refused n)))
+kindOfNumber n =
+    pick (eqb n 102) FragmentConsumed
+    (pick (eqb n 103) MessageComplete
+    (pick (eqb n 104) NotListed
+    (pick (eqb n 105) Rejected
+    (pick (eqb n 106) PoolFull
+    (pick (eqb n 107) Lost ImpossiblePool)))))
 
 -- what a batch says of n frames in its rows, after what was said before: of each a kind and a length, and the messages end to end in the arena
 unfoldable pub saidInRows : ℕ → List ℕ → List ℕ → List ℕ → List Saying → List Saying

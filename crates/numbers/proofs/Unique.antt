@@ -20,10 +20,11 @@ use Rattle.oracle.specs.declared.Checked.{Checked}
 use Rattle.numbers.specs.Fives.{ToldInFive}
 use Rattle.session.specs.declared.Counters.{Counters}
 use Rattle.session.specs.declared.Head.{Head}
+use Rattle.assembler.specs.Making.{ofMade}
 use Rattle.assembler.specs.declared.MadePool.{MadePool}
 use Rattle.assembler.specs.declared.Pool.{Pool}
 use Rattle.assembler.specs.declared.Received.{Received}
-use Rattle.numbers.specs.Pool.{laidOver, poolFrom, countersFrom, counterNumbers, CallMemory, CallLeft, PoolMemory, PoolLeft}
+use Rattle.numbers.specs.Pool.{laidOver, poolFrom, countersFrom, counterNumbers, CallMemory, CallLeft, PoolMemory, PoolLeft, MadePoolLeft}
 
 -- ---- numbers
 
@@ -119,6 +120,10 @@ leave-unique r before a b p q x y = (
   calls-same p q (determined (x .kept) (y .kept)) (determined (x .stored) (y .stored)) (determined (x .counted) (y .counted)) (determined (x .delivered) (y .delivered)) (determined (x .measured) (y .measured)),
 )
 
-pub leave-made-unique : (m : MadePool) (before : PoolMemory) (a b : ℕ) (p q : PoolMemory) → PoolLeft m before a p → PoolLeft m before b q → (a ≡ b) × (p ≡ q)
-leave-made-unique m before a b p q x y =
+-- and of a pool, by what its making answered and the pool beside that
+pub pool-left-unique : (answer : Answer ℕ) (pool : Pool) (before : PoolMemory) (a b : ℕ) (p q : PoolMemory) → PoolLeft answer pool before a p → PoolLeft answer pool before b q → (a ≡ b) × (p ≡ q)
+pool-left-unique answer pool before a b p q x y =
     (determined (x .told) (y .told), pools-same p q (determined (x .kept) (y .kept)) (determined (x .stored) (y .stored)) (determined (x .sized) (y .sized)))
+
+pub leave-made-unique : (m : MadePool) (before : PoolMemory) (a b : ℕ) (p q : PoolMemory) → MadePoolLeft m before a p → MadePoolLeft m before b q → (a ≡ b) × (p ≡ q)
+leave-made-unique m = pool-left-unique (ofMade (m .result) (m .pool .size)) (m .pool)

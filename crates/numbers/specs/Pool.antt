@@ -2,9 +2,9 @@
 use Prim.Native.Nat.{ℕ, zero, suc, _+_, _*_, _%_}
 use mathlib.Core.List.{List, [], _∷_, _++_}
 use mathlib.Core.Path.{_≡_}
-use lib.Dec.{eqb}
 use lib.ListN.{getD, replicate}
 use lib.Seq.{sets}
+use Rattle.base.specs.Answer.{Answer, gives, refuses}
 use Rattle.base.specs.Pick.{pick}
 use Rattle.session.specs.Rules.{poolLimit}
 use Rattle.session.specs.Heads.{freshHead}
@@ -12,11 +12,12 @@ use Rattle.session.specs.Kinds.{kindNumber}
 use Rattle.session.specs.declared.Head.{Head}
 use Rattle.session.specs.declared.Counters.{Counters}
 use Rattle.session.specs.declared.Kind.{Kind}
-use Rattle.session.specs.declared.Kind.the-variants.{Refused, Ignored, FragmentConsumed, MessageComplete}
+use Rattle.session.specs.declared.Kind.the-variants.{ImpossiblePool, NotListed, Rejected, PoolFull, Lost, FragmentConsumed, MessageComplete}
+use Rattle.assembler.specs.Making.{ofMade}
 use Rattle.assembler.specs.declared.Pool.{Pool}
 use Rattle.assembler.specs.declared.MadePool.{MadePool}
 use Rattle.assembler.specs.declared.Received.{Received}
-use Rattle.numbers.specs.Numbers.{isSet, laidOn}
+use Rattle.numbers.specs.Numbers.{isSet, laidOn, codeOf}
 
 -- a head is eight numbers, each read in the width of its field
 unfoldable pub headAt : List ℕ → ℕ → Head
@@ -82,8 +83,11 @@ counterNumbers c = c .«expired_sessions» ∷ c .«pool_exhausted» ∷ c .«re
 
 -- a message is written over the lent payload, and any other answer leaves it as it was
 abbrev pub deliveredOn : List ℕ → Kind → List ℕ → List ℕ
-deliveredOn old (Refused n) message = old
-deliveredOn old Ignored message = old
+deliveredOn old ImpossiblePool message = old
+deliveredOn old NotListed message = old
+deliveredOn old Rejected message = old
+deliveredOn old PoolFull message = old
+deliveredOn old Lost message = old
 deliveredOn old FragmentConsumed message = old
 deliveredOn old MessageComplete message = message
 
@@ -114,9 +118,18 @@ pub record PoolMemory : Type 0 where
 unfoldable pub blankHeads : List ℕ
 blankHeads = replicate (8 * poolLimit) 0
 
--- what making a pool leaves: without a refusal its heads and bytes, and with one what was there; and its size
-pub record PoolLeft (m : MadePool) (before : PoolMemory) (code : ℕ) (after : PoolMemory) : Type 0 where
-  pub told : code ≡ m .refused
-  pub kept : after .heads ≡ pick (eqb (m .refused) 0) (laidOver blankHeads (m .pool .heads)) (before .heads)
-  pub stored : after .bytes ≡ pick (eqb (m .refused) 0) (m .pool .bytes) (before .bytes)
-  pub sized : after .size ≡ m .pool .size
+-- what is made is written over the lent memory, and a refusal leaves it as it was
+abbrev pub madeOn : List ℕ → Answer ℕ → List ℕ → List ℕ
+madeOn old (gives size) made = made
+madeOn old (refuses n carried) made = old
+
+-- what making a pool leaves, by its answer and the pool beside it: what is returned; without a refusal the pool's heads and bytes; and its size
+pub record PoolLeft (a : Answer ℕ) (p : Pool) (before : PoolMemory) (code : ℕ) (after : PoolMemory) : Type 0 where
+  pub told : code ≡ codeOf a
+  pub kept : after .heads ≡ madeOn (before .heads) a (laidOver blankHeads (p .heads))
+  pub stored : after .bytes ≡ madeOn (before .bytes) a (p .bytes)
+  pub sized : after .size ≡ p .size
+
+-- the same of a pool that the code made
+abbrev pub MadePoolLeft : MadePool → PoolMemory → ℕ → PoolMemory → Type 0
+MadePoolLeft m before code after = PoolLeft (ofMade (m .result) (m .pool .size)) (m .pool) before code after

@@ -5,10 +5,11 @@ ghost use lib.ListN.{getD};
 ghost use lib.Seq.{sets};
 ghost use Rattle.session.specs.Rules.{poolLimit};
 ghost use Rattle.session.specs.Kinds.{kindNumber};
-ghost use Rattle.numbers.specs.Pool.{headAt, headOver, headsFrom, laidOver, poolFrom, countersFrom, counterNumbers, deliveredOn, CallLeft, blankHeads, PoolLeft};
+ghost use Rattle.numbers.specs.Pool.{headAt, headOver, headsFrom, laidOver, poolFrom, countersFrom, counterNumbers, deliveredOn, CallLeft, blankHeads, MadePoolLeft};
 use crate::numbers::byte_on;
 use crate::numbers::flag_on;
 use crate::numbers::word_on;
+use assembler::Made;
 use assembler::MadePool;
 use assembler::POOL_BYTES;
 use assembler::Pool;
@@ -17,10 +18,14 @@ use fast_packet::MAX_FAST_PACKET_PAYLOAD;
 use session::Counters;
 use session::FRAGMENT_CONSUMED;
 use session::Head;
-use session::IGNORED;
+use session::IMPOSSIBLE_POOL;
 use session::Kind;
+use session::LOST;
 use session::MESSAGE_COMPLETE;
+use session::NOT_LISTED;
+use session::POOL_FULL;
 use session::POOL_LIMIT;
+use session::REJECTED;
 use session::fresh_head;
 
 // Eight numbers for each head.
@@ -159,8 +164,11 @@ fn kind_code(kind: Kind) -> u32
     ensures { λ r. ⌜ r ≡ kindNumber kind ⌝ }
 {
     match kind {
-        Kind::Refused(number) => number as u32,
-        Kind::Ignored => IGNORED as u32,
+        Kind::ImpossiblePool => IMPOSSIBLE_POOL as u32,
+        Kind::NotListed => NOT_LISTED as u32,
+        Kind::Rejected => REJECTED as u32,
+        Kind::PoolFull => POOL_FULL as u32,
+        Kind::Lost => LOST as u32,
         Kind::FragmentConsumed => FRAGMENT_CONSUMED as u32,
         Kind::MessageComplete => MESSAGE_COMPLETE as u32,
     }
@@ -178,8 +186,11 @@ fn deliver_on(
         Kind::MessageComplete => {
             *payload = message;
         }
-        Kind::Refused(_) => {}
-        Kind::Ignored => {}
+        Kind::ImpossiblePool => {}
+        Kind::NotListed => {}
+        Kind::Rejected => {}
+        Kind::PoolFull => {}
+        Kind::Lost => {}
         Kind::FragmentConsumed => {}
     }
 }
@@ -226,17 +237,20 @@ pub fn leave_made(
     bytes: &mut [u8; POOL_BYTES],
     size: &mut usize,
 ) -> u32
-    ensures { λ code. ⌜ PoolLeft made (record { heads = now (heads .entry); bytes = now (bytes .entry); size = now (size .entry) })
+    ensures { λ code. ⌜ MadePoolLeft made (record { heads = now (heads .entry); bytes = now (bytes .entry); size = now (size .entry) })
         code (record { heads = now (heads .exit); bytes = now (bytes .exit); size = now (size .exit) }) ⌝ }
 {
     let pool = made.pool;
     *size = pool.size;
-    if made.refused != 0 {
-        return made.refused as u32;
+    let result = made.result;
+    match result {
+        Made::ImpossiblePool => IMPOSSIBLE_POOL as u32,
+        Made::Fresh => {
+            let h = pool.heads;
+            fresh_heads(heads, h);
+            let b = pool.bytes;
+            *bytes = b;
+            0
+        }
     }
-    let h = pool.heads;
-    fresh_heads(heads, h);
-    let b = pool.bytes;
-    *bytes = b;
-    0
 }

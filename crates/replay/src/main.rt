@@ -3,7 +3,8 @@
 //     time (16), PGN (8), source (2), eight bytes (16);
 //   B: the next frame of a builder: PGN (8), source (2), destination (4, 0100 for none), priority (2), sequence (2), fast (2), frame index (2), bytes
 //     sent (4), payload length (4), dots; byte i of the payload is (7 i + 1) modulo 256.
-// The file stdout that this is held to was written by the original: host/diff/src/bin/replay_list.rs makes both.
+// The file stdout that this is held to was written by the original, its Ignored under the name of the counter that it raised:
+// host/diff/src/bin/replay_list.rs makes both.
 use assembler::Arrival;
 use assembler::Pool;
 use assembler::Received;
@@ -121,9 +122,20 @@ fn write_frame(data: [u8; 8]) {
 
 fn write_kind(kind: Kind) {
     match kind {
-        Kind::Refused(number) => write_number(number as u64),
-        Kind::Ignored => {
-            io::write_all(STDOUT_FILENO, b"Ignored");
+        Kind::ImpossiblePool => {
+            io::write_all(STDOUT_FILENO, b"ImpossiblePool");
+        }
+        Kind::NotListed => {
+            io::write_all(STDOUT_FILENO, b"NotListed");
+        }
+        Kind::Rejected => {
+            io::write_all(STDOUT_FILENO, b"Rejected");
+        }
+        Kind::PoolFull => {
+            io::write_all(STDOUT_FILENO, b"PoolFull");
+        }
+        Kind::Lost => {
+            io::write_all(STDOUT_FILENO, b"Lost");
         }
         Kind::FragmentConsumed => {
             io::write_all(STDOUT_FILENO, b"FragmentConsumed");

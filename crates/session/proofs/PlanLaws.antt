@@ -8,8 +8,8 @@ use Rattle.session.specs.declared.Heard.{Heard}
 use Rattle.session.specs.declared.Head.{Head}
 use Rattle.session.specs.declared.Plan.{Plan}
 use Rattle.session.specs.declared.Mark.{Mark}
-use Rattle.session.specs.declared.Kind.the-variants.{Refused, Ignored, FragmentConsumed, MessageComplete}
-use Rattle.session.specs.declared.Mark.the-variants.{Nothing, Expired, Exhausted, Rejected, Lost, Unknown}
+use Rattle.session.specs.declared.Kind.the-variants.{ImpossiblePool, NotListed, Rejected, PoolFull, Lost, FragmentConsumed, MessageComplete}
+use Rattle.session.specs.declared.Mark.the-variants as mark
 use Rattle.session.specs.Rules.{Rules, silence, base}
 use Rattle.session.specs.Frames.{indexOf, sizeOf, badSize}
 use Rattle.session.specs.Heads.{isSilent, isExpired, inTurn, openedHead, resetHead, wanted, copiedHead, allThere}
@@ -17,11 +17,11 @@ use Rattle.session.specs.Counting.{expiredMark}
 use Rattle.session.specs.inner.Plan.{idle, planOpen, planShort, planSized, planFirst, planCopy, planTurn, planNext, planIndex, planListed, planOf}
 
 module _ (f : Heard) (h : Head) (t : Bool) (e : t ≡ silence (f .«now_ms») (h .«last_seen_ms»)) where
-  pub mark-late : (h .«in_progress» && t) ≡ true → Expired ≡ expiredMark (isExpired base f h)
+  pub mark-late : (h .«in_progress» && t) ≡ true → mark.Expired ≡ expiredMark (isExpired base f h)
   unfolding expiredMark isExpired isSilent base
   mark-late y = rw (← e, y)
 
-  pub mark-early : (h .«in_progress» && t) ≡ false → Nothing ≡ expiredMark (isExpired base f h)
+  pub mark-early : (h .«in_progress» && t) ≡ false → mark.Nothing ≡ expiredMark (isExpired base f h)
   unfolding expiredMark isExpired isSilent base
   mark-early y = rw (← e, y)
 
@@ -30,7 +30,7 @@ unfolding inTurn
 turn-is f h i a b ei ea eb = rw (ea, ei, eb)
 
 module _ (R : Rules) (f : Heard) (h : Head) where
-  pub open-none : (found : Bool) (r : Plan) → not found ≡ true → r ≡ idle Ignored Exhausted h → r ≡ planOpen found R f h
+  pub open-none : (found : Bool) (r : Plan) → not found ≡ true → r ≡ idle PoolFull mark.Exhausted h → r ≡ planOpen found R f h
   unfolding planOpen
   open-none found r e er = er ∙ rw (not-true found e)
 
@@ -40,12 +40,12 @@ module _ (R : Rules) (f : Heard) (h : Head) where
   open-some found m t e em et = rw (em, et, not-false found e)
 
   module _ (found : Bool) (size : ℕ) (es : size ≡ sizeOf f) where
-    pub size-bad : (r : Plan) → (eqb size 0 || ltb 223 size) ≡ true → r ≡ idle Ignored Rejected h → r ≡ planFirst found R f h
+    pub size-bad : (r : Plan) → (eqb size 0 || ltb 223 size) ≡ true → r ≡ idle Rejected mark.Rejected h → r ≡ planFirst found R f h
     unfolding planFirst planSized badSize
     size-bad r b er = er ∙ rw (← es, b)
 
     module _ (b : (eqb size 0 || ltb 223 size) ≡ false) where
-      pub size-short : size ≤ 6 → record { kind = MessageComplete; mark = Nothing; head = h; at = 0; from = 0; count = 0; whole = 0; short = size } ≡ planFirst found R f h
+      pub size-short : size ≤ 6 → record { kind = MessageComplete; mark = mark.Nothing; head = h; at = 0; from = 0; count = 0; whole = 0; short = size } ≡ planFirst found R f h
       unfolding planFirst planSized planShort badSize
       size-short s = simp (← es, b, le-leb size 6 s)
 
@@ -55,12 +55,12 @@ module _ (R : Rules) (f : Heard) (h : Head) where
 
 module _ (f : Heard) (h : Head) where
   pub copy-last : (u v : Head) (n : ℕ) → u ≡ copiedHead f h → v ≡ resetHead u → n ≡ wanted h
-      → record { kind = MessageComplete; mark = Nothing; head = v; at = h .«current_size»; from = 1; count = n; whole = h .«expected_size»; short = 0 } ≡ planCopy true f h
+      → record { kind = MessageComplete; mark = mark.Nothing; head = v; at = h .«current_size»; from = 1; count = n; whole = h .«expected_size»; short = 0 } ≡ planCopy true f h
   unfolding planCopy
   copy-last u v n eu ev en = rw (ev, eu, en)
 
   pub copy-more : (u : Head) (n : ℕ) → u ≡ copiedHead f h → n ≡ wanted h
-      → record { kind = FragmentConsumed; mark = Nothing; head = u; at = h .«current_size»; from = 1; count = n; whole = 0; short = 0 } ≡ planCopy false f h
+      → record { kind = FragmentConsumed; mark = mark.Nothing; head = u; at = h .«current_size»; from = 1; count = n; whole = 0; short = 0 } ≡ planCopy false f h
   unfolding planCopy
   copy-more u n eu en = rw (eu, en)
 
@@ -74,12 +74,12 @@ module _ (f : Heard) (h : Head) where
     copy-open l er = er ∙ rw (← eu, lt-leb (u .«expected_size») (u .«current_size») l)
 
   module _ (found : Bool) (r : Plan) where
-    pub next-none : not found ≡ true → r ≡ idle Ignored Lost h → r ≡ planNext found f h
+    pub next-none : not found ≡ true → r ≡ idle Lost mark.Lost h → r ≡ planNext found f h
     unfolding planNext
     next-none e er = er ∙ rw (not-true found e)
 
     module _ (e : not found ≡ false) (t : Bool) (et : t ≡ inTurn f h) where
-      pub next-broken : (u : Head) → not t ≡ true → u ≡ resetHead h → r ≡ idle Ignored Lost u → r ≡ planNext found f h
+      pub next-broken : (u : Head) → not t ≡ true → u ≡ resetHead h → r ≡ idle Lost mark.Lost u → r ≡ planNext found f h
       unfolding planNext planTurn
       next-broken u y eu er = er ∙ rw (eu, not-false found e, ← et, not-true t y)
 
@@ -98,11 +98,11 @@ module _ (R : Rules) (f : Heard) (h : Head) where
     listed-next z er = er ∙ rw (← ei, ne-eqb i 0 z)
 
   module _ (bad listed found : Bool) (r : Plan) where
-    pub decided-bad : bad ≡ true → r ≡ idle (Refused 1) Nothing h → r ≡ planOf bad listed found R f h
+    pub decided-bad : bad ≡ true → r ≡ idle ImpossiblePool mark.Nothing h → r ≡ planOf bad listed found R f h
     unfolding planOf
     decided-bad e er = er ∙ rw e
 
-    pub decided-unlisted : bad ≡ false → not listed ≡ true → r ≡ idle Ignored Unknown h → r ≡ planOf bad listed found R f h
+    pub decided-unlisted : bad ≡ false → not listed ≡ true → r ≡ idle NotListed mark.Unknown h → r ≡ planOf bad listed found R f h
     unfolding planOf planListed
     decided-unlisted e l er = er ∙ rw (e, not-true listed l)
 

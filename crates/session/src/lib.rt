@@ -29,9 +29,6 @@ pub const FIRST_FRAME_PAYLOAD: usize = 6;
 // Useful bytes a continuation frame carries, after the sequence header.
 pub const CONTINUATION_PAYLOAD: usize = 7;
 
-// The refusal of an impossible pool, by document 01's table.
-pub const IMPOSSIBLE_POOL: u8 = 1;
-
 // A session but for its buffer.
 pub struct Head {
     pub in_progress: bool,
@@ -72,20 +69,33 @@ pub enum Mark {
     Unknown,
 }
 
-// What the caller is told. A refusal carries its number.
+// What the caller is told of a frame. An impossible pool is refused. NotListed, Rejected, PoolFull and Lost say why a frame was not taken; Lost is a
+// continuation without a live session, or one out of turn, which ends its session.
 pub enum Kind {
-    Refused(u8),
-    Ignored,
+    ImpossiblePool,
+    NotListed,
+    Rejected,
+    PoolFull,
+    Lost,
     FragmentConsumed,
     MessageComplete,
 }
 
-// The number of each kind but a refusal, whose own is 1 to 99.
-pub const IGNORED: u8 = 101;
+// The number of each kind. That of an impossible pool is its refusal's, and those of refusals are 1 to 99. 101 was given where NotListed, Rejected,
+// PoolFull and Lost are now told apart, and is given no more.
+pub const IMPOSSIBLE_POOL: u8 = 1;
 
 pub const FRAGMENT_CONSUMED: u8 = 102;
 
 pub const MESSAGE_COMPLETE: u8 = 103;
+
+pub const NOT_LISTED: u8 = 104;
+
+pub const REJECTED: u8 = 105;
+
+pub const POOL_FULL: u8 = 106;
+
+pub const LOST: u8 = 107;
 
 // What one walk over the heads finds: whether any is impossible, and the first place of each kind; POOL_LIMIT stands for none.
 pub struct Found {

@@ -1,7 +1,6 @@
 // The plan of a frame: decided on one head, and carried out by whoever has the buffer. Where the slot was not found nothing is asked of the head.
 ghost use mathlib.Core.Path.{_≡_};
 ghost use mathlib.Core.Bool.{true, false};
-ghost use Rattle.session.specs.declared.Kind.the-variants.{Ignored};
 ghost use Rattle.session.specs.Rules.{base};
 ghost use Rattle.session.specs.Heads.{isExpired, allThere, copiedHead};
 ghost use Rattle.session.specs.Counting.{expiredMark};
@@ -9,7 +8,6 @@ ghost use Rattle.session.specs.inner.Plan.{idle, planOpen, planFirst, pl
 use crate::FIRST_FRAME_PAYLOAD;
 use crate::Head;
 use crate::Heard;
-use crate::IMPOSSIBLE_POOL;
 use crate::Kind;
 use crate::Mark;
 use crate::Plan;
@@ -43,12 +41,6 @@ fn stay(kind: Kind, mark: Mark, h: Head) -> Plan
     }
 }
 
-fn ignore(mark: Mark, h: Head) -> Plan
-    ensures { λ r. ⌜ r ≡ idle Ignored mark h ⌝ }
-{
-    stay(Kind::Ignored, mark, h)
-}
-
 // A slot that is taken while in progress and silent is counted.
 fn mark_expired(h: Head, heard: Heard) -> Mark
     ensures { λ r. ⌜ r ≡ expiredMark (isExpired base heard h) ⌝ }
@@ -64,7 +56,7 @@ fn plan_open(found: bool, h: Head, heard: Heard) -> Plan
     ensures { λ r. ⌜ r ≡ planOpen found base heard h ⌝ }
 {
     if !found {
-        return ignore(Mark::Exhausted, h);
+        return stay(Kind::PoolFull, Mark::Exhausted, h);
     }
     Plan {
         kind: Kind::FragmentConsumed,
@@ -84,7 +76,7 @@ fn plan_first(found: bool, h: Head, heard: Heard) -> Plan
 {
     let size = size_of(heard);
     if (size == 0) | (MAX_FAST_PACKET_PAYLOAD < size) {
-        return ignore(Mark::Rejected, h);
+        return stay(Kind::Rejected, Mark::Rejected, h);
     }
     if size <= FIRST_FRAME_PAYLOAD {
         return Plan {
@@ -146,10 +138,10 @@ fn plan_next(found: bool, h: Head, heard: Heard) -> Plan
     ensures { λ r. ⌜ r ≡ planNext found heard h ⌝ }
 {
     if !found {
-        return ignore(Mark::Lost, h);
+        return stay(Kind::Lost, Mark::Lost, h);
     }
     if !is_in_turn(h, heard) {
-        return ignore(Mark::Lost, reset_head(h));
+        return stay(Kind::Lost, Mark::Lost, reset_head(h));
     }
     plan_copy(h, heard)
 }
@@ -168,10 +160,10 @@ pub fn decide(bad: bool, listed: bool, found: bool, h: Head, heard: Heard) -> Pl
     ensures { λ r. ⌜ r ≡ planOf bad listed found base heard h ⌝ }
 {
     if bad {
-        return stay(Kind::Refused(IMPOSSIBLE_POOL), Mark::Nothing, h);
+        return stay(Kind::ImpossiblePool, Mark::Nothing, h);
     }
     if !listed {
-        return ignore(Mark::Unknown, h);
+        return stay(Kind::NotListed, Mark::Unknown, h);
     }
     plan_listed(found, h, heard)
 }

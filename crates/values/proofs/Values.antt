@@ -12,11 +12,11 @@ use Rattle.session.specs.Counting.{freshCounters, most, raise, raised, expiredM
 use Rattle.assembler.specs.Slots.{freshSlot, impossible, chosen, live, openedSlot, resetSlot, copiedSlot}
 use Rattle.assembler.specs.Step.{opensAt, continuesAt, eventOf, slotsAfter, markOf, padded, message, saidOf, outcome, stepIf, step}
 use Rattle.assembler.specs.Making.{freshPool}
-use Rattle.assembler.specs.View.{slotsFrom, headOf, flat, slotsOf, poolOf, zeros, replyKind, replyPayload, replyLength, shown, receiveOf}
+use Rattle.assembler.specs.View.{slotsFrom, headOf, flat, slotsOf, poolOf, zeros, whyKind, replyKind, replyPayload, replyLength, shown, receiveOf}
 use Rattle.values.specs.Values.{Values}
 
 pub values : Values
-unfolding pick nextPlace here orElse firstAt any fill listedIn buildOf nextOf framedStep silence keysEqual base sequenceOf indexOf sizeOf firstBytes nextBytes badSize keyOf freshHead headKey impossibleHead hasKey isSilent isFree isFreeOfSource hasLiveKey isExpired inTurn openedHead resetHead wanted copiedHead allThere freshCounters most raise raised expiredMark freshSlot impossible chosen live openedSlot resetSlot copiedSlot opensAt continuesAt eventOf slotsAfter markOf padded message saidOf outcome stepIf step slotsFrom headOf flat slotsOf poolOf zeros replyKind replyPayload replyLength shown receiveOf freshPool
+unfolding pick nextPlace here orElse firstAt any fill listedIn buildOf nextOf framedStep silence keysEqual base sequenceOf indexOf sizeOf firstBytes nextBytes badSize keyOf freshHead headKey impossibleHead hasKey isSilent isFree isFreeOfSource hasLiveKey isExpired inTurn openedHead resetHead wanted copiedHead allThere freshCounters most raise raised expiredMark freshSlot impossible chosen live openedSlot resetSlot copiedSlot opensAt continuesAt eventOf slotsAfter markOf padded message saidOf outcome stepIf step slotsFrom headOf flat slotsOf poolOf zeros whyKind replyKind replyPayload replyLength shown receiveOf freshPool
 values =
     record {
       p1 = refl;

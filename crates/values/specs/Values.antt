@@ -9,26 +9,31 @@ use Rattle.can_id.specs.declared.Destination.the-variants.{Nobody}
 use Rattle.builder.specs.Builder.{newBuilder}
 use Rattle.builder.specs.Next.{nextOf, frameOf, sentStep}
 use Rattle.session.specs.declared.Counters.{Counters}
-use Rattle.session.specs.declared.Kind.the-variants.{Ignored, FragmentConsumed, MessageComplete}
+use Rattle.session.specs.declared.Kind.the-variants.{Rejected, Lost, FragmentConsumed, MessageComplete}
 use Rattle.session.specs.Rules.{base}
 use Rattle.session.specs.Counting.{freshCounters}
+use Rattle.assembler.specs.declared.Pool.{Pool}
 use Rattle.assembler.specs.declared.Received.{Received}
 use Rattle.assembler.specs.Slots.{slotAt}
 use Rattle.assembler.specs.Step.{padded}
 use Rattle.assembler.specs.Making.{freshPool}
 use Rattle.assembler.specs.View.{slotsOf, receiveOf}
 
--- what the next call gives on what the last one left: PGN 127489, listed, from source 35, at this reading, with these bytes
-abbrev pub then : Received → ℕ → List ℕ → Received
-then r time bytes = receiveOf base (127489 ∷ []) (record { «now_ms» = time; pgn = 127489; «source_address» = 35; «data» = bytes }) (r .pool) (r .counters)
+-- what a call gives: PGN 127489, listed, from source 35, at this reading, with these bytes
+abbrev pub heardOn : Pool → Counters → ℕ → List ℕ → Received
+heardOn p k time bytes = receiveOf base (127489 ∷ []) (record { «now_ms» = time; pgn = 127489; «source_address» = 35; «data» = bytes }) p k
 
--- a fresh pool of the default size, with zero counters
-abbrev pub beforeAny : Received
-beforeAny = record { kind = Ignored; payload = []; length = 0; pool = freshPool 4; counters = freshCounters }
+-- on a fresh pool of the default size, with zero counters
+abbrev pub begin : ℕ → List ℕ → Received
+begin time bytes = heardOn (freshPool 4) freshCounters time bytes
+
+-- on what the last call left
+abbrev pub then : Received → ℕ → List ℕ → Received
+then r time bytes = heardOn (r .pool) (r .counters) time bytes
 
 -- "00 07 then six bytes", at 1000
 abbrev pub first : Received
-first = then beforeAny 1000 (0 ∷ 7 ∷ 1 ∷ 2 ∷ 3 ∷ 4 ∷ 5 ∷ 6 ∷ [])
+first = begin 1000 (0 ∷ 7 ∷ 1 ∷ 2 ∷ 3 ∷ 4 ∷ 5 ∷ 6 ∷ [])
 
 -- "then 01 and one more"
 abbrev pub more : List ℕ
@@ -36,7 +41,7 @@ more = 1 ∷ 7 ∷ 255 ∷ 255 ∷ 255 ∷ 255 ∷ 255 ∷ 255 ∷ []
 
 -- the first frame of a message of twenty bytes, at 1000: one continuation leaves it in progress
 abbrev pub firstOfTwenty : Received
-firstOfTwenty = then beforeAny 1000 (0 ∷ 20 ∷ 1 ∷ 2 ∷ 3 ∷ 4 ∷ 5 ∷ 6 ∷ [])
+firstOfTwenty = begin 1000 (0 ∷ 20 ∷ 1 ∷ 2 ∷ 3 ∷ 4 ∷ 5 ∷ 6 ∷ [])
 
 -- its continuation at 0
 abbrev pub continuedAtZero : Received
@@ -66,17 +71,17 @@ pub record Values : Type 0 where
   pub p7 : buildOf (newIdBuilder 0x4_0000 35) ≡ refuses 2 []
   -- "P8: listed, sequence 2, payload 01 02 03: 40 03 01 02 03 FF FF FF"
   pub p8 : nextOf (newBuilder 127489 35 Nobody (1 ∷ 2 ∷ 3 ∷ []) (127489 ∷ []) 2 .builder) 0 0 (1 ∷ 2 ∷ 3 ∷ []) ≡ sentStep (frameOf 0x19F2_0123 (0x40 ∷ 3 ∷ 1 ∷ 2 ∷ 3 ∷ 0xFF ∷ 0xFF ∷ 0xFF ∷ []) 8) 1 3
-  -- "P9: announced 0 or 224, listed: Ignored, rejected_frames 1 each"
-  pub p9-nothing : then beforeAny 0 (0 ∷ 0 ∷ 1 ∷ 2 ∷ 3 ∷ 4 ∷ 5 ∷ 6 ∷ []) ≡ record { kind = Ignored; payload = padded []; length = 0; pool = freshPool 4; counters = rejectedOnce }
-  pub p9-too-much : then beforeAny 0 (0 ∷ 224 ∷ 1 ∷ 2 ∷ 3 ∷ 4 ∷ 5 ∷ 6 ∷ []) ≡ record { kind = Ignored; payload = padded []; length = 0; pool = freshPool 4; counters = rejectedOnce }
+  -- "P9: announced 0 or 224, listed: Ignored, rejected_frames 1 each"; by document 02's No. 2 this Ignored is Rejected
+  pub p9-nothing : begin 0 (0 ∷ 0 ∷ 1 ∷ 2 ∷ 3 ∷ 4 ∷ 5 ∷ 6 ∷ []) ≡ record { kind = Rejected; payload = padded []; length = 0; pool = freshPool 4; counters = rejectedOnce }
+  pub p9-too-much : begin 0 (0 ∷ 224 ∷ 1 ∷ 2 ∷ 3 ∷ 4 ∷ 5 ∷ 6 ∷ []) ≡ record { kind = Rejected; payload = padded []; length = 0; pool = freshPool 4; counters = rejectedOnce }
   -- "P10: listed, 00 07 then six bytes, then 01 and one more: FragmentConsumed, then length 7"
   pub p10-first : first .kind ≡ FragmentConsumed
   pub p10-then : then first 1000 more .kind ≡ MessageComplete
   pub p10-length : then first 1000 more .length ≡ 7
   pub p10-bytes : then first 1000 more .payload ≡ padded (1 ∷ 2 ∷ 3 ∷ 4 ∷ 5 ∷ 6 ∷ 7 ∷ [])
-  -- "P11: continuation after 500 ms taken; after 501 a stray, slot still in progress"
+  -- "P11: continuation after 500 ms taken; after 501 a stray, slot still in progress"; by document 02's No. 2 a stray is Lost
   pub p11-taken : then first 1500 more .kind ≡ MessageComplete
-  pub p11-stray : then first 1501 more ≡ record { kind = Ignored; payload = padded []; length = 0; pool = first .pool; counters = lostOnce }
+  pub p11-stray : then first 1501 more ≡ record { kind = Lost; payload = padded []; length = 0; pool = first .pool; counters = lostOnce }
   pub p11-held : slotAt (slotsOf (then first 1501 more .pool) .slots) 0 .head .«in_progress» ≡ true
   -- "P12: opened at 1000, continued at 0: taken, last time 0"
   pub p12-taken : continuedAtZero .kind ≡ FragmentConsumed

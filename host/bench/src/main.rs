@@ -3,8 +3,9 @@
 //!
 //! cargo run --offline --profile speed --bin bench [repetitions] [frames] [receiving, building, identifiers or oracle]
 mod workloads;
-use port::assembler::{Rows, Told};
-use port::raw::{self, Pool};
+use diff::reading::{read, Reading};
+use port::assembler::Rows;
+use port::raw::{self, Pool, Told};
 use reference::error::CanIdBuildError;
 use reference::oracle as bench_oracle;
 use reference::protocol::messages::stand_for;
@@ -14,7 +15,7 @@ use reference::protocol::transport::fast_packet::builder::FastPacketBuilder;
 use std::hint::black_box;
 use std::time::Instant;
 
-/// The original over rows: messages end to end in the arena, kinds and lengths beside.
+/// The original over rows: messages end to end in the arena, its answers (which have no numbers of their own) and lengths beside.
 #[inline(never)]
 fn original<const N: usize>(list: &'static [u32], w: &Rows, t: &mut Told) -> usize {
     let mut a = FastPacketAssembler::<N>::with_pool(list);
@@ -22,10 +23,10 @@ fn original<const N: usize>(list: &'static [u32], w: &Rows, t: &mut Told) -> usi
     for i in 0..w.len() {
         let d: &[u8; 8] = w.data[i * 8..i * 8 + 8].try_into().unwrap();
         match a.process_frame(w.times[i], w.pgns[i], w.sources[i], d) {
-            ProcessResult::Ignored => (t.kinds[i], t.lengths[i]) = (raw::IGNORED as u8, 0),
-            ProcessResult::FragmentConsumed => (t.kinds[i], t.lengths[i]) = (raw::FRAGMENT_CONSUMED as u8, 0),
+            ProcessResult::Ignored => (t.kinds[i], t.lengths[i]) = (Reading::Ignored as u8, 0),
+            ProcessResult::FragmentConsumed => (t.kinds[i], t.lengths[i]) = (Reading::FragmentConsumed as u8, 0),
             ProcessResult::MessageComplete(m) => {
-                (t.kinds[i], t.lengths[i]) = (raw::MESSAGE_COMPLETE as u8, m.len as u8);
+                (t.kinds[i], t.lengths[i]) = (Reading::MessageComplete as u8, m.len as u8);
                 t.arena[at..at + m.len].copy_from_slice(&m.payload[..m.len]);
                 at += m.len;
             }
@@ -48,8 +49,7 @@ fn one_by_one(size: usize, list: &[u32], w: &Rows, by_value: bool, t: &mut Told)
             p.process_frame(&mut c, list, w.times[i], w.pgns[i], w.sources[i], d, &mut payload, &mut length)
         };
         match kind {
-            raw::IGNORED => (t.kinds[i], t.lengths[i]) = (raw::IGNORED as u8, 0),
-            raw::FRAGMENT_CONSUMED => (t.kinds[i], t.lengths[i]) = (raw::FRAGMENT_CONSUMED as u8, 0),
+            raw::NOT_LISTED | raw::REJECTED | raw::POOL_FULL | raw::LOST | raw::FRAGMENT_CONSUMED => (t.kinds[i], t.lengths[i]) = (kind as u8, 0),
             raw::MESSAGE_COMPLETE => {
                 (t.kinds[i], t.lengths[i]) = (raw::MESSAGE_COMPLETE as u8, length as u8);
                 t.arena[at..at + length].copy_from_slice(&payload[..length]);
@@ -132,9 +132,9 @@ fn receiving<const N: usize>(reps: usize, n: usize) {
             ("64", &mut || { black_box(in_batches(N, &list, black_box(&w), 64, t4)); }),
             ("256", &mut || { black_box(in_batches(N, &list, black_box(&w), 256, t5)); }),
         ]);
-        for x in &t[1..] {
-            assert!(*x == t[0], "both sides answer alike");
-        }
+        let readings = t[1].kinds.iter().map(|kind| read(*kind as u32) as u8).collect();
+        assert!(Told { kinds: readings, ..t[1].clone() } == t[0], "both sides answer alike");
+        assert!(t[2..].iter().all(|x| *x == t[1]), "the calls of the port answer alike");
     }
 }
 

@@ -2,7 +2,7 @@
 use crate::ids::{named, numbered};
 use crate::rng::Rng;
 use crate::tally::answered;
-use port::{builder as ours, can_frame, can_id, error, fast_packet, raw};
+use port::{builder as ours, can_frame, can_id, error, raw};
 use reference::error::CanIdBuildError;
 use reference::hooks::{GlobalSequence, Here, Parts, Progress};
 use reference::protocol::messages::stand_for;
@@ -106,7 +106,6 @@ pub fn message(pgn: u32, source: u8, destination: Option<u8>, payload: &[u8], li
     let (mut p, next) = ours::FastPacketBuilder::new(pgn, source, destination, payload, list, held);
     let mut b = [0xEE; 6];
     assert_eq!((next, raw::builder_new(pgn, source, raw::address(destination), payload, list, held, &mut b)), (Here::get(), Here::get()), "the number held from {held}");
-    assert_eq!(fast_packet::is_listed(list, pgn), list.binary_search(&pgn).is_ok(), "{pgn} in {list:?}");
     if let Some(s) = sequence {
         (o, p) = (o.with_sequence_id(s), p.with_sequence_id(s));
         raw::hf_raw_builder_with_sequence_id(&mut b, s);

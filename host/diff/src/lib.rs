@@ -3,6 +3,7 @@
 pub mod bench;
 pub mod frames;
 pub mod ids;
+pub mod reading;
 pub mod receive;
 pub mod rng;
 pub mod tally;

@@ -1,12 +1,15 @@
-//! The receive call: one frame on any pool, and runs of frames. Compared after every call: answer, payload (all 223
-//! bytes), length, counters, and every slot left behind with its buffer, those past the size too.
+//! The receive call: one frame on any pool, and runs of frames. Compared after every call: answer (through `reading`), payload
+//! (all 223 bytes), length, counters, and every slot left behind with its buffer, those past the size too.
+use crate::reading::{kind_of, read, Reading, Said};
 use crate::rng::Rng;
 use crate::tally::answered;
-use port::assembler::{self as ours, handles, Rows, Told};
+use port::assembler::{self as ours, Rows};
+use port::error::{ImpossiblePool, NoRoom};
 use port::fast_packet;
-use port::raw::{self, Counters, Pool};
+use port::raw::{self, Counters, Pool, Told};
 use reference::hooks::{PoolState, Slot};
-use reference::protocol::transport::fast_packet::assembler::{FastPacketAssembler, ProcessResult};
+use reference::protocol::transport::fast_packet::assembler::{CompletedMessage, FastPacketAssembler, ProcessResult};
+use std::collections::BTreeMap;
 
 /// A frame as it is heard.
 #[derive(Clone, Copy, Debug)]
@@ -18,7 +21,7 @@ pub struct Heard {
 }
 
 /// The original, whatever its number of sessions is.
-trait Original {
+pub trait Original {
     fn slot(&self, i: usize) -> Slot;
     fn set_slot(&mut self, i: usize, slot: &Slot);
     fn set_counters(&mut self, counters: [u32; 5]);
@@ -48,6 +51,14 @@ impl<const N: usize> Original for FastPacketAssembler<N> {
     }
 }
 
+/// One call of the original, and what it says about the port's answer.
+pub fn asked(o: &mut dyn Original, h: &Heard) -> (ProcessResult, Said) {
+    let before = o.counters();
+    let result = o.process(h);
+    let said = Said::by(&result, before, o.counters(), o.handles(h.pgn));
+    (result, said)
+}
+
 fn original(size: usize, list: &'static [u32]) -> Box<dyn Original> {
     fn with<const N: usize>(list: &'static [u32]) -> Box<dyn Original> {
         Box::new(FastPacketAssembler::<N>::with_pool(list))
@@ -73,21 +84,19 @@ fn lent(frames: usize, arena: usize) -> Told {
     Told { kinds: vec![0xEE; frames], lengths: vec![0xEE; frames], arena: vec![0xEE; arena] }
 }
 
-/// The original's answer in the port's words: without a message, the payload as it was lent and length 0.
-fn told(r: &ProcessResult) -> Answer {
+/// The bytes of the message, or none.
+pub fn message_of(r: &ProcessResult) -> &[u8] {
     match r {
-        ProcessResult::Ignored => Answer { kind: raw::IGNORED, payload: LENT.payload, length: 0 },
-        ProcessResult::FragmentConsumed => Answer { kind: raw::FRAGMENT_CONSUMED, payload: LENT.payload, length: 0 },
-        ProcessResult::MessageComplete(m) => Answer { kind: raw::MESSAGE_COMPLETE, payload: m.payload, length: m.len },
+        ProcessResult::MessageComplete(m) => &m.payload[..m.len],
+        _ => &[],
     }
 }
 
-/// The original's answer, with the port's types.
-fn as_ours(r: ProcessResult) -> ours::ProcessResult {
+/// What the original's answer leaves in the message's place: without one, the payload as it was lent and length 0.
+fn message_left(r: &ProcessResult) -> ([u8; 223], usize) {
     match r {
-        ProcessResult::Ignored => ours::ProcessResult::Ignored,
-        ProcessResult::FragmentConsumed => ours::ProcessResult::FragmentConsumed,
-        ProcessResult::MessageComplete(m) => ours::ProcessResult::MessageComplete(ours::CompletedMessage { payload: m.payload, len: m.len }),
+        ProcessResult::MessageComplete(m) => (m.payload, m.len),
+        _ => (LENT.payload, 0),
     }
 }
 
@@ -96,6 +105,12 @@ pub fn lay(p: &mut Pool, k: usize, s: &Slot) {
         s.in_progress as u64, s.source as u64, s.sequence as u64, s.last_index as u64, s.pgn as u64, s.expected as u64, s.current as u64, s.last_time,
     ]);
     p.bytes[223 * k..223 * k + 223].copy_from_slice(&s.bytes);
+}
+
+fn pool_of(size: usize, slots: &[Slot; 8]) -> Pool {
+    let mut p = Pool { size, ..Pool::ZEROS };
+    slots.iter().enumerate().for_each(|(k, s)| lay(&mut p, k, s));
+    p
 }
 
 fn stands(p: &Pool, k: usize, s: &Slot) -> bool {
@@ -110,6 +125,9 @@ pub fn impossible(size: usize, slots: &[Slot]) -> bool {
             s.in_progress && (s.sequence > 7 || !(7..=223).contains(&s.expected) || s.current != 6 + 7 * s.last_index as usize || s.current >= s.expected)
         })
 }
+
+/// The single calls of eight bytes, as `length` and `by_value` of `called`.
+const SINGLE_CALLS: [(Option<usize>, bool); 3] = [(None, false), (None, true), (Some(8), false)];
 
 /// One call of the port: with a length, by the lent counters, or by the counters by value.
 fn called(p: &mut Pool, counters: &mut Counters, list: &[u32], h: &Heard, length: Option<usize>, by_value: bool) -> Answer {
@@ -214,8 +232,9 @@ impl Pair {
             assert_eq!(fast_packet::fill_short(h.data, n), data, "{:?} cut to {n}", h.data);
             heard.data = data;
         }
-        let want = told(&self.o.process(&heard));
-        assert_eq!(got, want, "{h:?}, length {length:?}, size {}", self.size);
+        let (result, said) = asked(&mut *self.o, &heard);
+        said.hold(got.kind, &(h, length, self.size));
+        assert_eq!((got.payload, got.length), message_left(&result), "{h:?}, length {length:?}, size {}", self.size);
         assert_eq!(self.counters, self.o.counters(), "counters after {h:?}");
         for k in 0..8 {
             let s = if k < self.size { self.o.slot(k) } else { self.past[k - self.size] };
@@ -223,21 +242,14 @@ impl Pair {
         }
         got
     }
-    /// Compares the list test of this list.
-    pub fn ask(&self, pgn: u32) {
-        assert_eq!((handles(&self.list, pgn), fast_packet::is_listed(&self.list, pgn)), (self.o.handles(pgn), self.o.handles(pgn)), "{pgn} in {:?}", self.list);
-    }
 }
 
-/// A call on a pool that document 01 calls impossible: refusal 1, and nothing changed.
-pub fn refused(size: usize, slots: &[Slot; 8], counters: Counters, list: &[u32], h: &Heard, length: Option<usize>) {
-    let mut p = Pool { size, heads: [0; 64], bytes: [0; 1784] };
-    for (k, s) in slots.iter().enumerate() {
-        lay(&mut p, k, s);
-    }
+/// A call on a pool that document 01 calls impossible: refusal 1, whatever the PGN, and nothing changed.
+pub fn refused(size: usize, slots: &[Slot; 8], counters: Counters, list: &[u32], h: &Heard, length: Option<usize>, by_value: bool) {
+    let mut p = pool_of(size, slots);
     let before = p.clone();
     let mut c = counters;
-    let got = called(&mut p, &mut c, list, h, length, h.now % 2 == 0);
+    let got = called(&mut p, &mut c, list, h, length, by_value);
     assert_eq!(got, REFUSED, "size {size}, {slots:?}");
     assert_eq!(p, before, "the pool comes back unchanged with 1");
     assert_eq!(c, counters);
@@ -328,7 +340,8 @@ pub fn making() -> u64 {
         assert_eq!((number, p.size), if size > 8 { (1, 0) } else { (0, size) });
         assert_eq!((p.heads, p.bytes), ([0; 64], [0; 1784]));
         let ours = ours::Pool::new(size);
-        assert_eq!(ours.as_ref().map(|p| p.size()).map_err(|e| e.number), if size > 8 { Err(1) } else { Ok(size) });
+        assert_eq!(ours.as_ref().map(|p| p.size()), if size > 8 { Err(&ImpossiblePool) } else { Ok(size) });
+        assert_eq!(ours.as_ref().map_or_else(|e| e.number(), |_| 0), number);
         if size == 4 {
             assert_eq!(ours, Ok(ours::Pool::default()));
         }
@@ -346,71 +359,80 @@ pub fn making() -> u64 {
 
 /// The original over rows, as document 01's steps and the batch's promise have it: it stops before the first frame whose
 /// message has no room in the arena.
-fn originally<const N: usize>(slots: &[Slot; 8], counters: Counters, list: &'static [u32], rows: &Rows, told: &mut Told) -> (usize, usize, [Slot; 8], Counters) {
+fn originally<const N: usize>(slots: &[Slot; 8], counters: Counters, list: &'static [u32], rows: &Rows, told: &mut Told) -> Left {
     let mut a = FastPacketAssembler::<N>::with_pool(list);
     for (k, s) in slots.iter().enumerate().take(N) {
         PoolState::set_slot(&mut a, k, s);
     }
     PoolState::set_counters(&mut a, counters);
-    let (mut taken, mut used) = (0, 0);
+    let (mut said, mut used) = (vec![], 0);
     for i in 0..rows.len() {
         let mut next = a;
-        let data: &[u8; 8] = rows.data[8 * i..8 * i + 8].try_into().unwrap();
-        let r = next.process_frame(rows.times[i], rows.pgns[i], rows.sources[i], data);
-        let (kind, length) = match &r {
-            ProcessResult::Ignored => (raw::IGNORED, 0),
-            ProcessResult::FragmentConsumed => (raw::FRAGMENT_CONSUMED, 0),
-            ProcessResult::MessageComplete(m) => (raw::MESSAGE_COMPLETE, m.len),
-        };
-        if used + length > told.arena.len() {
+        let (result, one) = asked(&mut next, &heard_in(rows, i));
+        let message = message_of(&result);
+        if used + message.len() > told.arena.len() {
             break;
         }
-        if let ProcessResult::MessageComplete(m) = &r {
-            told.arena[used..used + length].copy_from_slice(&m.payload[..length]);
-        }
-        (told.kinds[i], told.lengths[i]) = (kind as u8, length as u8);
+        told.arena[used..used + message.len()].copy_from_slice(message);
+        (told.kinds[i], told.lengths[i]) = (one.kind as u8, message.len() as u8);
         a = next;
-        taken += 1;
-        used += length;
+        used += message.len();
+        said.push(one);
     }
-    let after = std::array::from_fn(|k| if k < N { PoolState::slot(&a, k) } else { slots[k] });
-    (taken, used, after, Original::counters(&a))
+    let slots = std::array::from_fn(|k| if k < N { PoolState::slot(&a, k) } else { slots[k] });
+    Left { said, used, slots, counters: Original::counters(&a) }
 }
 
-type Originally = fn(&[Slot; 8], Counters, &'static [u32], &Rows, &mut Told) -> (usize, usize, [Slot; 8], Counters);
+/// What the original leaves of rows: what it said of each frame taken, the arena's bytes taken, slots and counters.
+pub struct Left {
+    said: Vec<Said>,
+    used: usize,
+    slots: [Slot; 8],
+    counters: Counters,
+}
+
+fn one_row(h: &Heard) -> Rows {
+    let mut rows = Rows::default();
+    rows.push(h.now, h.pgn, h.source, h.data);
+    rows
+}
+
+fn heard_in(rows: &Rows, i: usize) -> Heard {
+    Heard { now: rows.times[i], pgn: rows.pgns[i], source: rows.sources[i], data: rows.data[8 * i..8 * i + 8].try_into().unwrap() }
+}
+
+type Originally = fn(&[Slot; 8], Counters, &'static [u32], &Rows, &mut Told) -> Left;
 const ORIGINALLY: [Originally; 9] =
     [originally::<0>, originally::<1>, originally::<2>, originally::<3>, originally::<4>, originally::<5>, originally::<6>, originally::<7>, originally::<8>];
 
 /// One batch on any possible pool, and all that it leaves: answers, messages, the rest of the lent rows, counters, slots.
-pub fn batch(size: usize, slots: &[Slot; 8], counters: Counters, list: &[u32], sorted: &'static [u32], rows: &Rows, room: usize, spare: usize) -> (usize, usize, [Slot; 8], Counters) {
+pub fn batch(size: usize, slots: &[Slot; 8], counters: Counters, list: &[u32], sorted: &'static [u32], rows: &Rows, room: usize, spare: usize) -> Left {
     let n = rows.len();
     let (mut got, mut want) = (lent(n + spare, room), lent(n + spare, room));
-    let mut p = Pool { size, heads: [0; 64], bytes: [0; 1784] };
-    for (k, s) in slots.iter().enumerate() {
-        lay(&mut p, k, s);
-    }
+    let mut p = pool_of(size, slots);
     let mut c = counters;
     let (number, taken, used) = batched(&mut p, &mut c, list, rows, &mut got);
     let left = ORIGINALLY[size](slots, counters, sorted, rows, &mut want);
-    assert_eq!((number, taken, used), (0, left.0, left.1), "frames and bytes taken of {n}, room {room}");
-    assert_eq!(got, want, "kinds, lengths, arena");
-    for kind in &want.kinds[..taken] {
-        answered("batch_row", *kind as u32);
+    assert_eq!((number, taken, used), (0, left.said.len(), left.used), "frames and bytes taken of {n}, room {room}");
+    for (i, said) in left.said.iter().enumerate() {
+        said.hold(got.kinds[i] as u32, &(i, heard_in(rows, i), size));
+        answered("batch_row", got.kinds[i] as u32);
     }
-    assert_eq!(c, left.3, "counters");
-    for (k, s) in left.2.iter().enumerate() {
+    assert_eq!(got, want, "kinds, lengths, arena");
+    assert_eq!(c, left.counters, "counters");
+    for (k, s) in left.slots.iter().enumerate() {
         assert!(stands(&p, k, s), "slot {k}: {s:?}, {:?}", &p.heads[8 * k..8 * k + 8]);
     }
     left
 }
 
+/// The row that `batch_refused` leaves out no element of.
+const NO_CUT: usize = 5;
+
 /// A batch that is refused changes nothing: 1 for an impossible pool, 27 for a row that is too short, 1 before 27.
 pub fn batch_refused(size: usize, slots: &[Slot; 8], counters: Counters, list: &[u32], rows: &Rows, cut: usize) -> u32 {
     let n = rows.len();
-    let mut p = Pool { size, heads: [0; 64], bytes: [0; 1784] };
-    for (k, s) in slots.iter().enumerate() {
-        lay(&mut p, k, s);
-    }
+    let mut p = pool_of(size, slots);
     let before = p.clone();
     let mut c = counters;
     let mut told = lent(n, 500);
@@ -467,7 +489,7 @@ pub fn batches(seed: u64, steps: u64) -> u64 {
             }
             let room = r.pick(&[0, 10, 100, 300, 10_000]);
             let left = batch(size, &slots, counters, LISTS[which], sorted_lists[which], &rows, room, r.below(3) as usize);
-            (slots, counters) = (left.2, left.3);
+            (slots, counters) = (left.slots, left.counters);
             done += rows.len().max(1) as u64;
         }
         // the pool that was left, made impossible
@@ -477,7 +499,7 @@ pub fn batches(seed: u64, steps: u64) -> u64 {
             let mut rows = Rows::default();
             rows.push(0, 127_489, 0, [0, 1, 2, 3, 4, 5, 6, 7]);
             batch_refused(size, &bad, counters, LISTS[which], &rows, r.below(6) as usize);
-            batch_refused(9, &slots, counters, LISTS[which], &rows, 5);
+            batch_refused(9, &slots, counters, LISTS[which], &rows, NO_CUT);
             done += 2;
         }
     }
@@ -516,16 +538,14 @@ fn laid_on(old: &[u64; 64], new: &[u64; 64]) -> [u64; 64] {
 }
 
 fn heads_of(slots: &[Slot; 8]) -> [u64; 64] {
-    let mut p = Pool::ZEROS;
-    slots.iter().enumerate().for_each(|(k, s)| lay(&mut p, k, s));
-    p.heads
+    pool_of(8, slots).heads
 }
 
 /// Calls on pools with numbers wider than their fields: the same answers as on the narrow ones, which are held to the original,
 /// and each of the 64 numbers by the rule; after a refusal, all of them as they were.
 pub fn wide_numbers(seed: u64, steps: u64) -> u64 {
     let mut r = Rng::new(seed);
-    let mut seen = [0u64; 6];
+    let (mut seen, mut kinds) = ([0u64; 6], BTreeMap::<u32, u64>::new());
     for _ in 0..steps {
         let now = r.pick(&[500, 1000, 100_000]);
         let mut slots: [Slot; 8] = std::array::from_fn(|_| possible(&mut r, now));
@@ -543,10 +563,8 @@ pub fn wide_numbers(seed: u64, steps: u64) -> u64 {
             let (mut p, mut c) = (before.clone(), counters);
             let got = called(&mut p, &mut c, list, &h, length, by_value);
             assert_eq!((got, &p, c), (REFUSED, &before, counters), "a refusal changes no lent memory");
-            let mut rows = Rows::default();
-            rows.push(h.now, h.pgn, h.source, h.data);
             let mut told = lent(1, 300);
-            assert_eq!(batched(&mut p, &mut c, list, &rows, &mut told), (1, 0, 0));
+            assert_eq!(batched(&mut p, &mut c, list, &one_row(&h), &mut told), (1, 0, 0));
             assert_eq!((p, c, told), (before, counters, lent(1, 300)), "nor does a batch's");
             seen[0] += 1;
             continue;
@@ -560,12 +578,12 @@ pub fn wide_numbers(seed: u64, steps: u64) -> u64 {
             let got = called(&mut p, &mut c, list, &h, length, by_value);
             assert_eq!((&got, c, p.bytes), (&want, pair.counters(), pair.p.bytes), "{h:?}");
             assert_eq!(p.heads, laid_on(&before.heads, &pair.p.heads), "the numbers of {:?} after {h:?}", before.heads);
-            seen[match got.kind {
-                raw::IGNORED => 1,
-                raw::FRAGMENT_CONSUMED => 2,
-                raw::MESSAGE_COMPLETE => 3,
-                number => panic!("the pool is possible, and was refused by {number}"),
+            seen[match read(got.kind) {
+                Reading::Ignored => 1,
+                Reading::FragmentConsumed => 2,
+                Reading::MessageComplete => 3,
             }] += 1;
+            *kinds.entry(got.kind).or_default() += 1;
         } else {
             let mut rows = Rows::default();
             for _ in 0..r.below(6) {
@@ -582,12 +600,15 @@ pub fn wide_numbers(seed: u64, steps: u64) -> u64 {
                 continue;
             }
             let left = batch(size, &slots, counters, list, sorted(list), &rows, 1000, 0);
-            assert_eq!(batched(&mut p, &mut c, list, &rows, &mut told), (0, left.0, left.1));
-            assert_eq!((p.heads, p.bytes, c), (laid_on(&before.heads, &heads_of(&left.2)), bytes(&left.2), left.3), "the numbers of {:?} after a batch", before.heads);
+            assert_eq!(batched(&mut p, &mut c, list, &rows, &mut told), (0, left.said.len(), left.used));
+            assert!(told.kinds.iter().zip(&left.said).all(|(kind, said)| *kind as u32 == said.kind), "the kinds of {:?}", before.heads);
+            let after = (laid_on(&before.heads, &heads_of(&left.slots)), bytes(&left.slots), left.counters);
+            assert_eq!((p.heads, p.bytes, c), after, "the numbers of {:?} after a batch", before.heads);
             seen[5] += 1;
         }
     }
-    assert!(steps < 1000 || seen.iter().all(|&n| n > steps / 100), "each kind of answer: {seen:?}");
+    assert!(steps < 1000 || seen.iter().all(|&n| n > steps / 100), "each way out: {seen:?}");
+    assert!(steps < 1000 || kinds.len() == 6 && kinds.values().all(|&n| n > steps / 1000), "each kind: {kinds:?}");
     steps
 }
 
@@ -656,7 +677,6 @@ pub fn any_pool(seed: u64, steps: u64) -> u64 {
         p.set(&slots, counters);
         let h = heard(&mut r, &slots[..p.size], now);
         let length = if r.one_in(3) { Some(if r.one_in(4) { r.next() as usize } else { r.below(10) as usize }) } else { None };
-        p.ask(h.pgn);
         p.hear(&h, length);
     }
     steps
@@ -688,37 +708,160 @@ pub fn impossible_pools(seed: u64, steps: u64) -> u64 {
         let h = heard(&mut r, &slots[..size.min(8)], now);
         let counters = std::array::from_fn(|_| r.next() as u32);
         let length = r.one_in(3).then_some(r.below(10) as usize);
-        refused(size, &slots, counters, LISTS[r.below(6) as usize], &h, length);
+        refused(size, &slots, counters, LISTS[r.below(6) as usize], &h, length, h.now % 2 == 0);
         done += 1;
     }
     steps
 }
 
-/// Where a counter stands at its end the original would trap; the port stays there.
+/// Where a counter stands at its end the original would trap; the port stays there, and all else is as it was below, where it is held
+/// to the original: the name too.
 pub fn counters_at_the_end() -> u64 {
+    let busy = Slot { in_progress: true, source: 1, pgn: 127_489, expected: 7, current: 6, ..Slot::FRESH };
+    let mut slots = [Slot::FRESH; 8];
+    slots[0] = busy;
+    let list = [127_489];
     let mut steps = 0;
-    for (h, which) in [
-        (Heard { now: 0, pgn: 5, source: 0, data: [0; 8] }, 4),
-        (Heard { now: 0, pgn: 127_489, source: 0, data: [0; 8] }, 2),
-        (Heard { now: 0, pgn: 127_489, source: 0, data: [1; 8] }, 3),
-        (Heard { now: 0, pgn: 127_489, source: 0, data: [0, 7, 0, 0, 0, 0, 0, 0] }, 1),
-        (Heard { now: 501, pgn: 127_489, source: 0, data: [0, 7, 0, 0, 0, 0, 0, 0] }, 0),
+    for (h, which, kind) in [
+        (Heard { now: 0, pgn: 5, source: 0, data: [0; 8] }, 4, raw::NOT_LISTED),
+        (Heard { now: 0, pgn: 127_489, source: 0, data: [0; 8] }, 2, raw::REJECTED),
+        (Heard { now: 0, pgn: 127_489, source: 0, data: [1; 8] }, 3, raw::LOST),
+        (Heard { now: 0, pgn: 127_489, source: 1, data: [2; 8] }, 3, raw::LOST),
+        (Heard { now: 0, pgn: 127_489, source: 0, data: [0, 7, 0, 0, 0, 0, 0, 0] }, 1, raw::POOL_FULL),
+        (Heard { now: 501, pgn: 127_489, source: 0, data: [0, 7, 0, 0, 0, 0, 0, 0] }, 0, raw::FRAGMENT_CONSUMED),
     ] {
+        let mut pair = Pair::fresh(1, &list);
+        pair.set(&slots, [7; 5]);
+        let below = pair.hear(&h, None);
+        assert_eq!(below.kind, kind, "{h:?}");
         for at in [u32::MAX - 2, u32::MAX - 1, u32::MAX] {
-            let busy = Slot { in_progress: true, source: 1, pgn: 127_489, expected: 7, current: 6, ..Slot::FRESH };
-            let mut p = Pool { size: 1, ..Pool::ZEROS };
-            lay(&mut p, 0, &busy);
-            let mut c = [7; 5];
-            c[which] = at;
-            called(&mut p, &mut c, &[127_489], &h, None, false);
-            let mut want = [7; 5];
-            want[which] = at.saturating_add(1);
-            assert_eq!(c, want, "{h:?}");
+            let (mut before, mut after) = ([7; 5], [7; 5]);
+            (before[which], after[which]) = (at, at.saturating_add(1));
+            for (length, by_value) in SINGLE_CALLS {
+                let (mut p, mut c) = (pool_of(1, &slots), before);
+                let got = called(&mut p, &mut c, &list, &h, length, by_value);
+                assert_eq!((&got, &p, c), (&below, &pair.p, after), "{h:?}");
+                steps += 1;
+            }
+            let (mut p, mut c, mut told) = (pool_of(1, &slots), before, lent(1, 0));
+            assert_eq!(batched(&mut p, &mut c, &list, &one_row(&h), &mut told), (0, 1, 0));
+            assert_eq!((told.kinds[0] as u32, told.lengths[0], &p, c), (kind, 0, &pair.p, after), "{h:?}");
             steps += 1;
         }
     }
     steps
 }
+
+// ---- where one name could be taken for another
+
+/// Every slot in progress and live up to 1500 ms, each of another source.
+fn full_pool() -> [Slot; 8] {
+    std::array::from_fn(|k| Slot { in_progress: true, source: 10 + k as u8, pgn: 127_489, sequence: 3, bytes: [k as u8; 223], expected: 223, current: 6, last_index: 0, last_time: 1000 })
+}
+
+/// One frame on the same pool by every call, each held to the original: the kind that all of them give, and the slots that they leave.
+fn by_every_call(size: usize, slots: &[Slot; 8], list: &[u32], h: &Heard) -> (u32, [Slot; 8]) {
+    let mut pair = Pair::fresh(size, list);
+    pair.set(slots, [7; 5]);
+    let first = (pair.hear(h, None), pair.slots());
+    pair.set(slots, [7; 5]);
+    assert_eq!((pair.hear(h, Some(8)), pair.slots()), first, "with a length, {h:?}");
+    let left = batch(size, slots, [7; 5], list, sorted(list), &one_row(h), 223, 0);
+    assert_eq!((left.said[0].kind, left.slots), (first.0.kind, first.1), "a batch of one, {h:?}");
+    (first.0.kind, first.1)
+}
+
+/// The same on an impossible pool: 1 by every call.
+fn refused_by_every_call(size: usize, slots: &[Slot; 8], list: &[u32], h: &Heard) {
+    for (length, by_value) in SINGLE_CALLS {
+        refused(size, slots, [7; 5], list, h, length, by_value);
+    }
+    assert_eq!(batch_refused(size, slots, [7; 5], list, &one_row(h), NO_CUT), 1);
+}
+
+/// Every announced size where no slot is free: 0 and over 223 is Rejected all the same, and 1 to 6 bytes need no slot. Where the PGN is
+/// not listed nothing else is asked.
+pub fn no_slot_free() -> u64 {
+    let full = full_pool();
+    let mut steps = 0;
+    for size in [0, 1, 4, 8] {
+        for announced in 0..=255 {
+            let h = Heard { now: 1500, pgn: 127_489, source: 1, data: [0, announced, 1, 2, 3, 4, 5, 6] };
+            let kind = match announced {
+                0 | 224..=255 => raw::REJECTED,
+                1..=6 => raw::MESSAGE_COMPLETE,
+                7..=223 => raw::POOL_FULL,
+            };
+            assert_eq!(by_every_call(size, &full, &[127_489], &h), (kind, full), "{announced} on a full pool of {size}");
+            assert_eq!(by_every_call(size, &full, &[129_029], &h), (raw::NOT_LISTED, full), "unlisted, {announced} on a full pool of {size}");
+            steps += 2;
+        }
+    }
+    steps
+}
+
+/// A continuation of a session with every last index, in time and late, in turn and out of turn: a late session stays as it is, and one
+/// whose frame is out of turn has ended.
+pub fn late_and_out_of_turn() -> u64 {
+    let mut steps = 0;
+    for size in [1, 4, 8] {
+        for last_index in 0..=30u8 {
+            let mut slots = full_pool();
+            let own = &mut slots[size - 1];
+            (own.last_index, own.current) = (last_index, 6 + 7 * last_index as usize);
+            let mut ended = slots;
+            ended[size - 1] = Slot { in_progress: false, pgn: 0, sequence: 0, expected: 0, current: 0, last_index: 0, ..slots[size - 1] };
+            for index in (last_index.saturating_sub(1)..=last_index + 2).filter(|i| (1..=31).contains(i)) {
+                let h = |now| Heard { now, pgn: 127_489, source: 10 + size as u8 - 1, data: [3 << 5 | index, 1, 2, 3, 4, 5, 6, 7] };
+                assert_eq!(by_every_call(size, &slots, &[127_489], &h(1501)), (raw::LOST, slots), "late: index {index} after {last_index}");
+                let (kind, left) = by_every_call(size, &slots, &[127_489], &h(1500));
+                if index != last_index + 1 {
+                    assert_eq!((kind, left), (raw::LOST, ended), "out of turn: index {index} after {last_index}");
+                } else {
+                    assert_eq!(kind, if last_index < 30 { raw::FRAGMENT_CONSUMED } else { raw::MESSAGE_COMPLETE }, "in turn: index {index}");
+                }
+                steps += 2;
+            }
+        }
+    }
+    steps
+}
+
+/// Impossible pools by their size and by each field, under frames of every kind: 1, also where the PGN is not listed.
+pub fn unlisted_on_impossible_pools() -> u64 {
+    let full = full_pool();
+    let bad = |bend: fn(&mut Slot)| {
+        let mut slots = full;
+        bend(&mut slots[3]);
+        (4, slots)
+    };
+    let mut steps = 0;
+    for (size, slots) in [
+        (9, full),
+        (usize::MAX, full),
+        bad(|s| s.sequence = 8),
+        bad(|s| s.expected = 6),
+        bad(|s| s.expected = 224),
+        bad(|s| s.current = 7),
+        bad(|s| (s.expected, s.current, s.last_index) = (13, 13, 1)),
+    ] {
+        assert!(impossible(size, &slots));
+        for (b0, b1) in [(0, 0), (0, 6), (0, 7), (0, 224), (1, 0), (3 << 5 | 1, 0), (3 << 5 | 2, 0)] {
+            for list in [&[][..], &[129_029], &[127_489]] {
+                refused_by_every_call(size, &slots, list, &Heard { now: 1500, pgn: 127_489, source: 13, data: [b0, b1, 1, 2, 3, 4, 5, 6] });
+                steps += 1;
+            }
+        }
+    }
+    steps
+}
+
+/// All three.
+pub fn told_apart() -> u64 {
+    no_slot_free() + late_and_out_of_turn() + unlisted_on_impossible_pools()
+}
+
+// ---- traffic
 
 /// Runs of traffic from a fresh pool: several senders, losses, repeats, damage, silences around 500 ms, a clock that goes
 /// back, full pools, keys that collide, lists that are not in order.
@@ -774,6 +917,20 @@ fn reads(p: &ours::Pool, o: &dyn Original, k: usize) -> bool {
     })
 }
 
+/// An answer of the safe API beside the original's; `same` compares the messages.
+fn hold_safe<M>(call: &'static str, got: &ours::ProcessResult<M>, (result, said): &(ProcessResult, Said), h: &Heard, same: impl Fn(&M, &CompletedMessage) -> bool) {
+    answered(call, kind_of(got));
+    said.hold(kind_of(got), h);
+    assert_eq!(got.is_ignored(), matches!(result, ProcessResult::Ignored), "{h:?}");
+    if let (ours::ProcessResult::MessageComplete(ours), ProcessResult::MessageComplete(theirs)) = (got, result) {
+        assert!(same(ours, theirs), "the message of {h:?}");
+    }
+}
+
+fn hold_single(got: ours::ProcessResult, want: (ProcessResult, Said), h: &Heard) {
+    hold_safe("safe", &got, &want, h, |ours, theirs| (ours.payload, ours.len) == (theirs.payload, theirs.len));
+}
+
 /// Pools as a program holds them, from fresh on: each of the calls in turn, and after each all that the methods read.
 pub fn safe_pools(seed: u64, steps: u64) -> u64 {
     let mut r = Rng::new(seed);
@@ -788,26 +945,29 @@ pub fn safe_pools(seed: u64, steps: u64) -> u64 {
             now = if r.one_in(20) { now.saturating_sub(600) } else { now.saturating_add(r.pick(&[0, 1, 5, 5, 5, 500, 501])) };
             let h = heard(&mut r, &slots, now);
             match r.below(4) {
-                0 => assert_eq!(p.process_frame(list, h.now, h.pgn, h.source, &h.data), as_ours(o.process(&h))),
-                1 => assert_eq!(p.receive(list, h.now, h.pgn, h.source, &h.data), as_ours(o.process(&h))),
+                0 => hold_single(p.process_frame(list, h.now, h.pgn, h.source, &h.data), asked(&mut *o, &h), &h),
+                1 => hold_single(p.receive(list, h.now, h.pgn, h.source, &h.data), asked(&mut *o, &h), &h),
                 2 => {
                     let n = r.below(10) as usize;
                     let cut = Heard { data: std::array::from_fn(|i| if i < n { h.data[i] } else { 0xFF }), ..h };
-                    assert_eq!(p.process_frame_with_length(list, h.now, h.pgn, h.source, &h.data, n), as_ours(o.process(&cut)));
+                    hold_single(p.process_frame_with_length(list, h.now, h.pgn, h.source, &h.data, n), asked(&mut *o, &cut), &cut);
                 }
                 _ => {
                     let (mut rows, mut want) = (Rows::default(), vec![]);
-                    for k in 0..r.below(6) as usize {
+                    for _ in 0..r.below(6) {
                         let h = heard(&mut r, &slots, now);
                         rows.push(h.now, h.pgn, h.source, h.data);
-                        if let ProcessResult::MessageComplete(m) = o.process(&h) {
-                            want.push((k, m.payload[..m.len].to_vec()));
-                        }
+                        want.push(asked(&mut *o, &h));
                     }
-                    let mut told = Told::room(rows.len(), 223 * rows.len());
+                    let mut told = ours::Told::room(rows.len(), 223 * rows.len());
                     let taken = p.process_frames(list, &rows, 0, &mut told).unwrap();
-                    assert_eq!((taken.frames, taken.used), (rows.len(), want.iter().map(|m| m.1.len()).sum()));
-                    assert_eq!(told.messages(taken).map(|(k, m)| (k, m.to_vec())).collect::<Vec<_>>(), want);
+                    let complete: Vec<_> = want.iter().enumerate().filter(|(_, (r, _))| matches!(r, ProcessResult::MessageComplete(_))).map(|(k, (r, _))| (k, message_of(r))).collect();
+                    assert_eq!((taken.frames, taken.used), (rows.len(), complete.iter().map(|(_, m)| m.len()).sum()));
+                    assert_eq!(told.messages(taken).collect::<Vec<_>>(), complete);
+                    assert_eq!(told.results(taken).count(), rows.len());
+                    for (k, (got, want)) in told.results(taken).zip(&want).enumerate() {
+                        hold_safe("safe_row", &got, want, &heard_in(&rows, k), |ours, theirs| *ours == &theirs.payload[..theirs.len]);
+                    }
                 }
             }
             assert_eq!([p.expired_sessions(), p.pool_exhausted(), p.rejected_frames(), p.lost_fragments(), p.unknown_pgn()], o.counters());
@@ -827,23 +987,23 @@ pub fn any_rows(seed: u64, steps: u64) -> u64 {
         let mut p = ours::Pool::new(r.below(9) as usize).unwrap();
         let mut length = |most| r.below(most) as usize;
         let (times, pgns, sources, data) = (length(6), length(6), length(6), length(50));
-        let mut told = lent(length(6), 0);
-        (told.lengths, told.arena) = (vec![0xEE; length(6)], vec![0xEE; length(40)]);
+        let (kinds, lengths, arena) = (length(6), length(6), length(40));
+        let mut told = Told { kinds: vec![0xEE; kinds], lengths: vec![0xEE; lengths], arena: vec![0xEE; arena] }.for_safe_call();
         let from = if r.one_in(10) { r.next() as usize } else { r.below(8) as usize };
         let rows = Rows { times: vec![7; times], pgns: (0..pgns).map(|_| r.pick(&PGNS)).collect(), sources: vec![1; sources], data: r.vec(data).iter().map(|b| b % 12).collect() };
         let n = times.saturating_sub(from);
         let left = |len: usize, each: usize| len.saturating_sub(from.saturating_mul(each)) / each;
-        let short = [left(pgns, 1), left(sources, 1), left(data, 8), told.kinds.len(), told.lengths.len()].into_iter().any(|len| len < n);
+        let short = [left(pgns, 1), left(sources, 1), left(data, 8), kinds, lengths].into_iter().any(|len| len < n);
         let before = (p.clone(), told.clone());
         match p.process_frames(list, &rows, from, &mut told) {
             Ok(taken) => {
-                assert!(!short && taken.frames <= n && taken.used <= told.arena.len());
-                assert_eq!(told.messages(taken).map(|(_, m)| m.len()).sum::<usize>(), taken.used);
+                assert!(!short && taken.frames <= n && taken.used <= arena);
+                assert_eq!((told.results(taken).count(), told.messages(taken).map(|(_, m)| m.len()).sum::<usize>()), (taken.frames, taken.used));
                 answered("rows", 0);
             }
-            Err(e) => {
-                assert!(short && e.number == 27 && (p, told) == before, "{e}");
-                answered("rows", e.number);
+            Err(NoRoom) => {
+                assert!(short && (p, told) == before, "a refusal changes nothing");
+                answered("rows", NoRoom.number());
             }
         }
     }

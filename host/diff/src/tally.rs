@@ -21,12 +21,15 @@ pub fn run(name: &str, compared: impl FnOnce() -> u64) {
 }
 
 /// A kind by its name; a refusal by its number.
-fn answer_name(answer: u32) -> String {
-    use port::raw::{END, FRAGMENT_CONSUMED, IGNORED, MESSAGE_COMPLETE};
+pub fn answer_name(answer: u32) -> String {
+    use port::raw::{END, FRAGMENT_CONSUMED, LOST, MESSAGE_COMPLETE, NOT_LISTED, POOL_FULL, REJECTED};
     match answer {
         0 => "given".into(),
         END => "End".into(),
-        IGNORED => "Ignored".into(),
+        NOT_LISTED => "NotListed".into(),
+        REJECTED => "Rejected".into(),
+        POOL_FULL => "PoolFull".into(),
+        LOST => "Lost".into(),
         FRAGMENT_CONSUMED => "FragmentConsumed".into(),
         MESSAGE_COMPLETE => "MessageComplete".into(),
         number => number.to_string(),

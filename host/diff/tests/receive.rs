@@ -36,6 +36,11 @@ fn counters_stop_at_their_end() {
 }
 
 #[test]
+fn the_names_are_told_apart_where_one_could_be_taken_for_another() {
+    run("receiving where one name could be taken for another", receive::told_apart);
+}
+
+#[test]
 fn traffic_is_answered_as_the_original_does() {
     run("receiving traffic", || receive::traffic(5, 2_000_000));
 }

@@ -14,7 +14,10 @@ fn main() -> Result<(), Box<dyn std::error::Error>> {
         let frame = frame?;
         print!("{:08X} {:02X?}: ", frame.id.0, frame.data);
         match pool.process_frame(&[ENGINE], now_ms, ENGINE, 35, &frame.data) {
-            ProcessResult::Ignored => println!("Ignored"),
+            ProcessResult::NotListed => println!("NotListed"),
+            ProcessResult::Rejected => println!("Rejected"),
+            ProcessResult::PoolFull => println!("PoolFull"),
+            ProcessResult::Lost => println!("Lost"),
             ProcessResult::FragmentConsumed => println!("FragmentConsumed"),
             ProcessResult::MessageComplete(message) => {
                 let hours = u32::from_le_bytes(message.payload[11..15].try_into()?);

@@ -1,5 +1,6 @@
-//! From frames to messages: the original's `FastPacketAssembler`, but for the PGN list, which is lent to each call.
-use crate::error::Refusal;
+//! From frames to messages: the original's `FastPacketAssembler`, but for the PGN list, which is lent to each call, and for its
+//! Ignored, which here says why. So one call is enough: nothing is asked before it.
+use crate::error::{ImpossiblePool, NoRoom};
 use crate::fast_packet::MAX_FAST_PACKET_PAYLOAD;
 use crate::raw;
 
@@ -10,14 +11,43 @@ pub struct Pool {
     counters: raw::Counters,
 }
 
+/// What a frame got: of a single call with a copy of the message, of a batch with the message as it stands in the arena. The counter
+/// that a case names went up by one, unless it stands at its end.
 #[allow(clippy::large_enum_variant)]
 #[derive(Clone, Debug, PartialEq, Eq)]
-pub enum ProcessResult {
-    /// The frame was not taken, and a counter says why; a continuation out of turn also ended its session.
-    Ignored,
+pub enum ProcessResult<Message = CompletedMessage> {
+    /// The list lent to the call does not have the PGN (`unknown_pgn`).
+    NotListed,
+    /// A first frame announced 0 or more than 223 bytes (`rejected_frames`).
+    Rejected,
+    /// A first frame began a message of 7 bytes or more, and no slot was free or had its key (`pool_exhausted`).
+    PoolFull,
+    /// A continuation found no live session (a late one stays as it is), or it came out of turn, which ended its session
+    /// (`lost_fragments`).
+    Lost,
     /// The frame was taken, and more of its message is missing.
     FragmentConsumed,
-    MessageComplete(CompletedMessage),
+    /// The frame brought this message to its end.
+    MessageComplete(Message),
+}
+
+impl<Message> ProcessResult<Message> {
+    /// What the original answers `Ignored` to: the frame was not taken.
+    pub fn is_ignored(&self) -> bool {
+        matches!(self, Self::NotListed | Self::Rejected | Self::PoolFull | Self::Lost)
+    }
+    /// A kind under its name; none for a number that is no kind of a frame, or without its message.
+    fn named(kind: u32, message: impl FnOnce() -> Option<Message>) -> Option<Self> {
+        match kind {
+            raw::NOT_LISTED => Some(Self::NotListed),
+            raw::REJECTED => Some(Self::Rejected),
+            raw::POOL_FULL => Some(Self::PoolFull),
+            raw::LOST => Some(Self::Lost),
+            raw::FRAGMENT_CONSUMED => Some(Self::FragmentConsumed),
+            raw::MESSAGE_COMPLETE => message().map(Self::MessageComplete),
+            _ => None,
+        }
+    }
 }
 
 #[derive(Clone, Debug, PartialEq, Eq)]
@@ -48,17 +78,14 @@ pub struct Taken {
     pub used: usize,
 }
 
-pub fn handles(pgns: &[u32], pgn: u32) -> bool {
-    raw::handles(pgns, pgn)
-}
-
 impl Pool {
-    /// A fresh pool of up to 8 slots, counters at 0; more slots are refused by 1.
-    pub fn new(size: usize) -> Result<Self, Refusal<0>> {
+    /// A fresh pool of up to 8 slots, counters at 0; more slots are refused.
+    pub fn new(size: usize) -> Result<Self, ImpossiblePool> {
         let mut pool = Self { numbers: raw::Pool::ZEROS, counters: [0; raw::COUNTERS] };
         match pool.numbers.made_anew(size) {
             0 => Ok(pool),
-            number => Err(Refusal { number, carried: [] }),
+            ImpossiblePool::NUMBER => Err(ImpossiblePool),
+            other => never_given(other),
         }
     }
 
@@ -111,19 +138,21 @@ impl Pool {
         answer(|payload, length| self.numbers.process_frame_with_length(&mut self.counters, pgns, now_ms, pgn, source_address, data, frame_length, payload, length))
     }
     /// Many frames in one call, those of `rows` from `from` on; past the end there are none. It stops before the first frame whose
-    /// message has no room in the arena. 27 where a row is shorter than that of the times.
-    pub fn process_frames(&mut self, pgns: &[u32], rows: &Rows, from: usize, told: &mut Told) -> Result<Taken, Refusal<0>> {
+    /// message has no room in the arena. Refused where a row is shorter than that of the times; the other refusal of a batch, of an
+    /// impossible pool, has no case here, since no value of `Pool` is one.
+    pub fn process_frames(&mut self, pgns: &[u32], rows: &Rows, from: usize, told: &mut Told) -> Result<Taken, NoRoom> {
         fn rest<T>(row: &[T], from: usize) -> &[T] {
             row.get(from..).unwrap_or(&[])
         }
         let mut counts = [0; raw::COUNTS];
         let number = self.numbers.process_frames(
             &mut self.counters, pgns, rest(&rows.times, from), rest(&rows.pgns, from), rest(&rows.sources, from), rest(&rows.data, from.saturating_mul(8)),
-            &mut told.kinds, &mut told.lengths, &mut told.arena, &mut counts,
+            &mut told.numbers.kinds, &mut told.numbers.lengths, &mut told.numbers.arena, &mut counts,
         );
         match number {
             0 => Ok(Taken { frames: counts[0] as usize, used: counts[1] as usize }),
-            number => Err(Refusal { number, carried: [] }),
+            NoRoom::NUMBER => Err(NoRoom),
+            other => never_given(other),
         }
     }
 }
@@ -137,14 +166,16 @@ impl Default for Pool {
     }
 }
 
-/// A call's kind with its message. The refusal, 1, is for pools that no value of `Pool` is; it has no case of its own.
+/// A single call's kind with its message. The refusal, 1, is for pools that no value of `Pool` is; it has no case of its own.
 fn answer(call: impl FnOnce(&mut [u8; MAX_FAST_PACKET_PAYLOAD], &mut usize) -> u32) -> ProcessResult {
     let (mut payload, mut len) = ([0; MAX_FAST_PACKET_PAYLOAD], 0);
-    match call(&mut payload, &mut len) {
-        raw::MESSAGE_COMPLETE => ProcessResult::MessageComplete(CompletedMessage { payload, len }),
-        raw::FRAGMENT_CONSUMED => ProcessResult::FragmentConsumed,
-        _ => ProcessResult::Ignored,
-    }
+    let kind = call(&mut payload, &mut len);
+    ProcessResult::named(kind, || Some(CompletedMessage { payload, len })).unwrap_or_else(|| never_given(kind))
+}
+
+/// For a number that the proved calls never give here: another archive is linked than this crate is made for.
+fn never_given(number: u32) -> ! {
+    unreachable!("the archive answered {number}, which this call never gives")
 }
 
 /// Rows of frames: a time, a PGN, a source and eight bytes of `data` each.
@@ -171,26 +202,33 @@ impl Rows {
     }
 }
 
-/// Rows for a batch's answers: a kind and a message's length for each frame, and the messages end to end.
+/// Room for a batch's answers: what each frame got, and the messages end to end in an arena.
 #[derive(Clone, Debug, PartialEq, Eq)]
 pub struct Told {
-    pub kinds: Vec<u8>,
-    pub lengths: Vec<u8>,
-    pub arena: Vec<u8>,
+    pub(crate) numbers: raw::Told,
 }
 
 impl Told {
     pub fn room(frames: usize, arena: usize) -> Told {
-        Told { kinds: vec![0; frames], lengths: vec![0; frames], arena: vec![0; arena] }
+        Told { numbers: raw::Told::room(frames, arena) }
+    }
+    /// What the frames that a batch took got, in their order.
+    pub fn results(&self, taken: Taken) -> impl Iterator<Item = ProcessResult<&[u8]>> {
+        let raw::Told { kinds, lengths, arena } = &self.numbers;
+        let mut rest = arena.as_slice();
+        kinds.iter().zip(lengths).take(taken.frames).map_while(move |(kind, length)| {
+            ProcessResult::named(*kind as u32, || {
+                let (message, after) = rest.split_at_checked(*length as usize)?;
+                rest = after;
+                Some(message)
+            })
+        })
     }
     /// The messages of the frames that a batch took: which of them brought it to its end, and its bytes.
     pub fn messages(&self, taken: Taken) -> impl Iterator<Item = (usize, &[u8])> {
-        let rows = self.kinds.iter().zip(&self.lengths).take(taken.frames).enumerate();
-        let complete = rows.filter(|(_, (kind, _))| **kind as u32 == raw::MESSAGE_COMPLETE);
-        complete.scan(0, |at, (row, (_, length))| {
-            let message = self.arena.get(*at..*at + *length as usize)?;
-            *at += message.len();
-            Some((row, message))
+        self.results(taken).enumerate().filter_map(|(row, result)| match result {
+            ProcessResult::MessageComplete(message) => Some((row, message)),
+            _ => None,
         })
     }
 }

@@ -14,8 +14,7 @@ unsafe extern "C" {
     pub safe fn hf_can_id_build_with(pgn: u32, source_address: u8, priority: u16, destination: u16, value: &mut u32) -> u32;
     pub safe fn hf_can_id_build_to(pgn: u32, source_address: u8, priority: u8, destination: u8, value: &mut u32) -> u32;
 
-    // ---- crates/ffi/src/listed.rt
-    pub unsafe fn hf_is_listed(pgns: *const u32, pgns_len: usize, pgn: u32) -> bool;
+    // ---- crates/ffi/src/short_frames.rt
     pub safe fn hf_fill_short(data: &mut [u8; 8], len: usize);
 
     // ---- crates/ffi/src/frames.rt
@@ -34,7 +33,6 @@ unsafe extern "C" {
     ) -> u32;
 
     // ---- crates/ffi/src/pools.rt
-    pub unsafe fn hf_handles(pgns: *const u32, pgns_len: usize, pgn: u32) -> bool;
     pub safe fn hf_raw_pool_new(wanted: usize, heads: &mut [u64; POOL_HEADS], bytes: &mut [u8; POOL_BYTES], size: &mut usize) -> u32;
     pub safe fn hf_raw_pool_default(heads: &mut [u64; POOL_HEADS], bytes: &mut [u8; POOL_BYTES], size: &mut usize) -> u32;
     pub unsafe fn hf_raw_process_frame(
@@ -57,7 +55,7 @@ unsafe extern "C" {
         lengths: *mut u8, lengths_len: usize, arena: *mut u8, arena_len: usize, counts: &mut [u64; 2],
     ) -> u32;
 
-    // ---- crates/ffi/src/bench.rt
+    // ---- crates/ffi/src/bench_entries.rt
     pub unsafe fn hf_reassemble(
         ids: *const u32, ids_len: usize, bytes: *const u8, bytes_len: usize, lens: *const usize, lens_len: usize, source: u8, pgn: u32,
         list: *mut usize, list_len: usize, arena: *mut u8, arena_len: usize, values: &mut [u64; 5],

@@ -58,7 +58,49 @@ impl fmt::Display for CanIdBuildError {
 
 impl std::error::Error for CanIdBuildError {}
 
-/// A refusal: document 01's number, and what it carries (docs/REFUSALS.md), then zeros.
+/// Why a pool was not made: more than 8 slots were asked for.
+#[derive(Clone, Copy, Debug, PartialEq, Eq)]
+pub struct ImpossiblePool;
+
+impl ImpossiblePool {
+    pub(crate) const NUMBER: u32 = 1;
+
+    /// Document 01's number.
+    pub fn number(self) -> u32 {
+        Self::NUMBER
+    }
+}
+
+impl fmt::Display for ImpossiblePool {
+    fn fmt(&self, f: &mut fmt::Formatter) -> fmt::Result {
+        f.write_str("a pool has at most 8 slots")
+    }
+}
+
+impl std::error::Error for ImpossiblePool {}
+
+/// Why a batch was not run: one of its rows, in or out, is shorter than that of the times.
+#[derive(Clone, Copy, Debug, PartialEq, Eq)]
+pub struct NoRoom;
+
+impl NoRoom {
+    pub(crate) const NUMBER: u32 = 27;
+
+    /// Document 01's number.
+    pub fn number(self) -> u32 {
+        Self::NUMBER
+    }
+}
+
+impl fmt::Display for NoRoom {
+    fn fmt(&self, f: &mut fmt::Formatter) -> fmt::Result {
+        f.write_str("a row of the batch is shorter than that of the times")
+    }
+}
+
+impl std::error::Error for NoRoom {}
+
+/// A refusal of the bench: document 01's number, and what it carries (docs/REFUSALS.md), then zeros.
 #[derive(Clone, Copy, Debug, PartialEq, Eq)]
 pub struct Refusal<const N: usize> {
     pub number: u32,

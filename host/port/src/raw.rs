@@ -2,6 +2,7 @@
 //! fields. Programs call the modules beside this one, which stand on it; the differential runs and the benchmark call it too.
 //! What a declaration asks of a caller is kept by the types.
 #![allow(clippy::too_many_arguments)]
+use crate::assembler;
 use crate::entries::*;
 use crate::fast_packet::MAX_FAST_PACKET_PAYLOAD;
 use crate::oracle::Frames;
@@ -26,26 +27,21 @@ pub const FRAME_NUMBERS: usize = 3;
 pub const COUNTS: usize = 2;
 pub const VALUES: usize = 5;
 
-// ---- the kinds of an answer that is no refusal, of a single call and of a batch's row
+// ---- the kinds of an answer that is no refusal, of a single call and of a batch's row; 101 was Ignored, and is given no more
 
 pub const END: u32 = 100;
-pub const IGNORED: u32 = 101;
 pub const FRAGMENT_CONSUMED: u32 = 102;
 pub const MESSAGE_COMPLETE: u32 = 103;
+pub const NOT_LISTED: u32 = 104;
+pub const REJECTED: u32 = 105;
+pub const POOL_FULL: u32 = 106;
+pub const LOST: u32 = 107;
 
 /// What stands for no destination, and for a setter that is not called.
 pub const NONE: u16 = 256;
 
 pub fn address(destination: Option<u8>) -> u16 {
     destination.map_or(NONE, u16::from)
-}
-
-pub fn is_listed(pgns: &[u32], pgn: u32) -> bool {
-    unsafe { hf_is_listed(pgns.as_ptr(), pgns.len(), pgn) }
-}
-
-pub fn handles(pgns: &[u32], pgn: u32) -> bool {
-    unsafe { hf_handles(pgns.as_ptr(), pgns.len(), pgn) }
 }
 
 // ---- frames
@@ -79,6 +75,24 @@ pub struct Pool {
 
 /// Expired, exhausted, rejected, lost, unknown.
 pub type Counters = [u32; COUNTERS];
+
+/// Rows for a batch's answers: a kind and a message's length for each frame, and the messages end to end.
+#[derive(Clone, Debug, PartialEq, Eq)]
+pub struct Told {
+    pub kinds: Vec<u8>,
+    pub lengths: Vec<u8>,
+    pub arena: Vec<u8>,
+}
+
+impl Told {
+    pub fn room(frames: usize, arena: usize) -> Told {
+        Told { kinds: vec![0; frames], lengths: vec![0; frames], arena: vec![0; arena] }
+    }
+    /// The same rows, whatever their lengths, for the safe call.
+    pub fn for_safe_call(self) -> assembler::Told {
+        assembler::Told { numbers: self }
+    }
+}
 
 impl Pool {
     pub const ZEROS: Pool = Pool { size: 0, heads: [0; POOL_HEADS], bytes: [0; POOL_BYTES] };

@@ -2,11 +2,13 @@
 use Prim.Native.Nat.{ℕ}
 use mathlib.Core.List.{List, [], _∷_}
 use mathlib.Core.Path.{_≡_}
+use Rattle.batch.specs.Rows.{ofBatched}
 use Rattle.batch.specs.declared.Batch.{Batch}
+use Rattle.numbers.specs.Numbers.{codeOf}
 use Rattle.numbers.specs.Pool.{laidOver, counterNumbers}
 
 pub record PoolAfter (r : Batch) (old : List ℕ) (code : ℕ) (heads bytes counters counts : List ℕ) : Type 0 where
-  pub told : code ≡ r .refused
+  pub told : code ≡ codeOf (ofBatched (r .result) (r .taken))
   pub kept : heads ≡ laidOver old (r .pool .heads)
   pub stored : bytes ≡ r .pool .bytes
   pub counted : counters ≡ counterNumbers (r .counters)

@@ -7,9 +7,9 @@ use Rattle.session.specs.declared.Head.{Head}
 use Rattle.session.specs.declared.Heard.{Heard}
 use Rattle.session.specs.declared.Plan.{Plan}
 use Rattle.session.specs.declared.Kind.{Kind}
-use Rattle.session.specs.declared.Kind.the-variants.{Refused, Ignored, FragmentConsumed, MessageComplete}
+use Rattle.session.specs.declared.Kind.the-variants.{ImpossiblePool, NotListed, Rejected, PoolFull, Lost, FragmentConsumed, MessageComplete}
 use Rattle.session.specs.declared.Mark.{Mark}
-use Rattle.session.specs.declared.Mark.the-variants.{Nothing, Exhausted, Rejected, Lost, Unknown}
+use Rattle.session.specs.declared.Mark.the-variants as mark
 use Rattle.session.specs.Rules.{Rules}
 use Rattle.session.specs.Frames.{indexOf, sizeOf, badSize}
 use Rattle.session.specs.Heads.{isExpired, inTurn, openedHead, resetHead, wanted, copiedHead, allThere}
@@ -19,15 +19,15 @@ unfoldable pub idle : Kind → Mark → Head → Plan
 idle k m h = record { kind = k; mark = m; head = h; at = 0; from = 0; count = 0; whole = 0; short = 0 }
 
 unfoldable pub planOpen : Bool → Rules → Heard → Head → Plan
-planOpen false R f h = idle Ignored Exhausted h
+planOpen false R f h = idle PoolFull mark.Exhausted h
 planOpen true R f h = record { kind = FragmentConsumed; mark = expiredMark (isExpired R f h); head = openedHead f; at = 0; from = 2; count = 6; whole = 0; short = 0 }
 
 unfoldable pub planShort : Bool → Bool → Rules → Heard → Head → Plan
-planShort true found R f h = record { kind = MessageComplete; mark = Nothing; head = h; at = 0; from = 0; count = 0; whole = 0; short = sizeOf f }
+planShort true found R f h = record { kind = MessageComplete; mark = mark.Nothing; head = h; at = 0; from = 0; count = 0; whole = 0; short = sizeOf f }
 planShort false found R f h = planOpen found R f h
 
 unfoldable pub planSized : Bool → Bool → Rules → Heard → Head → Plan
-planSized true found R f h = idle Ignored Rejected h
+planSized true found R f h = idle Rejected mark.Rejected h
 planSized false found R f h = planShort (leb (sizeOf f) 6) found R f h
 
 unfoldable pub planFirst : Bool → Rules → Heard → Head → Plan
@@ -35,16 +35,16 @@ planFirst found R f h = planSized (badSize f) found R f h
 
 unfoldable pub planCopy : Bool → Heard → Head → Plan
 planCopy true f h =
-    record { kind = MessageComplete; mark = Nothing; head = resetHead (copiedHead f h); at = h .«current_size»; from = 1; count = wanted h; whole = h .«expected_size»; short = 0 }
+    record { kind = MessageComplete; mark = mark.Nothing; head = resetHead (copiedHead f h); at = h .«current_size»; from = 1; count = wanted h; whole = h .«expected_size»; short = 0 }
 planCopy false f h =
-    record { kind = FragmentConsumed; mark = Nothing; head = copiedHead f h; at = h .«current_size»; from = 1; count = wanted h; whole = 0; short = 0 }
+    record { kind = FragmentConsumed; mark = mark.Nothing; head = copiedHead f h; at = h .«current_size»; from = 1; count = wanted h; whole = 0; short = 0 }
 
 unfoldable pub planTurn : Bool → Heard → Head → Plan
 planTurn true f h = planCopy (allThere (copiedHead f h)) f h
-planTurn false f h = idle Ignored Lost (resetHead h)
+planTurn false f h = idle Lost mark.Lost (resetHead h)
 
 unfoldable pub planNext : Bool → Heard → Head → Plan
-planNext false f h = idle Ignored Lost h
+planNext false f h = idle Lost mark.Lost h
 planNext true f h = planTurn (inTurn f h) f h
 
 unfoldable pub planIndex : Bool → Bool → Rules → Heard → Head → Plan
@@ -52,9 +52,9 @@ planIndex true found R f h = planFirst found R f h
 planIndex false found R f h = planNext found f h
 
 unfoldable pub planListed : Bool → Bool → Rules → Heard → Head → Plan
-planListed false found R f h = idle Ignored Unknown h
+planListed false found R f h = idle NotListed mark.Unknown h
 planListed true found R f h = planIndex (eqb (indexOf f) 0) found R f h
 
 unfoldable pub planOf : Bool → Bool → Bool → Rules → Heard → Head → Plan
-planOf true listed found R f h = idle (Refused 1) Nothing h
+planOf true listed found R f h = idle ImpossiblePool mark.Nothing h
 planOf false listed found R f h = planListed listed found R f h

@@ -8,11 +8,13 @@ fn main() {
         steps += frames::random(22, 5_000);
         steps += receive::making();
         steps += receive::counters_at_the_end();
+        steps += receive::told_apart();
         steps += receive::any_pool(23, 5_000);
         steps += receive::impossible_pools(24, 2_000);
         steps += receive::traffic(25, 20_000);
         steps += receive::batches(26, 100_000);
         steps += receive::wide_numbers(28, 5_000);
+        steps += receive::safe_pools(29, 5_000);
         steps += bench::every_split();
         steps + bench::random(27, 60_000)
     });

@@ -1,14 +1,17 @@
 //! Writes the list that the program `replay` is held to: crates/replay/stdin, calls, and crates/replay/stdout, what the
-//! original answered to them. Nothing of the port is called. cargo run --offline --release -p diff --bin replay_list
+//! original answered to them, an Ignored under the name that goes with the counter that it raised. Nothing of the port is
+//! called, so it needs no archive: cargo run --offline --release -p diff --features piped --bin replay_list
 //!
 //! The calls are made by a generator with a fixed seed: runs of several senders with losses, repeats, damage, silences around
 //! 500 ms and a clock that goes back, on pools of 0 to 8; and builders at any place.
+use diff::ids;
+use diff::receive::{self, asked, message_of, Heard, Original};
 use diff::rng::Rng;
-use diff::{ids, receive};
+use diff::tally::answer_name;
 use reference::hooks::{Parts, Progress};
 use reference::protocol::messages::stand_for;
 use reference::protocol::transport::can_id::CanIdBuilder;
-use reference::protocol::transport::fast_packet::assembler::{FastPacketAssembler, ProcessResult};
+use reference::protocol::transport::fast_packet::assembler::FastPacketAssembler;
 use reference::protocol::transport::fast_packet::builder::FastPacketBuilder;
 use std::fmt::Write;
 
@@ -50,13 +53,9 @@ fn run<const N: usize>(r: &mut Rng, frames: usize, calls: &mut String, answers: 
         }
         let first = if i == 0 { char::from(b'0' + N as u8) } else { '.' };
         writeln!(calls, "{first}{now:016X}{pgn:08X}{source:02X}{}", hex(&data)).unwrap();
-        let (kind, message) = match a.process_frame(now, pgn, source, &data) {
-            ProcessResult::Ignored => ("Ignored", vec![]),
-            ProcessResult::FragmentConsumed => ("FragmentConsumed", vec![]),
-            ProcessResult::MessageComplete(m) => ("MessageComplete", m.payload[..m.len].to_vec()),
-        };
-        let c = [a.expired_sessions(), a.pool_exhausted(), a.rejected_frames(), a.lost_fragments(), a.unknown_pgn()];
-        writeln!(answers, "{kind} {} {} {} {} {} {}", c[0], c[1], c[2], c[3], c[4], hex(&message)).unwrap();
+        let (result, said) = asked(&mut a, &Heard { now, pgn, source, data });
+        let (kind, c) = (answer_name(said.kind), a.counters());
+        writeln!(answers, "{kind} {} {} {} {} {} {}", c[0], c[1], c[2], c[3], c[4], hex(message_of(&result))).unwrap();
     }
 }
 

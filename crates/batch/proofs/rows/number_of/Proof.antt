@@ -19,7 +19,19 @@ returns-3 c = rw (c .enum-told3 .given .1)
 
 returns-4 : tie.Need-returns-4
 unfolding kindNumber
-returns-4 c = rw (c .before .kind .given .1)
+returns-4 c = rw (c .enum-told4 .given .1)
+
+returns-5 : tie.Need-returns-5
+unfolding kindNumber
+returns-5 c = rw (c .enum-told5 .given .1)
+
+returns-6 : tie.Need-returns-6
+unfolding kindNumber
+returns-6 c = rw (c .enum-told6 .given .1)
+
+returns-7 : tie.Need-returns-7
+unfolding kindNumber
+returns-7 c = rw (c .enum-told7 .given .1)
 
 pub number-of-spec : {M : Type 1} → statement M
 number-of-spec =
@@ -29,7 +41,13 @@ number-of-spec =
     (λ c. search needs)
     (λ c. search needs)
     (λ c. search needs)
+    (λ c. search needs)
+    (λ c. search needs)
+    (λ c. search needs)
     returns
     returns-2
     returns-3
-    returns-4)
+    returns-4
+    returns-5
+    returns-6
+    returns-7)

@@ -1,0 +1,47 @@
+// What a call leaves beside its answer. A length or a counter that is not told is 0.
+use crate::say;
+use assembler::Pool;
+use session::Counters;
+
+pub(crate) fn no_counts() -> Counters {
+    Counters {
+        expired_sessions: 0,
+        pool_exhausted: 0,
+        rejected_frames: 0,
+        lost_fragments: 0,
+        unknown_pgn: 0,
+    }
+}
+
+fn tell(words: &[u8], n: u64) {
+    if n == 0 {
+        return;
+    }
+    say::text(words);
+    say::number(n);
+}
+
+fn tell_counters(c: Counters) {
+    tell(b", expired_sessions ", c.expired_sessions as u64);
+    tell(b", pool_exhausted ", c.pool_exhausted as u64);
+    tell(b", rejected_frames ", c.rejected_frames as u64);
+    tell(b", lost_fragments ", c.lost_fragments as u64);
+    tell(b", unknown_pgn ", c.unknown_pgn as u64);
+}
+
+fn tell_slot(pool: Pool) {
+    let head = pool.heads[0];
+    say::text(b"; slot 0 ");
+    if head.in_progress {
+        say::text(b"in progress");
+    } else {
+        say::text(b"idle");
+    }
+    say::counted(b", source ", head.source_address as u64);
+}
+
+pub(crate) fn show(length: u64, counters: Counters, pool: Pool) {
+    tell(b", length ", length);
+    tell_counters(counters);
+    tell_slot(pool);
+}

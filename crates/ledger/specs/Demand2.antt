@@ -1,0 +1,82 @@
+-- Demand 2 after document 02's No. 2: "Demand 2 then reads the four as Ignored." Document 01's own answers, which are the original's, stand here for that
+-- reading alone; no contract cites this file.
+use mathlib.Core.Bool.{Bool, true, false}
+use mathlib.Core.List.{List, [], _++_}
+use Prim.Native.Nat.{ℕ}
+use lib.ListN.{length, take, drop}
+use Rattle.base.specs.Answer.{Answer, gives, refuses}
+use Rattle.session.specs.declared.Heard.{Heard}
+use Rattle.session.specs.declared.Counters.{Counters}
+use Rattle.session.specs.Rules.{Rules}
+use Rattle.session.specs.Frames.{sizeOf, firstBytes}
+use Rattle.session.specs.Counting.{raised}
+use Rattle.assembler.specs.declared.Pool.{Pool}
+use Rattle.assembler.specs.declared.Received.{Received}
+use Rattle.assembler.specs.Call.{Call}
+use Rattle.assembler.specs.Slots.{Slot, Slots, within, slotAt, impossible, copiedSlot}
+use Rattle.assembler.specs.Step.{Event, notListed, rejected, shortMessage, poolFull, opened, stray, outOfTurn, copied, completed, eventOf, slotsAfter, markOf, Said, padded}
+use Rattle.assembler.specs.Step as now
+use Rattle.assembler.specs.View.{slotsOf, poolOf, replyOf}
+
+-- ---- document 01's answers, in its own words
+
+pub data Answered : Type 0 where
+  Ignored FragmentConsumed : Answered
+  -- the payload, and its length
+  MessageComplete : List ℕ → ℕ → Answered
+
+-- "A complete message is its bytes, zeros up to 223, and its length"
+unfoldable pub whole : List ℕ → Answered
+whole bytes = MessageComplete (padded bytes) (length bytes)
+
+-- step 2: "PGN not listed: Ignored"; step 3: "0 or over 223: Ignored", "Size 1 to 6: MessageComplete at once", "else Ignored", "Then it opens: ..
+-- FragmentConsumed"; step 4: "a stray, Ignored", "the slot is reset .., Ignored", "MessageComplete with reset when all is there, else FragmentConsumed"
+unfoldable pub answerOf : Heard → List Slot → Event → Answered
+answerOf f ss notListed = Ignored
+answerOf f ss rejected = Ignored
+answerOf f ss shortMessage = whole (take (sizeOf f) (firstBytes f))
+answerOf f ss poolFull = Ignored
+answerOf f ss (opened i late) = FragmentConsumed
+answerOf f ss stray = Ignored
+answerOf f ss (outOfTurn i) = Ignored
+answerOf f ss (copied i) = FragmentConsumed
+answerOf f ss (completed i) = whole (take (slotAt ss i .head .«expected_size») (copiedSlot f (slotAt ss i) .buffer))
+
+-- what a call answers, or its refusal; the pool and the counters after it
+pub record Original : Type 0 where
+  pub answer : Answer Answered
+  pub pool : Pool
+  pub counters : Counters
+
+-- steps 2 to 4 by their event, on the slots within the size; those past it are kept
+unfoldable pub happens : Event → Heard → Slots → Counters → Original
+happens e f p k =
+    record {
+      answer = gives (answerOf f (within p) e);
+      pool = poolOf (record { slots = slotsAfter f (within p) e ++ drop (p .size) (p .slots); size = p .size });
+      counters = raised (markOf e) k;
+    }
+
+-- step 1 comes first: "the pool comes back unchanged with 1"
+unfoldable pub originalIf : Bool → Rules → Slots → Counters → Call → Original
+originalIf true R p k c = record { answer = refuses 1 []; pool = poolOf p; counters = k }
+originalIf false R p k c = happens (eventOf R (within p) c) (c .heard) p k
+
+unfoldable pub originalOf : Rules → List ℕ → Heard → Pool → Counters → Original
+originalOf R pgns f p k = originalIf (impossible R (slotsOf p)) R (slotsOf p) k (record { pgns = pgns; heard = f })
+
+-- ---- the reading
+
+-- the four are Ignored
+unfoldable pub asIgnored : Said → Answered
+asIgnored (now.ignored why) = Ignored
+asIgnored now.consumed = FragmentConsumed
+asIgnored (now.complete bytes n) = MessageComplete bytes n
+
+unfoldable pub readReply : Answer Said → Answer Answered
+readReply (gives s) = gives (asIgnored s)
+readReply (refuses n carried) = refuses n carried
+
+-- an answer of the receive call as the original has it
+unfoldable pub asOriginal : Received → Original
+asOriginal r = record { answer = readReply (replyOf r); pool = r .pool; counters = r .counters }
