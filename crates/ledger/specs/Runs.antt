@@ -75,7 +75,7 @@ unfoldable pub callsOf : List ℕ → Rows → ℕ → ℕ → List Call
 callsOf list w zero i = []
 callsOf list w (suc n) i = call list (frameInRows w i) ∷ callsOf list w n (suc i)
 
--- the kind of answer that has this number
+-- the kind of answer that has this number; a batch writes these six and no other (`told` of the crate batch), so that the refusal is never read off a row
 unfoldable pub kindOfNumber : ℕ → Kind
 kindOfNumber n =
     pick (eqb n 102) FragmentConsumed
