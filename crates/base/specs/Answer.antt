@@ -7,6 +7,11 @@ pub data Answer (A : Type 0) : Type 0 where
   gives : A → Answer A
   refuses : ℕ → List ℕ → Answer A
 
+-- the number by which an answer is told: a refusal's own, or 0
+abbrev pub codeOf : {A : Type 0} → Answer A → ℕ
+codeOf (gives x) = 0
+codeOf (refuses n carried) = n
+
 -- where an answer is how many there are: their number, or the refusal
 unfoldable pub counted : {A : Type 0} → Answer (List A) → Answer ℕ
 counted (gives l) = gives (length l)

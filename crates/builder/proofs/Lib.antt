@@ -2,5 +2,4 @@ pub mod Copies
 pub mod LaidLaws
 pub mod NextLaws
 pub mod Unique
-pub mod NoThree
 pub mod Refusals

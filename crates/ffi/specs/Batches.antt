@@ -2,10 +2,10 @@
 use Prim.Native.Nat.{ℕ}
 use mathlib.Core.List.{List, [], _∷_}
 use mathlib.Core.Path.{_≡_}
+use Rattle.base.specs.Answer.{codeOf}
 use Rattle.assembler.specs.declared.Pool.{Pool}
 use Rattle.assembler.specs.Promises.{rulesOf}
 use Rattle.batch.specs.Rows.{Rows, BatchLeft, batchOf, takenIn}
-use Rattle.numbers.specs.Numbers.{codeOf}
 use Rattle.numbers.specs.Pool.{laidOver, poolFrom, countersFrom, counterNumbers}
 
 -- the memory that a caller lends; `counts` is how many frames were taken and how many bytes of the arena

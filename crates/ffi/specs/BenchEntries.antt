@@ -2,12 +2,12 @@
 use Prim.Native.Nat.{ℕ}
 use mathlib.Core.List.{List}
 use mathlib.Core.Path.{_≡_}
-use Rattle.base.specs.Answer.{counted}
+use Rattle.base.specs.Answer.{counted, codeOf}
 use Rattle.oracle.specs.Strict.{deliveredTo, listWith, arenaWith}
 use Rattle.oracle.specs.Check.{checkTxOf}
 use Rattle.oracle.specs.Rows.{rowIn}
 use Rattle.splitter.specs.Split.{splitIn, idsWith, bytesWith, lensWith}
-use Rattle.numbers.specs.Numbers.{codeOf, valueOf}
+use Rattle.numbers.specs.Numbers.{valueOf}
 use Rattle.numbers.specs.Fives.{ToldInFive}
 
 -- strict reassembly: what is returned and the five numbers, the list and the arena

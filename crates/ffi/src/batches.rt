@@ -1,8 +1,8 @@
 // The batch: many frames in one call.
 ghost use mathlib.Core.Path.{_≡_};
 ghost use Prim.Native.Nat.{ℕ};
+ghost use Rattle.base.specs.Answer.{codeOf};
 ghost use Rattle.batch.specs.Rows.{ofBatched};
-ghost use Rattle.numbers.specs.Numbers.{codeOf};
 ghost use Rattle.ffi.specs.Batches.{FramesLeft};
 ghost use Rattle.ffi.specs.inner.Batches.{PoolAfter};
 use assembler::POOL_BYTES;

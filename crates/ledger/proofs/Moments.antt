@@ -8,7 +8,7 @@ use Prim.Native.Nat.{ℕ, suc, _+_, _≤_, _<_}
 use native.Mathlib.Omega.{arith}
 use lib.ListN.{length, getD, drop, length-append}
 use lib.Seq.{drop-drop}
-use Rattle.base.specs.Answer.{Answer, gives, refuses}
+use Rattle.base.specs.Answer.{refuses, codeOf}
 use Rattle.base.specs.Pick.{pick}
 use Rattle.base.specs.Lists.{any}
 use Rattle.session.specs.declared.Counters.{Counters}
@@ -82,19 +82,14 @@ answers-kept {z} {ds = ds} r = rw (ran-taken r .is) (said-kept (receiveOf base) 
 
 -- ---- what follows
 
--- the refusal's number, or 0
-numberIn : Answer ℕ → ℕ
-numberIn (gives taken) = 0
-numberIn (refuses n carried) = n
-
 -- of a possible pool a batch is refused by 27 or not at all
 by-length : (list : List ℕ) (w : Rows) (p : Pool) (k : Counters) (kinds lengths arena : List ℕ) → impossible base (slotsOf p) ≡ false → batchOf base list w p k kinds lengths arena .answer ≡ refuses 1 [] → ⊥
-unfolding batchOf pick refusedBy leaves numberIn
+unfolding batchOf pick refusedBy leaves
 by-length list w p k kinds lengths arena e = rw e (go (tooShort (length (w .times)) (length (w .pgns)) (length (w .sources)) (length (w .bytes)) (length kinds) (length lengths)))
   where
     go : (b : Bool) → pick false (refusedBy 1 p k kinds lengths arena) (pick b (refusedBy 27 p k kinds lengths arena) (leaves (runOf base list w (length arena) p k) kinds lengths arena)) .answer ≡ refuses 1 [] → ⊥
-    go true one = omega (arith, ap numberIn one)
-    go false one = omega (arith, ap numberIn one)
+    go true one = omega (arith, ap codeOf one)
+    go false one = omega (arith, ap codeOf one)
 
 -- no answer that the ledger calls for is a refusal
 unfoldable pub saysRefused : Saying → Bool

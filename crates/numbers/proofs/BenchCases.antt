@@ -2,8 +2,7 @@
 use Prim.Native.Nat.{ℕ}
 use mathlib.Core.List.{List}
 use mathlib.Core.Path.{_≡_, sym, ap, _∙_}
-use Rattle.base.specs.Answer.{Answer}
-use Rattle.numbers.specs.Numbers.{codeOf}
+use Rattle.base.specs.Answer.{Answer, codeOf}
 use Rattle.numbers.specs.Fives.{fiveOf, ToldInFive}
 
 pub case-by : {A : Type 0} (number : A → ℕ) (numbers : A → List ℕ) {x y : A} {n : ℕ} {v : List ℕ} → x ≡ y → n ≡ number y → v ≡ numbers y → (n ≡ number x) × (v ≡ numbers x)

@@ -1,11 +1,11 @@
 -- Two outcomes that satisfy a function's contract are equal. Assumes nothing.
 use Prim.Native.Nat.{ℕ}
 use mathlib.Core.Path.{_≡_, ap, _∙_}
-use Rattle.base.specs.Answer.{Answer}
+use Rattle.base.specs.Answer.{Answer, codeOf}
 use Rattle.base.proofs.Cases.{determined}
 use Rattle.can_id.specs.declared.Built.{Built}
 use Rattle.can_id.specs.declared.Destination.{Destination}
-use Rattle.numbers.specs.Numbers.{toAddress, addressOf, codeOf, valueOf, BuiltLeft}
+use Rattle.numbers.specs.Numbers.{toAddress, addressOf, valueOf, BuiltLeft}
 use mathlib.Core.List.{List}
 use Rattle.builder.specs.declared.FastPacketBuilder.{FastPacketBuilder}
 use Rattle.builder.specs.declared.FrameIterator.{FrameIterator}

@@ -2,8 +2,7 @@
 use Prim.Native.Nat.{ℕ}
 use mathlib.Core.List.{List, [], _∷_}
 use mathlib.Core.Path.{_≡_}
-use Rattle.base.specs.Answer.{Answer, gives, refuses}
-use Rattle.numbers.specs.Numbers.{codeOf}
+use Rattle.base.specs.Answer.{Answer, gives, refuses, codeOf}
 
 -- what a refusal carries, and zeros up to five numbers
 unfoldable pub five : List ℕ → List ℕ

@@ -4,7 +4,7 @@ use mathlib.Core.List.{List, [], _∷_}
 use mathlib.Core.Bool.{Bool, not}
 use mathlib.Core.Path.{_≡_}
 use lib.Dec.{ltb, eqb}
-use Rattle.base.specs.Answer.{Answer, gives, refuses}
+use Rattle.base.specs.Answer.{Answer, gives, refuses, codeOf}
 use Rattle.base.specs.Pick.{pick}
 use Rattle.can_id.specs.Build.{ofBuilt}
 use Rattle.can_id.specs.declared.Built.{Built}
@@ -27,17 +27,12 @@ abbrev pub addressOf : Destination → ℕ
 addressOf Nobody = 256
 addressOf (To d) = d
 
--- a call that may refuse returns the refusal's number, or 0
-abbrev pub codeOf : Answer ℕ → ℕ
-codeOf (gives x) = 0
-codeOf (refuses n l) = n
-
 -- the one number that a refusal carries, or 0
 abbrev pub carriesOf : List ℕ → ℕ
 carriesOf [] = 0
 carriesOf (x ∷ l) = x
 
--- and lends out what it gives, or what the refusal carries
+-- a call that may refuse returns its answer's code, and lends out what it gives, or what the refusal carries
 abbrev pub valueOf : Answer ℕ → ℕ
 valueOf (gives x) = x
 valueOf (refuses n l) = carriesOf l

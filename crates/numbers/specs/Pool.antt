@@ -4,7 +4,7 @@ use mathlib.Core.List.{List, [], _∷_, _++_}
 use mathlib.Core.Path.{_≡_}
 use lib.ListN.{getD, replicate}
 use lib.Seq.{sets}
-use Rattle.base.specs.Answer.{Answer, gives, refuses}
+use Rattle.base.specs.Answer.{Answer, gives, refuses, codeOf}
 use Rattle.base.specs.Pick.{pick}
 use Rattle.session.specs.Rules.{poolLimit}
 use Rattle.session.specs.Heads.{freshHead}
@@ -17,7 +17,7 @@ use Rattle.assembler.specs.Making.{ofMade}
 use Rattle.assembler.specs.declared.Pool.{Pool}
 use Rattle.assembler.specs.declared.MadePool.{MadePool}
 use Rattle.assembler.specs.declared.Received.{Received}
-use Rattle.numbers.specs.Numbers.{isSet, laidOn, codeOf}
+use Rattle.numbers.specs.Numbers.{isSet, laidOn}
 
 -- a head is eight numbers, each read in the width of its field
 unfoldable pub headAt : List ℕ → ℕ → Head

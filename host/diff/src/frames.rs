@@ -26,12 +26,15 @@ const EDGES: [usize; 19] = [0, 1, 2, 5, 6, 7, 8, 9, 12, 13, 14, 20, 62, 221, 222
 /// What asking for the next frame leaves: the answer, eight bytes, and the identifier, length and what a refusal carries.
 type Told = (u32, [u8; 8], [u64; 3]);
 
+/// Of the original; what it gave is counted too.
 fn told(item: &Option<Result<CanFrame, CanIdBuildError>>) -> Told {
-    match item {
+    let told = match item {
         Some(Ok(f)) => (0, f.data, [f.id.0 as u64, f.len as u64, 0]),
         Some(Err(e)) => refused(numbered(e)),
         None => (raw::END, [0; 8], [0; 3]),
-    }
+    };
+    answered("original_frame", told.0);
+    told
 }
 
 /// A refusal: zeros in the frame's place.

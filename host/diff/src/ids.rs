@@ -31,12 +31,14 @@ pub fn named(e: &CanIdBuildError) -> OurError {
     }
 }
 
-/// The original's answer as the entries give it: a number, and the identifier or what the refusal carries.
+/// The original's answer as the entries give it: a number, and the identifier or what the refusal carries. What the original gave is counted too.
 fn told(r: &Result<CanId, CanIdBuildError>) -> (u32, u32) {
-    match r {
+    let told = match r {
         Ok(id) => (0, id.0),
         Err(e) => (numbered(e).0, numbered(e).1 as u32),
-    }
+    };
+    answered("original_identifier", told.0);
+    told
 }
 
 /// The answer of an entry, put over what stood there.

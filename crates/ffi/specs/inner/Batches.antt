@@ -2,9 +2,9 @@
 use Prim.Native.Nat.{ℕ}
 use mathlib.Core.List.{List, [], _∷_}
 use mathlib.Core.Path.{_≡_}
+use Rattle.base.specs.Answer.{codeOf}
 use Rattle.batch.specs.Rows.{ofBatched}
 use Rattle.batch.specs.declared.Batch.{Batch}
-use Rattle.numbers.specs.Numbers.{codeOf}
 use Rattle.numbers.specs.Pool.{laidOver, counterNumbers}
 
 pub record PoolAfter (r : Batch) (old : List ℕ) (code : ℕ) (heads bytes counters counts : List ℕ) : Type 0 where

@@ -1,7 +1,8 @@
 -- `hf_fast_packet_frames` meets its contract: it passes on what its calls say. Assumes nothing.
 use borrow.Author.Needs.{needs}
 use mathlib.Core.Path.{ap, _∙_}
-use Rattle.numbers.specs.Numbers.{codeOf, valueOf}
+use Rattle.base.specs.Answer.{codeOf}
+use Rattle.numbers.specs.Numbers.{valueOf}
 use Rattle.ffi.proofs.bench_entries.hf_fast_packet_frames.Statement.{statement}
 use Rattle.ffi.proofs.bench_entries.hf_fast_packet_frames.Tie as tie
 

@@ -1,0 +1,4 @@
+pub mod Sending
+pub mod Receiving
+pub mod Bench
+pub mod NoThree

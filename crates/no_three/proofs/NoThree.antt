@@ -1,0 +1,95 @@
+-- No public call gives number 3: each by the definitions that its promise cites. Assumes nothing.
+use Prim.Native.Nat.{ℕ}
+use mathlib.Core.List.{List}
+use mathlib.Core.Path.{_≡_, subst, sym, ap}
+use native.Mathlib.Omega.{arith}
+use lib.ListN.{length, getD}
+use Rattle.base.specs.Answer.{Answer, codeOf}
+use Rattle.builder.specs.Next.{Step}
+use Rattle.builder.specs.Frames.{Turn}
+use Rattle.session.specs.declared.Counters.{Counters}
+use Rattle.session.specs.declared.Heard.{Heard}
+use Rattle.session.specs.declared.Kind.{Kind}
+use Rattle.assembler.specs.Promises.{rulesOf, outcomeOn, Answers}
+use Rattle.assembler.specs.View.{slotsOf, replyBy}
+use Rattle.assembler.specs.declared.Pool.{Pool}
+use Rattle.numbers.specs.Frames.{nextCode, builderFrom}
+use Rattle.ffi.specs.Ids.{builderOfParts, setOf, bothOf}
+use Rattle.ffi.specs.Frames.{nextWith, turnWith}
+use Rattle.ffi.specs.Batches.{batchIn}
+use Rattle.no_three.specs.NoThree.{NotThree, NoneIsThree, NoThree}
+use Rattle.no_three.proofs.Sending.{Other, OtherStep, build-other, next-other}
+use Rattle.no_three.proofs.Receiving.{size-other, made-other, kind-other, step-other, batch-other}
+use Rattle.no_three.proofs.Bench.{counted-other, split-other, delivered-other, check-other, split-case-other, reassembled-case-other, checked-case-other}
+
+-- what is equal to another number is another
+by : {m n : ℕ} → m ≡ n → NotThree n → NotThree m
+by e h = subst NotThree (sym e) h
+
+-- an answer that is equal to one by another number
+by-answer : {A : Type 0} {a b : Answer A} → a ≡ b → Other b → Other a
+by-answer e h = by (ap codeOf e) h
+
+-- a step of a builder
+by-step : {s t : Step} → s ≡ t → OtherStep t → OtherStep s
+by-step e h = by (ap (λ (s : Step). nextCode (s .kind)) e) h
+
+-- an answer of the receive call
+by-reply : (pgns : List ℕ) (f : Heard) (p : Pool) (k : Counters) {kind : Kind} {payload : List ℕ} {n : ℕ} {left : Pool}
+    → Answers (outcomeOn pgns f p k) kind payload n left → Other (replyBy kind payload n)
+unfolding outcomeOn
+by-reply pgns f p k h = by-answer (h .told) (step-other (rulesOf p) (slotsOf p) k (record { pgns = pgns; heard = f }))
+
+-- a row of kinds that is equal to one without it, up to an equal count
+by-row : {m n : ℕ} {row row′ : List ℕ} → m ≡ n → row ≡ row′ → NoneIsThree n row′ → NoneIsThree m row
+by-row e f h i low = by (ap (λ (l : List ℕ). getD l i 0) f) (h i (omega (arith, e, low)))
+
+pub no-three : NoThree
+unfolding nextWith turnWith batchIn
+no-three =
+    record {
+      can-id-builder-build = λ b r h. by-answer h (build-other b);
+      fast-packet-builder-next-frame = λ b index sent payload r h. by-step h (next-other b index sent payload);
+      frame-iterator-next = λ t payload r h. by-step (ap (λ (x : Turn). x .answer) h) (next-other (t .builder) (t .«frame_index») (t .«bytes_sent») payload);
+      pool-new = λ wanted r h. by-answer (h .answer) (size-other wanted);
+      decide = λ bad listed found h heard r e. kind-other (r .kind);
+      receive = λ pgns a p k r h. by-reply pgns _ p k (h .answer);
+      receive-with-length = λ pgns x p k r h. by-reply pgns _ p k (h .answer);
+      process-frame = λ pgns a p before after r h. by-reply pgns _ p before (h .answer);
+      process-frame-with-length = λ pgns x p before after r h. by-reply pgns _ p before (h .answer);
+      process-frame-through = λ pgns a p k r h. by-reply pgns _ p k (h .answer);
+      process-frame-with-length-through = λ pgns x p k r h. by-reply pgns _ p k (h .answer);
+      process-frames = λ list times pgns sources bytes kinds lengths arena p k r kinds′ lengths′ arena′ h. (
+        by-answer (h .leaves-these .answer) (batch-other (rulesOf p) list _ p k kinds lengths arena .0),
+        by-row (h .leaves-these .taken) (h .leaves-these .told) (batch-other (rulesOf p) list _ p k kinds lengths arena .1),
+      );
+      fast-packet-frames = λ id sequence payload row row′ r h. by-answer (h .answer) (counted-other _ (split-other id sequence payload (length row)));
+      fast-packet-frames-into = λ id sequence payload row row′ r h. by-answer (h .answer) (counted-other _ (split-other id sequence payload (length row)));
+      fast-packet-rows = λ id sequence payload ids bytes lens ids′ bytes′ lens′ r h. by-answer (h .answer) (counted-other _ (split-other id sequence payload _));
+      reassemble = λ frames source pgn list arena list′ arena′ r h. by-answer (h .answer) (delivered-other list arena frames source pgn);
+      reassemble-rows = λ ids bytes lens source pgn list arena list′ arena′ r h. by-answer (h .answer) (delivered-other list arena _ source pgn);
+      reassemble-first = λ frames n source pgn list arena list′ arena′ r h. by-answer (h .answer) (delivered-other list arena _ source pgn);
+      check-tx = λ frames source expected hours r h. by-answer h (check-other frames source expected hours);
+      check-tx-rows = λ ids bytes lens source expected hours r h. by-answer h (check-other _ source expected hours);
+      check-tx-first = λ frames n source expected hours r h. by-answer h (check-other _ source expected hours);
+      hf-can-id-build = λ priority pgn source destination code value h. by (h .told) (build-other (builderOfParts priority pgn source destination));
+      hf-can-id-build-with = λ pgn source priority destination code value h. by (h .told) (build-other (setOf pgn source priority destination));
+      hf-can-id-build-to = λ pgn source priority destination code value h. by (h .told) (build-other (bothOf pgn source priority destination));
+      hf-raw-next-frame = λ builder payload index sent code after h. by (h .asked .told) (next-other (builderFrom builder) index sent payload);
+      hf-raw-frame-iterator-next = λ builder payload place code after h. by (h .asked .told) (next-other _ _ _ payload);
+      hf-raw-pool-new = λ wanted code before after h. by (h .told) (size-other wanted);
+      hf-raw-pool-default = λ code before after h. by (h .told) (omega arith);
+      hf-raw-process-frame = λ size code pgns a before after h. by (h .told) (kind-other _);
+      hf-raw-receive = λ size code pgns a before after h. by (h .told) (kind-other _);
+      hf-raw-process-frame-with-length = λ size code pgns x before after h. by (h .told) (kind-other _);
+      hf-raw-process-frames = λ size code pgns rows before after h.
+          (by (h .told) (batch-other _ pgns rows _ _ _ _ _ .0), by-row (ap (λ (l : List ℕ). getD l 0 0) (h .taken)) (h .answered) (batch-other _ pgns rows _ _ _ _ _ .1));
+      hf-reassemble = λ ids bytes lens list arena list′ arena′ values source pgn code h. by (h .answer .told) (delivered-other list arena _ source pgn);
+      hf-fast-packet-frames = λ id sequence code frames payload ids bytes lens ids′ bytes′ lens′ h. by (h .told) (counted-other _ (split-other id sequence payload _));
+      hf-check-tx = λ ids bytes lens values source expected hours code h. by (h .told) (check-other _ source expected hours);
+      told-reassembled = λ r code values h. by (h .told) (reassembled-case-other r);
+      split-number = λ s code h. by h (split-case-other s);
+      told-checked = λ c code values h. by (h .told) (checked-case-other c);
+      leave = λ r before after code h. by (h .told) (kind-other (r .kind));
+      leave-made = λ made before after code h. by (h .told) (made-other (made .result) (made .pool .size));
+    }
