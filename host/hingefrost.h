@@ -64,10 +64,10 @@ extern "C" {
 #define HF_LOST 107              /* a continuation found no live session (a late one stays as it is), or it came out of turn, which ended its
                                   * session; HF_LOST_FRAGMENTS went up */
 
-/* Refusals; docs/REFUSALS.md says what each means and carries, and who gives it. */
+/* Refusals; docs/REFUSALS.md says what each means and carries, and who gives it. 3 was HF_REFUSED_INVALID_DESTINATION, of the original's
+ * list: no call gives it, and no other refusal has it. */
 #define HF_REFUSED_IMPOSSIBLE_POOL 1
 #define HF_REFUSED_INVALID_DATA 2
-#define HF_REFUSED_INVALID_DESTINATION 3 /* of the original's list; no call gives it */
 #define HF_REFUSED_INVALID_FOR_BROADCAST 4
 #define HF_REFUSED_INVALID_FOR_FOCUSED_MESSAGE 5
 #define HF_REFUSED_PS_MUST_BE_NULL 6

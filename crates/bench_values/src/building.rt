@@ -8,7 +8,6 @@ use can_id::Destination;
 fn show(error: CanIdBuildError) {
     match error {
         CanIdBuildError::InvalidData => say::refusal(2),
-        CanIdBuildError::InvalidDestination => say::refusal(3),
         CanIdBuildError::InvalidForBroadcast => say::refusal(4),
         CanIdBuildError::InvalidForFocusedMessage { pgn } => say::refusal_with(5, pgn as u64),
         CanIdBuildError::PsFocusMessageMustBeNull => say::refusal(6),

@@ -50,7 +50,6 @@ fn say_kind(kind: NextKind) {
 fn say_refusal(error: CanIdBuildError) {
     match error {
         CanIdBuildError::InvalidData => say(b"refusal 2"),
-        CanIdBuildError::InvalidDestination => say(b"refusal 3"),
         CanIdBuildError::InvalidForBroadcast => say(b"refusal 4"),
         CanIdBuildError::InvalidForFocusedMessage { pgn } => {
             say(b"refusal 5, ");

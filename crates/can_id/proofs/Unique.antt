@@ -11,7 +11,7 @@ use Rattle.can_id.specs.declared.Destination.{Destination}
 use Rattle.can_id.specs.declared.CanIdBuilder.{CanIdBuilder}
 use Rattle.can_id.specs.declared.Built.{Built}
 use Rattle.can_id.specs.declared.Built.the-variants.{Id, Refused}
-use Rattle.can_id.specs.declared.CanIdBuildError.the-variants.{InvalidData, InvalidDestination, InvalidForBroadcast, InvalidForFocusedMessage, PsFocusMessageMustBeNull, EmptyPayload}
+use Rattle.can_id.specs.declared.CanIdBuildError.the-variants.{InvalidData, InvalidForBroadcast, InvalidForFocusedMessage, PsFocusMessageMustBeNull, EmptyPayload}
 
 -- ---- reading
 module _ (id : ℕ) where
@@ -37,16 +37,15 @@ with-priority-unique b p r s = determined
 pub with-destination-unique : (b : CanIdBuilder) (d : ℕ) (r s : CanIdBuilder) → r ≡ idWithDestination b d → s ≡ idWithDestination b d → r ≡ s
 with-destination-unique b d r s = determined
 
--- ---- building: the numbers give the answer back
+-- ---- building: the numbers give the answer back, by a table from 2 on; no answer has number 3, so any case may stand in its place
 back : Answer ℕ → Built
 back (gives n) = Id (record { 0 = n })
-back (refuses n l) = Refused (getD (InvalidData ∷ InvalidDestination ∷ InvalidForBroadcast ∷ InvalidForFocusedMessage (getD l 0 0) ∷ PsFocusMessageMustBeNull ∷ EmptyPayload ∷ []) (n - 2) InvalidData)
+back (refuses n l) = Refused (getD (InvalidData ∷ InvalidData ∷ InvalidForBroadcast ∷ InvalidForFocusedMessage (getD l 0 0) ∷ PsFocusMessageMustBeNull ∷ EmptyPayload ∷ []) (n - 2) InvalidData)
 
 kept : (r : Built) → back (ofBuilt r) ≡ r
 unfolding back
 kept (Id id) = refl
 kept (Refused InvalidData) = refl
-kept (Refused InvalidDestination) = refl
 kept (Refused InvalidForBroadcast) = refl
 kept (Refused (InvalidForFocusedMessage pf)) = refl
 kept (Refused PsFocusMessageMustBeNull) = refl

@@ -11,15 +11,15 @@ use Rattle.can_id.specs.declared.CanIdBuilder.{CanIdBuilder}
 use Rattle.can_id.specs.declared.Destination.{Destination}
 use Rattle.can_id.specs.declared.Destination.the-variants.{Nobody, To}
 use Rattle.can_id.specs.declared.CanIdBuildError.{CanIdBuildError}
-use Rattle.can_id.specs.declared.CanIdBuildError.the-variants.{InvalidData, InvalidDestination, InvalidForBroadcast, InvalidForFocusedMessage, PsFocusMessageMustBeNull, EmptyPayload}
+use Rattle.can_id.specs.declared.CanIdBuildError.the-variants.{InvalidData, InvalidForBroadcast, InvalidForFocusedMessage, PsFocusMessageMustBeNull, EmptyPayload}
 use Rattle.can_id.specs.declared.Built.{Built}
 use Rattle.can_id.specs.declared.Built.the-variants.{Id, Refused}
 
 -- ---- an answer in document 01's numbers
--- "2 InvalidData, 3 InvalidDestination, 4, 5, 6 InvalidForBroadcast, InvalidForFocusedMessage, PsFocusMessageMustBeNull, 7 EmptyPayload"
+-- "2 InvalidData, .. 4, 5, 6 InvalidForBroadcast, InvalidForFocusedMessage, PsFocusMessageMustBeNull, 7 EmptyPayload". Of 3, InvalidDestination, document 02
+-- says in No. 11: "drop the case; the other numbers don't move".
 abbrev pub errorNumber : CanIdBuildError → ℕ
 errorNumber InvalidData = 2
-errorNumber InvalidDestination = 3
 errorNumber InvalidForBroadcast = 4
 errorNumber (InvalidForFocusedMessage pf) = 5
 errorNumber PsFocusMessageMustBeNull = 6
@@ -28,7 +28,6 @@ errorNumber EmptyPayload = 7
 -- "5: PF"; the others carry nothing
 abbrev pub errorCarries : CanIdBuildError → List ℕ
 errorCarries InvalidData = []
-errorCarries InvalidDestination = []
 errorCarries InvalidForBroadcast = []
 errorCarries (InvalidForFocusedMessage pf) = pf ∷ []
 errorCarries PsFocusMessageMustBeNull = []

@@ -89,8 +89,6 @@ pub struct CanFrame {
 pub enum CanIdBuildError {
     // The parameters make no identifier, or the payload no message.
     InvalidData,
-    // Kept from the original; no call gives it.
-    InvalidDestination,
     // No destination, and PF below 240.
     InvalidForBroadcast,
     // A destination, and PF 240 or above.

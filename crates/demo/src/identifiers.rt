@@ -27,7 +27,6 @@ fn show_parts(id: CanId) {
 fn show_refusal(error: CanIdBuildError) {
     match error {
         CanIdBuildError::InvalidData => say::refusal(2),
-        CanIdBuildError::InvalidDestination => say::refusal(3),
         CanIdBuildError::InvalidForBroadcast => say::refusal(4),
         CanIdBuildError::InvalidForFocusedMessage { pgn } => {
             say::refusal(5);

@@ -18,7 +18,7 @@ use Rattle.ffi.specs.Ids.{builderOfParts, setOf, bothOf}
 use Rattle.ffi.specs.Frames.{nextWith, turnWith}
 use Rattle.ffi.specs.Batches.{batchIn}
 use Rattle.no_three.specs.NoThree.{NotThree, NoneIsThree, NoThree}
-use Rattle.no_three.proofs.Sending.{Other, OtherStep, build-other, next-other}
+use Rattle.no_three.proofs.Sending.{Other, OtherStep, build-other, next-other, built-case-other, next-case-other}
 use Rattle.no_three.proofs.Receiving.{size-other, made-other, kind-other, step-other, batch-other}
 use Rattle.no_three.proofs.Bench.{counted-other, split-other, delivered-other, check-other, split-case-other, reassembled-case-other, checked-case-other}
 
@@ -87,6 +87,8 @@ no-three =
       hf-reassemble = λ ids bytes lens list arena list′ arena′ values source pgn code h. by (h .answer .told) (delivered-other list arena _ source pgn);
       hf-fast-packet-frames = λ id sequence code frames payload ids bytes lens ids′ bytes′ lens′ h. by (h .told) (counted-other _ (split-other id sequence payload _));
       hf-check-tx = λ ids bytes lens values source expected hours code h. by (h .told) (check-other _ source expected hours);
+      answered = λ b code value h. by (h .told) (built-case-other b);
+      tell-next = λ next code bytes numbers h. by (h .told) (next-case-other (next .kind));
       told-reassembled = λ r code values h. by (h .told) (reassembled-case-other r);
       split-number = λ s code h. by h (split-case-other s);
       told-checked = λ c code values h. by (h .told) (checked-case-other c);

@@ -4,13 +4,19 @@ use mathlib.Core.List.{List}
 use native.Mathlib.Omega.{arith}
 use Rattle.base.specs.Answer.{Answer, gives, refuses, codeOf}
 use Rattle.base.proofs.Cases.{pick-all}
-use Rattle.can_id.specs.Build.{buildTo, buildOf}
+use Rattle.can_id.specs.Build.{errorNumber, ofBuilt, buildTo, buildOf}
 use Rattle.can_id.specs.declared.CanIdBuilder.{CanIdBuilder}
 use Rattle.can_id.specs.declared.Destination.{Destination}
 use Rattle.can_id.specs.declared.Destination.the-variants.{Nobody, To}
+use Rattle.can_id.specs.declared.CanIdBuildError.{CanIdBuildError}
+use Rattle.can_id.specs.declared.CanIdBuildError.the-variants.{InvalidData, InvalidForBroadcast, InvalidForFocusedMessage, PsFocusMessageMustBeNull, EmptyPayload}
+use Rattle.can_id.specs.declared.Built.{Built}
+use Rattle.can_id.specs.declared.Built.the-variants.{Id, Refused as NotBuilt}
 use Rattle.builder.specs.Builder.{idBuilder}
-use Rattle.builder.specs.Next.{Step, framedStep, builtStep, nextOf}
+use Rattle.builder.specs.Next.{Step, ofNextKind, framedStep, builtStep, nextOf}
 use Rattle.builder.specs.declared.FastPacketBuilder.{FastPacketBuilder}
+use Rattle.builder.specs.declared.NextKind.{NextKind}
+use Rattle.builder.specs.declared.NextKind.the-variants.{Frame, End, Refused}
 use Rattle.numbers.specs.Frames.{nextCode}
 use Rattle.no_three.specs.NoThree.{NotThree}
 
@@ -45,3 +51,20 @@ module _ (b : FastPacketBuilder) (index sent : ℕ) (p : List ℕ) where
   next-other =
       pick-all OtherStep _ (pick-all OtherStep _ (omega arith) (omega arith))
       (pick-all OtherStep _ (omega arith) (built (buildOf (idBuilder b)) (build-other (idBuilder b))))
+
+-- ---- any answer of the code
+error-other : (e : CanIdBuildError) → NotThree (errorNumber e)
+error-other InvalidData = omega arith
+error-other InvalidForBroadcast = omega arith
+error-other (InvalidForFocusedMessage pf) = omega arith
+error-other PsFocusMessageMustBeNull = omega arith
+error-other EmptyPayload = omega arith
+
+pub built-case-other : (b : Built) → Other (ofBuilt b)
+built-case-other (Id id) = omega arith
+built-case-other (NotBuilt e) = error-other e
+
+pub next-case-other : (k : NextKind) → NotThree (nextCode (ofNextKind k))
+next-case-other Frame = omega arith
+next-case-other End = omega arith
+next-case-other (Refused e) = error-other e

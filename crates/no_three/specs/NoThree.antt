@@ -44,8 +44,9 @@ use Rattle.oracle.specs.Strict.{Reassembles}
 use Rattle.oracle.specs.Check.{ChecksTx}
 use Rattle.oracle.specs.declared.Reassembled.{Reassembled}
 use Rattle.oracle.specs.declared.Checked.{Checked}
+use Rattle.numbers.specs.Numbers.{BuiltLeft}
 use Rattle.numbers.specs.Fives.{ToldInFive}
-use Rattle.numbers.specs.Frames.{nextCode}
+use Rattle.numbers.specs.Frames.{nextCode, NextLeft}
 use Rattle.numbers.specs.Pool.{CallMemory, CallLeft, PoolMemory, MadePoolLeft}
 use Rattle.ffi.specs.Ids.{PartsBuilt, SetBuilt, BothBuilt}
 use Rattle.ffi.specs.Frames.{FrameMemory, NextFrameLeft, TurnLeft}
@@ -125,15 +126,15 @@ pub record NoThree : Type 0 where
       → SplitsInNumbers id sequence payload ids bytes lens code ids′ bytes′ lens′ frames → NotThree code
   pub hf-check-tx : (ids bytes lens values : List ℕ) (source expected hours code : ℕ)
       → ChecksTxInNumbers ids bytes lens source expected hours code values → NotThree code
-  -- ---- the functions below the entries that turn any answer into its number, whoever made it
+  -- ---- the functions below the entries that turn any answer into its number: a caller can write none that has number 3
+  pub answered : (b : Built) (code value : ℕ) → BuiltLeft b code value → NotThree code
+  pub tell-next : (next : Next) (code : ℕ) (bytes numbers : List ℕ) → NextLeft next code bytes numbers → NotThree code
   pub told-reassembled : (r : Reassembled) (code : ℕ) (values : List ℕ) → ToldInFive (ofReassembled r) code values → NotThree code
   pub split-number : (s : Split) (code : ℕ) → code ≡ codeOf (ofSplit s) → NotThree code
   pub told-checked : (c : Checked) (code : ℕ) (values : List ℕ) → ToldInFive (ofChecked c) code values → NotThree code
   pub leave : (r : Received) (before after : CallMemory) (code : ℕ) → CallLeft r before code after → NotThree code
   pub leave-made : (made : MadePool) (before after : PoolMemory) (code : ℕ) → MadePoolLeft made before code after → NotThree code
 
--- `answered` and `tell_next` take a refusal from their caller, and number 3 is one that a caller can write: what calls gave them is in the fields above.
---
 -- No answer of these is told by a number; a 3 that one of them gives is a priority, a count, an address or another part of what was asked for:
 -- `CanId::builder`, `CanId::priority`, `CanId::pgn`, `CanId::destination`, `CanId::source_address`, `CanIdBuilder::new`, `CanIdBuilder::with_priority`,
 -- `CanIdBuilder::to_destination`, `CanIdBuilder::priority`, `CanIdBuilder::destination`, `is_listed`, `fill_short`, `FastPacketBuilder::new`,

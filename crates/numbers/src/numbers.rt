@@ -72,7 +72,6 @@ pub(crate) fn error_number(error: CanIdBuildError) -> u32
 {
     match error {
         CanIdBuildError::InvalidData => 2,
-        CanIdBuildError::InvalidDestination => 3,
         CanIdBuildError::InvalidForBroadcast => 4,
         CanIdBuildError::InvalidForFocusedMessage { pgn: _ } => 5,
         CanIdBuildError::PsFocusMessageMustBeNull => 6,
@@ -85,7 +84,6 @@ pub(crate) fn error_carries(error: CanIdBuildError) -> u32
 {
     match error {
         CanIdBuildError::InvalidData => 0,
-        CanIdBuildError::InvalidDestination => 0,
         CanIdBuildError::InvalidForBroadcast => 0,
         CanIdBuildError::InvalidForFocusedMessage { pgn } => pgn as u32,
         CanIdBuildError::PsFocusMessageMustBeNull => 0,

@@ -229,7 +229,6 @@ fn destination(n: u64) -> Destination {
 fn refusal(error: CanIdBuildError) -> u64 {
     match error {
         CanIdBuildError::InvalidData => 2,
-        CanIdBuildError::InvalidDestination => 3,
         CanIdBuildError::InvalidForBroadcast => 4,
         CanIdBuildError::InvalidForFocusedMessage { pgn: _ } => 5,
         CanIdBuildError::PsFocusMessageMustBeNull => 6,

@@ -1,13 +1,15 @@
 //! The bench: strict reassembly, the splitter, the transmit check. The original's texts are read back as document 01's numbers.
 use crate::rng::Rng;
 use crate::tally::answered;
-use port::error::Refusal;
 use port::oracle::{self as ours, Frames};
 use port::raw;
 use reference::oracle::{check_tx, fast_packet_frames, reassemble, Frame};
 
 /// A frame's eight bytes, and its length; the original keeps as many bytes as the length says.
 type Row = Vec<(u32, [u8; 8], usize)>;
+
+/// A refusal: its number, and what it carries, then zeros.
+type Refused = (u32, [u64; 5]);
 
 fn rows(row: &Row) -> (Vec<Frame>, Frames) {
     let mut p = Frames::default();
@@ -27,11 +29,11 @@ fn decimal(text: &str) -> Vec<u64> {
 }
 
 /// The original's text as a refusal. `len` gives the DLC that the text says in full.
-fn numbered(text: &str) -> Refusal<5> {
+fn numbered(text: &str) -> Refused {
     let five = |number, values: &[u64]| {
         let mut carried = [0; 5];
         carried[..values.len()].copy_from_slice(values);
-        Refusal { number, carried }
+        (number, carried)
     };
     if let Some(rest) = text.strip_prefix("frame ") {
         let n: u64 = rest.split(' ').next().unwrap().parse().unwrap();
@@ -62,7 +64,7 @@ fn numbered(text: &str) -> Refusal<5> {
 }
 
 /// The entry of strict reassembly, put over what stood there: beside a number of messages stand zeros.
-fn reassembled(p: &Frames, source: u8, pgn: u32, list: &mut [usize], arena: &mut [u8]) -> Result<usize, Refusal<5>> {
+fn reassembled(p: &Frames, source: u8, pgn: u32, list: &mut [usize], arena: &mut [u8]) -> Result<usize, Refused> {
     let mut values = [0xEE; 5];
     let number = raw::reassemble(p, source, pgn, list, arena, &mut values);
     answered("reassemble", number);
@@ -70,12 +72,12 @@ fn reassembled(p: &Frames, source: u8, pgn: u32, list: &mut [usize], arena: &mut
         assert_eq!(values[1..], [0; 4]);
         Ok(values[0] as usize)
     } else {
-        Err(Refusal { number, carried: values })
+        Err((number, values))
     }
 }
 
 /// The same of the transmit check.
-fn checked(p: &Frames, source: u8, expected: usize, base: u32) -> Result<(), Refusal<5>> {
+fn checked(p: &Frames, source: u8, expected: usize, base: u32) -> Result<(), Refused> {
     let mut values = [0xEE; 5];
     let number = raw::check_tx(p, source, expected, base, &mut values);
     answered("check", number);
@@ -83,7 +85,7 @@ fn checked(p: &Frames, source: u8, expected: usize, base: u32) -> Result<(), Ref
         assert_eq!(values, [0; 5]);
         Ok(())
     } else {
-        Err(Refusal { number, carried: values })
+        Err((number, values))
     }
 }
 
@@ -113,19 +115,19 @@ pub fn judge(row: &Row, source: u8, pgn: u32, list_room: usize, arena_room: usiz
     let (list0, arena0) = (list.clone(), arena.clone());
     let got = reassembled(&p, source, pgn, &mut list, &mut arena);
     let mut safe = (list0.clone(), arena0.clone());
-    assert_eq!(ours::reassemble(&p, source, pgn, &mut safe.0, &mut safe.1), got);
+    assert_eq!(ours::reassemble(&p, source, pgn, &mut safe.0, &mut safe.1).map_err(|e| (e.number(), e.carried())), got);
     assert_eq!((&safe.0, &safe.1), (&list, &arena), "the safe call");
     match want {
         Err(text) => {
             let want = numbered(&text);
             assert_eq!(got, Err(want), "{text}");
             assert_eq!((list, arena), (list0, arena0), "a refusal changes no lent memory");
-            want.number
+            want.0
         }
         Ok(messages) => {
             let bytes: usize = messages.iter().map(|m| m.payload.len()).sum();
             if messages.len() > list_room / 3 || bytes > arena_room {
-                assert_eq!(got, Err(Refusal { number: 27, carried: [0; 5] }));
+                assert_eq!(got, Err((27, [0; 5])));
                 assert_eq!((list, arena), (list0, arena0), "a refusal changes no lent memory");
                 return 27;
             }
@@ -147,14 +149,14 @@ pub fn judge(row: &Row, source: u8, pgn: u32, list_room: usize, arena_room: usiz
 pub fn transmit(row: &Row, source: u8, expected: usize, base: u32) -> u32 {
     let (o, p) = rows(row);
     let got = checked(&p, source, expected, base);
-    assert_eq!(ours::check_tx(&p, source, expected, base), got);
+    assert_eq!(ours::check_tx(&p, source, expected, base).map_err(|e| (e.number(), e.carried())), got);
     if expected > 0 && base as u128 + expected as u128 - 1 > u32::MAX as u128 {
-        assert_eq!(got, Err(Refusal { number: 31, carried: [0; 5] }));
+        assert_eq!(got, Err((31, [0; 5])));
         return 31;
     }
     let want = check_tx(&o, source, expected, base).map_err(|t| numbered(&t));
     assert_eq!(got, want, "source {source}, {expected} messages from {base}");
-    want.err().map_or(0, |r| r.number)
+    want.err().map_or(0, |r| r.0)
 }
 
 /// The splitter, into a row of `room` frames.
@@ -163,7 +165,7 @@ pub fn split(id: u32, sequence: u8, payload: &[u8], room: usize) -> u32 {
     let before = row.clone();
     let got = laid(id, sequence, payload, &mut row);
     let mut safe = before.clone();
-    assert_eq!(ours::fast_packet_frames(id, sequence, payload, &mut safe).map_err(|e| e.number), got);
+    assert_eq!(ours::fast_packet_frames(id, sequence, payload, &mut safe).map_err(|e| e.number()), got);
     assert_eq!(safe, row, "the safe call");
     if payload.is_empty() || payload.len() > 223 || sequence > 7 {
         assert_eq!((got, row), (Err(28), before), "28 where the original traps");

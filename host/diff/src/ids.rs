@@ -19,11 +19,11 @@ pub fn numbered(e: &CanIdBuildError) -> (u32, u64) {
     }
 }
 
-/// The original's error under its name in the port.
+/// The original's error under its name in the port, which has none for number 3: `never` in host/floors counts that the original gave it to no question.
 pub fn named(e: &CanIdBuildError) -> OurError {
     match *e {
         CanIdBuildError::InvalidData => OurError::InvalidData,
-        CanIdBuildError::InvalidDestination => OurError::InvalidDestination,
+        CanIdBuildError::InvalidDestination => unreachable!("the original gave InvalidDestination"),
         CanIdBuildError::InvalidForBroadcast => OurError::InvalidForBroadcast,
         CanIdBuildError::InvalidForFocusedMessage { pgn } => OurError::InvalidForFocusedMessage { pgn },
         CanIdBuildError::PsFocusMessageMustBeNull => OurError::PsFocusMessageMustBeNull,

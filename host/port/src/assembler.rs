@@ -1,6 +1,6 @@
 //! From frames to messages: the original's `FastPacketAssembler`, but for the PGN list, which is lent to each call, and for its
 //! Ignored, which here says why. So one call is enough: nothing is asked before it.
-use crate::error::{ImpossiblePool, NoRoom};
+use crate::error::{never_given, ImpossiblePool, NoRoom};
 use crate::fast_packet::MAX_FAST_PACKET_PAYLOAD;
 use crate::raw;
 
@@ -171,11 +171,6 @@ fn answer(call: impl FnOnce(&mut [u8; MAX_FAST_PACKET_PAYLOAD], &mut usize) -> u
     let (mut payload, mut len) = ([0; MAX_FAST_PACKET_PAYLOAD], 0);
     let kind = call(&mut payload, &mut len);
     ProcessResult::named(kind, || Some(CompletedMessage { payload, len })).unwrap_or_else(|| never_given(kind))
-}
-
-/// For a number that the proved calls never give here: another archive is linked than this crate is made for.
-fn never_given(number: u32) -> ! {
-    unreachable!("the archive answered {number}, which this call never gives")
 }
 
 /// Rows of frames: a time, a PGN, a source and eight bytes of `data` each.

@@ -1,13 +1,11 @@
 //! Refusals: the original's errors, and document 01's numbers where the original has none.
 use std::fmt;
 
-/// Why an identifier or a frame was not built.
+/// Why an identifier or a frame was not built. The original's `InvalidDestination`, number 3, is not among these: no call gives it.
 #[derive(Clone, Copy, Debug, PartialEq, Eq)]
 pub enum CanIdBuildError {
     /// A PGN over 18 bits, a priority over 7, or a payload over 223 bytes.
     InvalidData,
-    /// Of the original's list; no call gives it.
-    InvalidDestination,
     /// No destination, and PF below 240.
     InvalidForBroadcast,
     /// A destination, and PF 240 or more; `pgn` is the PF, as in the original.
@@ -23,22 +21,21 @@ impl CanIdBuildError {
     pub fn number(self) -> u32 {
         match self {
             Self::InvalidData => 2,
-            Self::InvalidDestination => 3,
             Self::InvalidForBroadcast => 4,
             Self::InvalidForFocusedMessage { .. } => 5,
             Self::PsFocusMessageMustBeNull => 6,
             Self::EmptyPayload => 7,
         }
     }
-    /// The other way round; 2 to 7 is all that the entries give.
+    /// The other way round.
     pub(crate) fn from_number(number: u32, carried: u64) -> Self {
         match number {
-            3 => Self::InvalidDestination,
+            2 => Self::InvalidData,
             4 => Self::InvalidForBroadcast,
             5 => Self::InvalidForFocusedMessage { pgn: carried as u8 },
             6 => Self::PsFocusMessageMustBeNull,
             7 => Self::EmptyPayload,
-            _ => Self::InvalidData,
+            other => never_given(other),
         }
     }
 }
@@ -47,7 +44,6 @@ impl fmt::Display for CanIdBuildError {
     fn fmt(&self, f: &mut fmt::Formatter) -> fmt::Result {
         match self {
             Self::InvalidData => f.write_str("PGN, priority or payload is too large"),
-            Self::InvalidDestination => f.write_str("the destination is not allowed"),
             Self::InvalidForBroadcast => f.write_str("this PGN wants a destination: its PF is below 240"),
             Self::InvalidForFocusedMessage { pgn } => write!(f, "this PGN takes no destination: its PF is {pgn}"),
             Self::PsFocusMessageMustBeNull => f.write_str("a PGN with a destination ends in a byte of 0"),
@@ -100,11 +96,25 @@ impl fmt::Display for NoRoom {
 
 impl std::error::Error for NoRoom {}
 
-/// A refusal of the bench: document 01's number, and what it carries (docs/REFUSALS.md), then zeros.
+/// A refusal of the bench. Its parts are private, so that a program has none but those that the calls gave it.
 #[derive(Clone, Copy, Debug, PartialEq, Eq)]
 pub struct Refusal<const N: usize> {
-    pub number: u32,
-    pub carried: [u64; N],
+    number: u32,
+    carried: [u64; N],
+}
+
+impl<const N: usize> Refusal<N> {
+    pub(crate) fn new(number: u32, carried: [u64; N]) -> Self {
+        Self { number, carried }
+    }
+    /// Document 01's number.
+    pub fn number(self) -> u32 {
+        self.number
+    }
+    /// What it carries (docs/REFUSALS.md), then zeros.
+    pub fn carried(self) -> [u64; N] {
+        self.carried
+    }
 }
 
 impl<const N: usize> fmt::Display for Refusal<N> {
@@ -118,3 +128,8 @@ impl<const N: usize> fmt::Display for Refusal<N> {
 }
 
 impl<const N: usize> std::error::Error for Refusal<N> {}
+
+/// For a number that the proved calls never give here: another archive is linked than this crate is made for.
+pub(crate) fn never_given(number: u32) -> ! {
+    unreachable!("the archive answered {number}, which this call never gives")
+}

@@ -33,7 +33,7 @@ pub fn reassemble(f: &Frames, source: u8, pgn: u32, list: &mut [usize], arena: &
     let mut values = [0; raw::VALUES];
     match raw::reassemble(f, source, pgn, list, arena, &mut values) {
         0 => Ok(values[0] as usize),
-        number => Err(Refusal { number, carried: values }),
+        number => Err(Refusal::new(number, values)),
     }
 }
 
@@ -42,7 +42,7 @@ pub fn fast_packet_frames(id: u32, sequence: u8, payload: &[u8], row: &mut Frame
     let mut frames = 0;
     match raw::fast_packet_frames(id, sequence, payload, row, &mut frames) {
         0 => Ok(frames),
-        number => Err(Refusal { number, carried: [] }),
+        number => Err(Refusal::new(number, [])),
     }
 }
 
@@ -51,6 +51,6 @@ pub fn check_tx(f: &Frames, source: u8, expected: usize, hours_base: u32) -> Res
     let mut values = [0; raw::VALUES];
     match raw::check_tx(f, source, expected, hours_base, &mut values) {
         0 => Ok(()),
-        number => Err(Refusal { number, carried: values }),
+        number => Err(Refusal::new(number, values)),
     }
 }
