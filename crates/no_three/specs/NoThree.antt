@@ -54,11 +54,11 @@ use Rattle.ffi.specs.Calls.{NewPoolLeft, DefaultPoolLeft, FrameLeft, FrameWithL
 use Rattle.ffi.specs.Batches.{BatchMemory, FramesLeft}
 use Rattle.ffi.specs.BenchEntries.{ReassemblesInNumbers, SplitsInNumbers, ChecksTxInNumbers}
 
--- a number that a call tells is another
+-- a number that a call tells is not 3
 abbrev pub NotThree : ℕ → Type 0
 NotThree n = n ≢ 3
 
--- and so is each of the first n entries of a row of kinds
+-- nor is any of the first n entries of a row of kinds
 abbrev pub NoneIsThree : ℕ → List ℕ → Type 0
 NoneIsThree n kinds = (i : ℕ) → i < n → NotThree (getD kinds i 0)
 
@@ -135,7 +135,8 @@ pub record NoThree : Type 0 where
   pub leave : (r : Received) (before after : CallMemory) (code : ℕ) → CallLeft r before code after → NotThree code
   pub leave-made : (made : MadePool) (before after : PoolMemory) (code : ℕ) → MadePoolLeft made before code after → NotThree code
 
--- No answer of these is told by a number; a 3 that one of them gives is a priority, a count, an address or another part of what was asked for:
+-- No answer of these is told by a number, which is read off their types and not proved; a 3 that one of them gives is a priority, a count, an address or another
+-- part of what was asked for:
 -- `CanId::builder`, `CanId::priority`, `CanId::pgn`, `CanId::destination`, `CanId::source_address`, `CanIdBuilder::new`, `CanIdBuilder::with_priority`,
 -- `CanIdBuilder::to_destination`, `CanIdBuilder::priority`, `CanIdBuilder::destination`, `is_listed`, `fill_short`, `FastPacketBuilder::new`,
 -- `FastPacketBuilder::with_sequence_id`, `FastPacketBuilder::with_priority`, `FastPacketBuilder::to_destination`, `FastPacketBuilder::build`, `count`,
