@@ -59,10 +59,11 @@ extern "C" {
 #define HF_FRAGMENT_CONSUMED 102 /* the frame was taken, and more of its message is missing */
 #define HF_MESSAGE_COMPLETE 103  /* the frame brought a message to its end */
 #define HF_NOT_LISTED 104        /* the list lent to the call does not have the PGN; HF_UNKNOWN_PGN went up */
-#define HF_REJECTED 105          /* a first frame announced 0 or more than 223 bytes; HF_REJECTED_FRAMES went up */
+#define HF_REJECTED 105          /* a first frame announced 0 or more than 223 bytes, or was cut short, or a frame came without a byte;
+                                  * HF_REJECTED_FRAMES went up */
 #define HF_POOL_FULL 106         /* a first frame began a message of 7 bytes or more, and no slot was free or had its key; HF_POOL_EXHAUSTED went up */
-#define HF_LOST 107              /* a continuation found no live session (a late one stays as it is), or it came out of turn, which ended its
-                                  * session; HF_LOST_FRAGMENTS went up */
+#define HF_LOST 107              /* a continuation found no live session (a late one stays as it is), or it came out of turn or without a byte
+                                  * that its session needs, which ended the session; HF_LOST_FRAGMENTS went up */
 
 /* Refusals; docs/REFUSALS.md says what each means and carries, and who gives it. 3 was HF_REFUSED_INVALID_DESTINATION, of the original's
  * list: no call gives it, and no other refusal has it. */
@@ -166,7 +167,9 @@ uint32_t hf_raw_process_frame(size_t size, uint64_t heads[HF_POOL_HEADS], uint8_
 uint32_t hf_raw_receive(size_t size, uint64_t heads[HF_POOL_HEADS], uint8_t bytes[HF_POOL_BYTES], uint32_t counters[HF_COUNTERS],
                         const uint32_t *pgns, size_t pgns_len, uint64_t now_ms, uint32_t pgn, uint8_t source_address,
                         const uint8_t data[HF_FRAME_BYTES], uint8_t payload[HF_MAX_FAST_PACKET_PAYLOAD], size_t *length);
-/* Of the frame's eight bytes only the first min(frame_length, 8) count; 0xFF stands for the others. */
+/* Of the frame's eight bytes only the first min(frame_length, 8) were sent; at 8 or more it is hf_raw_process_frame. A frame of a
+ * listed PGN without a byte is HF_REJECTED, and so is a first frame that lacks its size or a byte of the message: one that announces
+ * n bytes has 2 + min(6, n) or more. A continuation that lacks a byte its live session needs is HF_LOST and ends the session. */
 uint32_t hf_raw_process_frame_with_length(size_t size, uint64_t heads[HF_POOL_HEADS], uint8_t bytes[HF_POOL_BYTES], uint32_t counters[HF_COUNTERS],
                                           const uint32_t *pgns, size_t pgns_len, uint64_t now_ms, uint32_t pgn, uint8_t source_address,
                                           const uint8_t data[HF_FRAME_BYTES], size_t frame_length, uint8_t payload[HF_MAX_FAST_PACKET_PAYLOAD],

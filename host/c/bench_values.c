@@ -86,6 +86,11 @@ static uint32_t hear(uint64_t now_ms, const char *data) {
     return hf_process_frame(&pool, &counters, LIST, 1, now_ms, 127489, 35, (const uint8_t *)data, &message);
 }
 
+/* A frame of which the first `length` bytes were sent. */
+static uint32_t hear_cut(const char *data, size_t length) {
+    return hf_process_frame_with_length(&pool, &counters, LIST, 1, 600, 127489, 35, (const uint8_t *)data, length, &message);
+}
+
 /* Whether the list has the PGN, by the answer to a frame. */
 static int listed(const uint32_t *pgns, size_t pgns_len, uint32_t pgn) {
     return hf_process_frame(&pool, &counters, pgns, pgns_len, 0, pgn, 35, (const uint8_t *)"\x00\x06......", &message) != HF_NOT_LISTED;
@@ -98,6 +103,27 @@ static void lists(void) {
     expect(listed(any, 4, 0) && listed(any, 4, 127489) && !listed(any, 3, 0), "a list in any order");
     expect(listed(LIST, 1, 127489) && !listed(LIST, 1, 5) && !listed(NULL, 0, 0), "a list of one, and no list at all");
     expect(counters.counts[HF_UNKNOWN_PGN] == 3, "each PGN that was not listed is counted");
+}
+
+/* The table of a cut frame, each line on a pool with room. */
+static void cut_frames(void) {
+    hf_counters_new(&counters);
+    hf_pool_default(&pool);
+    expect(hear_cut("\x00\x07" "abcdef", 0) == HF_REJECTED && hear_cut("\x01.......", 0) == HF_REJECTED && counters.counts[HF_REJECTED_FRAMES] == 2, "length 0, any bytes");
+    expect(hear_cut("\x00\x07" "abcdef", 1) == HF_REJECTED && hear_cut("\x00\x07" "abcdef", 7) == HF_REJECTED && counters.counts[HF_REJECTED_FRAMES] == 4
+               && pool.heads[HF_SLOT_IN_PROGRESS] == 0, "seven announced, in one byte and in seven");
+    expect(hear_cut("\x00\x03" "abc...", 4) == HF_REJECTED && hear_cut("\x00\x03" "abc...", 5) == HF_MESSAGE_COMPLETE && message.length == 3
+               && !memcmp(message.payload, "abc\0", 4), "three announced, in four bytes and in five");
+    expect(hear_cut("\x00\xE0......", 8) == HF_REJECTED && hear_cut("\x00\xE0......", 2) == HF_REJECTED, "224 announced");
+    expect(hear_cut("\x00\x0E" "abcdef", 8) == HF_FRAGMENT_CONSUMED && hear_cut("\x01" "ghijkl.", 7) == HF_LOST && counters.counts[HF_LOST_FRAGMENTS] == 1
+               && pool.heads[HF_SLOT_IN_PROGRESS] == 0, "fourteen announced, and a continuation of seven bytes: the session has ended");
+    expect(hear_cut("\x00\x0E" "abcdef", 9) == HF_FRAGMENT_CONSUMED && hear_cut("\x01" "ghijklm", 8) == HF_FRAGMENT_CONSUMED && hear_cut("\x02n......", 2) == HF_MESSAGE_COMPLETE
+               && message.length == 14 && !memcmp(message.payload, "abcdefghijklmn", 15), "and of eight, and the last one of two");
+    expect(hear_cut("\x00\x08" "abcdef", 8) == HF_FRAGMENT_CONSUMED && hear_cut("\x01gh.....", 2) == HF_LOST && pool.heads[HF_SLOT_IN_PROGRESS] == 0, "eight announced, one byte short");
+    expect(hear_cut("\x00\x08" "abcdef", 8) == HF_FRAGMENT_CONSUMED && hear_cut("\x01gh.....", 3) == HF_MESSAGE_COMPLETE && !memcmp(message.payload, "abcdefgh", 9), "and whole");
+    static hf_pool before;
+    before = pool;
+    expect(hear_cut("\x01.......", 1) == HF_LOST && counters.counts[HF_LOST_FRAGMENTS] == 3 && !memcmp(&before, &pool, sizeof pool), "a stray of one byte changes nothing");
 }
 
 static void messages(void) {
@@ -120,19 +146,15 @@ static void messages(void) {
     expect(hear(501, "\x20\x07......") == HF_FRAGMENT_CONSUMED && counters.counts[HF_EXPIRED_SESSIONS] == 1, "silent 501: expired");
     expect(hf_process_frame(&pool, &counters, NULL, 0, 600, 127489, 35, (const uint8_t *)"\x00\x06......", &message) == HF_NOT_LISTED && counters.counts[HF_UNKNOWN_PGN] == 1,
            "an empty list, at NULL: unknown");
-    expect(hf_process_frame_with_length(&pool, &counters, LIST, 1, 600, 127489, 35, (const uint8_t *)"\x00\x06" "ab....", 4, &message) == HF_MESSAGE_COMPLETE
-               && message.length == 6 && !memcmp(message.payload, "ab\xFF\xFF\xFF\xFF", 6), "a frame of four bytes");
     expect(hf_receive(&pool, &counters, LIST, 1, 600, 127489, 35, (const uint8_t *)"\x00\x02" "ab....", &message) == HF_MESSAGE_COMPLETE
                && message.length == 2 && !memcmp(message.payload, "ab\0", 3), "by value");
     expect(hf_receive(&pool, &counters, NULL, 0, 600, 127489, 35, (const uint8_t *)"\x00\x02......", &message) == HF_NOT_LISTED
                && hf_receive(&pool, &counters, LIST, 1, 600, 127489, 35, (const uint8_t *)"\x00\x00......", &message) == HF_REJECTED
                && hf_receive(&pool, &counters, LIST, 1, 600, 127489, 35, (const uint8_t *)"\x00\x07......", &message) == HF_POOL_FULL
                && hf_receive(&pool, &counters, LIST, 1, 600, 127489, 35, (const uint8_t *)"\x01.......", &message) == HF_LOST, "by value: the four names");
-    expect(hf_process_frame_with_length(&pool, &counters, NULL, 0, 600, 127489, 35, (const uint8_t *)"\x00\x02......", 8, &message) == HF_NOT_LISTED
-               && hf_process_frame_with_length(&pool, &counters, LIST, 1, 600, 127489, 35, (const uint8_t *)"\x00\x02......", 1, &message) == HF_REJECTED
-               && hf_process_frame_with_length(&pool, &counters, LIST, 1, 600, 127489, 35, (const uint8_t *)"\x00\x07......", 2, &message) == HF_POOL_FULL
-               && hf_process_frame_with_length(&pool, &counters, LIST, 1, 600, 127489, 35, (const uint8_t *)"\x00\x02......", 0, &message) == HF_LOST,
-           "with a length: the four names; of one byte a first frame announces 255, of none it is a continuation");
+    expect(hf_process_frame_with_length(&pool, &counters, NULL, 0, 600, 127489, 35, (const uint8_t *)"\x00\x02......", 0, &message) == HF_NOT_LISTED
+               && hear_cut("\x00\x02......", 1) == HF_REJECTED && hear_cut("\x00\x07......", 8) == HF_POOL_FULL && hear_cut("\x01.......", 1) == HF_LOST,
+           "with a length: the four names");
     pool.heads[HF_SLOT_SEQUENCE] = 8;
     message.payload[0] = 0xEE;
     expect(hear(0, "\x00\x06......") == HF_REFUSED_IMPOSSIBLE_POOL && message.length == 0 && message.payload[0] == 0xEE, "an impossible pool: 1, and the payload as it was");
@@ -211,6 +233,7 @@ static void calls(void) {
     short_frames();
     frames();
     lists();
+    cut_frames();
     messages();
     batch();
     batch_names();

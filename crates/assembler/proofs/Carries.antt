@@ -24,19 +24,19 @@ use Rattle.session.specs.declared.Mark.{Mark}
 use Rattle.session.specs.declared.Kind.the-variants.{ImpossiblePool}
 use Rattle.session.specs.declared.Mark.the-variants.{Nothing}
 use Rattle.session.specs.Rules.{Rules, poolLimit}
-use Rattle.session.specs.Frames.{indexOf, sizeOf, badSize, firstBytes, nextBytes}
-use Rattle.session.specs.Heads.{impossibleHead, hasKey, isFree, isFreeOfSource, hasLiveKey, isExpired, inTurn, openedHead, resetHead, wanted, copiedHead, allThere}
+use Rattle.session.specs.Frames.{indexOf, sizeOf, firstBytes, nextBytes, isEmpty, badFirst}
+use Rattle.session.specs.Heads.{impossibleHead, hasKey, isFree, isFreeOfSource, hasLiveKey, isExpired, isNext, openedHead, resetHead, wanted, copiedHead, allThere}
 use Rattle.session.specs.Counting.{raised, expiredMark}
 use Rattle.session.specs.inner.Search.{nothingFound, seen, seenIf, foundIn, firstOf, placeOf, withinLimit}
-use Rattle.session.specs.inner.Plan.{idle, planOpen, planShort, planSized, planFirst, planCopy, planTurn, planNext, planIndex, planListed, planOf}
+use Rattle.session.specs.inner.Plan.{idle, planOpen, planShort, planSized, planFirst, planCopy, planTurn, planNext, planIndex, planSent, planListed, planOf}
 use Rattle.session.proofs.Seen.{found, place, spot, Inside, placed-found, placed-spot, inside-first, inside-or, first-of, seen-bad, seen-key, seen-live, seen-own, seen-free}
 use Rattle.session.proofs.Sound.{Sound, sound, none-at, busy-live}
 use Rattle.assembler.specs.declared.Pool.{Pool}
 use Rattle.assembler.specs.declared.Received.{Received}
 use Rattle.assembler.specs.Call.{Call}
 use Rattle.assembler.specs.Slots.{Slot, Slots, freshSlot, onHead, impossible, chosen, live, openedSlot, resetSlot, copiedSlot}
-use Rattle.assembler.specs.Step.{Event, notListed, rejected, shortMessage, poolFull, opened, stray, outOfTurn, copied, completed, opensAt, continuesAt, eventOf, slotsAfter, markOf, Why, unlisted, badFrame, noSlot, lost, ignored, padded, message, saidOf, outcome, stepIf, step}
-use Rattle.assembler.proofs.Events.{firstShort, firstSized, copyAt, turnAt, byIndex, byList}
+use Rattle.assembler.specs.Step.{Event, notListed, rejected, shortMessage, poolFull, opened, stray, broken, copied, completed, opensAt, continuesAt, eventOf, slotsAfter, markOf, Why, unlisted, badFrame, noSlot, lost, ignored, padded, message, saidOf, outcome, stepIf, step}
+use Rattle.assembler.proofs.Events.{firstShort, firstSized, copyAt, turnAt, byIndex, bySent, byList}
 use Rattle.assembler.specs.View.{slotsFrom, slotsOf, poolOf, zeros, whyKind, replyKind, replyPayload, replyLength, shown, receiveOf}
 use Rattle.assembler.proofs.Copies.{copy-none, paste-over}
 use Rattle.assembler.proofs.Views.{Whole, slots-long, slot-at, view-back, view-same, view-set, read-back, first-view, any-view}
@@ -193,7 +193,7 @@ module _ (R : Rules) (f : Heard) (p : Pool) (k : Counters) (w : Whole p) (eight 
     unfolding found spot planNext continuesAt
     does-next none u s = unfold markOf saidOf slotsAfter whyKind in does-ignored stray lost 0 refl refl
     does-next (some i) u s =
-        rw (slot-here i u) (does-turn i u (s i refl) (inTurn f (getD (p .heads) i d)))
+        rw (slot-here i u) (does-turn i u (s i refl) (isNext f (getD (p .heads) i d)))
 
     -- ---- the clauses of the plan beside those of the step
 
@@ -230,13 +230,18 @@ module _ (R : Rules) (f : Heard) (p : Pool) (k : Counters) (w : Whole p) (eight 
     module _ (fine : any (onHead impossibleHead) slots ≡ false) where
       does-index : (b : Bool) → Does f p k (planIndex b (found (choice b)) R f (getD (p .heads) (spot (choice b)) d)) (spot (choice b)) (after (byIndex b R f slots))
       unfolding planIndex pick planFirst
-      does-index true = does-sized (badSize f)
+      does-index true = does-sized (badFirst f)
       does-index false = unfold choice in does-next (live R f slots) (inside-choice false) (live-sound fine)
+
+      does-sent : (b : Bool) → Does f p k (planSent b (found (choice (eqb (indexOf f) 0))) R f (getD (p .heads) (spot (choice (eqb (indexOf f) 0))) d)) (spot (choice (eqb (indexOf f) 0))) (after (bySent b R f slots))
+      unfolding planSent pick
+      does-sent true = unfold markOf saidOf slotsAfter whyKind in does-ignored rejected badFrame (spot (choice (eqb (indexOf f) 0))) refl refl
+      does-sent false = does-index (eqb (indexOf f) 0)
 
       does-listed : (b : Bool) → Does f p k (planListed b (found (choice (eqb (indexOf f) 0))) R f (getD (p .heads) (spot (choice (eqb (indexOf f) 0))) d)) (spot (choice (eqb (indexOf f) 0))) (after (byList b R f slots))
       unfolding planListed pick
       does-listed false = unfold markOf saidOf slotsAfter whyKind in does-ignored notListed unlisted (spot (choice (eqb (indexOf f) 0))) refl refl
-      does-listed true = does-index (eqb (indexOf f) 0)
+      does-listed true = does-sent (isEmpty f)
 
     does-checked : (l : List ℕ) (b : Bool) → any (onHead impossibleHead) slots ≡ b
         → Does f p k (planOf b (listedIn (f .pgn) l) (found (choice (eqb (indexOf f) 0))) R f (getD (p .heads) (spot (choice (eqb (indexOf f) 0))) d)) (spot (choice (eqb (indexOf f) 0)))

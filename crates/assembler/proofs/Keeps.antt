@@ -17,13 +17,14 @@ use Rattle.session.specs.declared.Counters.{Counters}
 use Rattle.session.specs.declared.Heard.{Heard}
 use Rattle.session.specs.declared.Head.{Head}
 use Rattle.session.specs.Rules.{Rules}
-use Rattle.session.specs.Frames.{sequenceOf, indexOf, sizeOf, badSize, firstBytes, nextBytes}
-use Rattle.session.specs.Heads.{impossibleHead, hasLiveKey, inTurn, openedHead, resetHead, wanted, copiedHead, allThere}
+use Rattle.session.specs.Frames.{sequenceOf, indexOf, sizeOf, badSize, firstBytes, nextBytes, isEmpty, badFirst}
+use Rattle.session.specs.Heads.{impossibleHead, hasLiveKey, inTurn, isNext, openedHead, resetHead, wanted, copiedHead, allThere}
+use Rattle.session.proofs.Cuts.{first-good, next-in-turn}
 use Rattle.session.proofs.Sound.{Sound, sound, none-at, busy-live, or-left, or-right}
 use Rattle.assembler.specs.Call.{Call, CallOk, listed}
 use Rattle.assembler.specs.Slots.{Slot, Slots, freshSlot, slotAt, within, onHead, impossible, chosen, live, openedSlot, resetSlot, copiedSlot}
-use Rattle.assembler.specs.Step.{Event, notListed, rejected, shortMessage, poolFull, opened, stray, outOfTurn, copied, completed, opensAt, continuesAt, eventOf, slotsAfter, outcome, stepIf, step}
-use Rattle.assembler.proofs.Events.{firstShort, firstSized, copyAt, turnAt, byIndex, byList}
+use Rattle.assembler.specs.Step.{Event, notListed, rejected, shortMessage, poolFull, opened, stray, broken, copied, completed, opensAt, continuesAt, eventOf, slotsAfter, outcome, stepIf, step}
+use Rattle.assembler.proofs.Events.{firstShort, firstSized, copyAt, turnAt, byIndex, bySent, byList}
 use Rattle.assembler.proofs.Views.{Sized, none, more, sized-append}
 
 -- ---- lists
@@ -75,10 +76,10 @@ and-false : (a : Bool) → (a && false) ≡ false
 and-false true = refl
 and-false false = refl
 
-copied-fine : (R : Rules) (f : Heard) (h : Head) → Sound h → inTurn f h ≡ true → allThere (copiedHead f h) ≡ false → impossibleHead (copiedHead f h) ≡ false
+copied-fine : (R : Rules) (f : Heard) (h : Head) → Sound h → isNext f h ≡ true → allThere (copiedHead f h) ≡ false → impossibleHead (copiedHead f h) ≡ false
 unfolding impossibleHead copiedHead allThere inTurn wanted
 copied-fine R f h s turn short =
-    let next : indexOf f ≡ h .«last_frame_index» + 1 = eqb-true (indexOf f) (h .«last_frame_index» + 1) turn in
+    let next : indexOf f ≡ h .«last_frame_index» + 1 = eqb-true (indexOf f) (h .«last_frame_index» + 1) (next-in-turn f h turn) in
     let less : h .«current_size» + min 7 (h .«expected_size» - h .«current_size») < h .«expected_size» = leb-false (h .«expected_size») (h .«current_size» + min 7 (h .«expected_size» - h .«current_size»)) short in
     let full : h .«current_size» + min 7 (h .«expected_size» - h .«current_size») ≡ 6 + 7 * indexOf f = omega (arith, s .held, s .below) in
     rw (
@@ -99,7 +100,7 @@ after-length f ss shortMessage = refl
 after-length f ss poolFull = refl
 after-length f ss (opened i late) = simp length-set
 after-length f ss stray = refl
-after-length f ss (outOfTurn i) = simp length-set
+after-length f ss (broken i) = simp length-set
 after-length f ss (copied i) = simp length-set
 after-length f ss (completed i) = simp length-set
 
@@ -139,10 +140,12 @@ module _ (R : Rules) (c : Call) (ok : CallOk c) (ss : List Slot) (fine : any (on
   short true e high = unfold slotsAfter in same
   short false e high = opens (leb-false (sizeOf (c .heard)) 6 e) high (chosen R (c .heard) ss)
 
-  first : (b : Bool) → badSize (c .heard) ≡ b → Fine (slotsAfter (c .heard) ss (firstSized b R (c .heard) ss))
+  first : (b : Bool) → badFirst (c .heard) ≡ b → Fine (slotsAfter (c .heard) ss (firstSized b R (c .heard) ss))
   unfolding pick
   first true e = unfold slotsAfter in same
-  first false e = short (leb (sizeOf (c .heard)) 6) refl (unfold badSize in ltb-false 223 (sizeOf (c .heard)) (or-right (eqb (sizeOf (c .heard)) 0) (ltb 223 (sizeOf (c .heard))) e))
+  first false e =
+      short (leb (sizeOf (c .heard)) 6) refl
+      (unfold badSize in ltb-false 223 (sizeOf (c .heard)) (or-right (eqb (sizeOf (c .heard)) 0) (ltb 223 (sizeOf (c .heard))) (first-good (c .heard) e)))
 
   module _ (i : ℕ) (s : Sound (slotAt ss i .head)) where
     copied-long : Sized ss → length (copiedSlot (c .heard) (slotAt ss i) .buffer) ≡ 223
@@ -151,12 +154,12 @@ module _ (R : Rules) (c : Call) (ok : CallOk c) (ss : List Slot) (fine : any (on
         length-paste (slotAt ss i .buffer) (slotAt ss i .head .«current_size») (nextBytes (c .heard)) (min 7 (slotAt ss i .head .«expected_size» - slotAt ss i .head .«current_size»))
         (omega (arith, sized-at h i, s .most, s .below)) (omega (arith, seven)) ∙ sized-at h i
 
-    copies : (b : Bool) → inTurn (c .heard) (slotAt ss i .head) ≡ true → allThere (copiedHead (c .heard) (slotAt ss i .head)) ≡ b → Fine (slotsAfter (c .heard) ss (copyAt b i))
+    copies : (b : Bool) → isNext (c .heard) (slotAt ss i .head) ≡ true → allThere (copiedHead (c .heard) (slotAt ss i .head)) ≡ b → Fine (slotsAfter (c .heard) ss (copyAt b i))
     unfolding pick slotsAfter
     copies true turn e = put i (resetSlot (copiedSlot (c .heard) (slotAt ss i))) (unfold resetSlot in reset-fine R _) (λ h. unfold resetSlot in copied-long h)
     copies false turn e = put i (copiedSlot (c .heard) (slotAt ss i)) (unfold copiedSlot in copied-fine R (c .heard) (slotAt ss i .head) s turn e) copied-long
 
-    turns : (b : Bool) → inTurn (c .heard) (slotAt ss i .head) ≡ b → Fine (slotsAfter (c .heard) ss (turnAt b (c .heard) i (slotAt ss i .head)))
+    turns : (b : Bool) → isNext (c .heard) (slotAt ss i .head) ≡ b → Fine (slotsAfter (c .heard) ss (turnAt b (c .heard) i (slotAt ss i .head)))
     unfolding pick
     turns true e = copies (allThere (copiedHead (c .heard) (slotAt ss i .head))) e refl
     turns false e = unfold slotsAfter in put i (resetSlot (slotAt ss i)) (unfold resetSlot in reset-fine R _) (λ h. unfold resetSlot in sized-at h i)
@@ -167,17 +170,22 @@ module _ (R : Rules) (c : Call) (ok : CallOk c) (ss : List Slot) (fine : any (on
   continues (some i) e =
       let hit = first-passes (onHead (hasLiveKey R (c .heard))) ss freshSlot i e in
       turns i (sound R (slotAt ss i .head) (busy-live R (c .heard) (slotAt ss i .head) (hit .passed)) (none-at (onHead impossibleHead) ss i freshSlot fine (hit .inside)))
-      (inTurn (c .heard) (slotAt ss i .head)) refl
+      (isNext (c .heard) (slotAt ss i .head)) refl
 
   index : (b : Bool) → Fine (slotsAfter (c .heard) ss (byIndex b R (c .heard) ss))
   unfolding pick
-  index true = first (badSize (c .heard)) refl
+  index true = first (badFirst (c .heard)) refl
   index false = continues (live R (c .heard) ss) refl
+
+  sent : (b : Bool) → Fine (slotsAfter (c .heard) ss (bySent b R (c .heard) ss))
+  unfolding pick
+  sent true = unfold slotsAfter in same
+  sent false = index (eqb (indexOf (c .heard)) 0)
 
   list : (b : Bool) → Fine (slotsAfter (c .heard) ss (byList b R (c .heard) ss))
   unfolding pick
   list false = unfold slotsAfter in same
-  list true = index (eqb (indexOf (c .heard)) 0)
+  list true = sent (isEmpty (c .heard))
 
   event : Fine (slotsAfter (c .heard) ss (eventOf R ss c))
   unfolding eventOf

@@ -8,3 +8,5 @@ pub mod Replies
 pub mod Promised
 pub mod Unique
 pub mod ByCalls
+pub mod AtEight
+pub mod Unsent

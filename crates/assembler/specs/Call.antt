@@ -1,14 +1,11 @@
 -- One call: the PGN list lent, and the frame heard.
-use mathlib.Core.Bool.{Bool, _&&_}
+use mathlib.Core.Bool.{Bool}
 use mathlib.Core.List.{List}
 use mathlib.Core.Path.{_≡_}
 use Prim.Native.Nat.{ℕ, _<_}
 use lib.ListN.{length, getD}
-use lib.Dec.{eqb, leb}
-use Rattle.fast_packet.specs.FastPacket.{maxPayload, listedIn}
+use Rattle.fast_packet.specs.FastPacket.{listedIn}
 use Rattle.session.specs.declared.Heard.{Heard}
-use Rattle.session.specs.Rules.{Rules}
-use Rattle.session.specs.Frames.{indexOf, sizeOf}
 
 pub record Call : Type 0 where
   pub pgns : List ℕ
@@ -21,7 +18,3 @@ pub record CallOk (c : Call) : Type 0 where
 
 abbrev pub listed : Call → Bool
 listed c = listedIn (c .heard .pgn) (c .pgns)
-
--- a listed first frame that announces 7 to 223 bytes
-unfoldable pub isOpener : Call → Bool
-isOpener c = listed c && eqb (indexOf (c .heard)) 0 && leb 7 (sizeOf (c .heard)) && leb (sizeOf (c .heard)) maxPayload

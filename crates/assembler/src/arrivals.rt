@@ -1,5 +1,6 @@
 // A frame that arrived, as the steps hear it: every form of the call turns its own record into that one.
 ghost use mathlib.Core.Path.{_≡_};
+ghost use Prim.Native.Nat.{min};
 ghost use Rattle.assembler.specs.Arrivals.{heardOf, heardWithLength};
 use crate::Arrival;
 use crate::ArrivalWithLength;
@@ -15,10 +16,17 @@ pub(crate) fn heard_of(arrival: Arrival) -> Heard
         pgn: arrival.pgn,
         source_address: arrival.source_address,
         data: data,
+        length: 8,
     }
 }
 
-// A frame cut short, as eight bytes.
+fn at_most_eight(length: usize) -> usize
+    ensures { λ r. ⌜ r ≡ min length 8 ⌝ }
+{
+    if length <= 8 { length } else { 8 }
+}
+
+// A frame cut short: eight bytes, and how many of them were sent.
 pub(crate) fn heard_with_length(x: ArrivalWithLength) -> Heard
     ensures { λ r. ⌜ r ≡ heardWithLength x ⌝ }
 {
@@ -30,5 +38,6 @@ pub(crate) fn heard_with_length(x: ArrivalWithLength) -> Heard
         pgn: arrival.pgn,
         source_address: arrival.source_address,
         data: data,
+        length: at_most_eight(x.length),
     }
 }

@@ -24,11 +24,12 @@ use Rattle.session.specs.declared.Mark.{Mark}
 use Rattle.session.specs.declared.Mark.the-variants as mark
 use Rattle.session.specs.declared.Counters.{Counters}
 use Rattle.session.specs.Rules.{Rules, base, poolLimit, silence, keysEqual}
-use Rattle.session.specs.Frames.{sequenceOf, indexOf, sizeOf, badSize, keyOf}
+use Rattle.session.specs.Frames.{sequenceOf, indexOf, sizeOf, badSize, badFirst, keyOf}
 use Rattle.session.specs.Heads.{copiedHead, headKey, hasKey, isSilent, isFree, isFreeOfSource, hasLiveKey}
 use Rattle.session.specs.inner.Search.{seen, seenIf, foundIn, firstOf, placeOf, withinLimit}
-use Rattle.session.specs.inner.Plan.{idle, planOpen, planShort, planSized, planFirst, planCopy, planTurn, planNext, planIndex, planListed, planOf}
+use Rattle.session.specs.inner.Plan.{idle, planOpen, planShort, planSized, planFirst, planCopy, planTurn, planNext, planIndex, planSent, planListed, planOf}
 use Rattle.session.proofs.Sound.{or-left, or-right}
+use Rattle.session.proofs.Cuts.{eight-sent, eight-bad}
 use Rattle.session.proofs.Seen.{place, seen-key, seen-live, seen-own, seen-free}
 use Rattle.assembler.specs.declared.Pool.{Pool}
 use Rattle.assembler.specs.declared.Received.{Received}
@@ -231,7 +232,7 @@ pub small-of : (p : Pool) → impossible base (slotsOf p) ≡ false → p .size 
 unfolding impossible slotsOf base
 small-of p fine = ltb-false poolLimit (p .size) (or-left (ltb poolLimit (p .size)) _ fine)
 
-module _ (l : List ℕ) (f : Heard) (p : Pool) (k : Counters) (w : Whole p) (eight : length (f .«data») ≡ 8) (e : Head) (fine : impossible base (slotsOf p) ≡ false) (ks os ts : List ℕ) (m : Mirrors poolLimit (p .heads) ks os ts)
+module _ (l : List ℕ) (f : Heard) (p : Pool) (k : Counters) (w : Whole p) (eight : length (f .«data») ≡ 8) (all : f .length ≡ 8) (e : Head) (fine : impossible base (slotsOf p) ≡ false) (ks os ts : List ℕ) (m : Mirrors poolLimit (p .heads) ks os ts)
     (r : InRange (f .pgn) (getD (f .«data») 0 0)) where
   -- with a possible pool, the plan made at place i and carried out there is the call
   abbrev At : Bool → ℕ → Type 0
@@ -251,12 +252,14 @@ module _ (l : List ℕ) (f : Heard) (p : Pool) (k : Counters) (w : Whole p) (eig
   at-unlisted i x = moves f p k e (still-idle f p k e NotListed mark.Unknown) (withinLimit real) (withinLimit i) x
 
   at-rejected : (i : ℕ) → eqb (indexOf f) 0 ≡ true → badSize f ≡ true → At true real → At true i
-  unfolding planOf planListed planIndex planFirst planSized
-  at-rejected i z b x = rw (z, b) (moves f p k e (still-idle f p k e Rejected mark.Rejected) (withinLimit real) (withinLimit i) (rw (z, b) at x))
+  unfolding planOf planListed planSent planIndex planFirst planSized
+  at-rejected i z b x =
+      rw (eight-sent f all, z, eight-bad f all, b) (moves f p k e (still-idle f p k e Rejected mark.Rejected) (withinLimit real) (withinLimit i) (rw (eight-sent f all, z, eight-bad f all, b) at x))
 
   at-short : (i : ℕ) → eqb (indexOf f) 0 ≡ true → badSize f ≡ false → leb (sizeOf f) 6 ≡ true → At true real → At true i
-  unfolding planOf planListed planIndex planFirst planSized planShort
-  at-short i z b s x = rw (z, b, s) (moves f p k e (still-short f p k e true) (withinLimit real) (withinLimit i) (rw (z, b, s) at x))
+  unfolding planOf planListed planSent planIndex planFirst planSized planShort
+  at-short i z b s x =
+      rw (eight-sent f all, z, eight-bad f all, b, s) (moves f p k e (still-short f p k e true) (withinLimit real) (withinLimit i) (rw (eight-sent f all, z, eight-bad f all, b, s) at x))
 
   quiet-short : badSize f ≡ false → quiet f ≡ true → leb (sizeOf f) 6 ≡ true
   unfolding badSize quiet
@@ -304,10 +307,10 @@ module _ (l : List ℕ) (f : Heard) (p : Pool) (k : Counters) (w : Whole p) (eig
     at-none past = rw (le-ltb i poolLimit past) at at-place
 
     pub seeks-missed : poolLimit ≤ i → (s : ℕ) → s ≡ shortIn t f → s ≡ 0 → Does f p k (idle (missKind t f) (missMark t f) (getD (p .heads) 0 e)) 0 (receiveOf base l f p k)
-    seeks-missed past s es z = rw (plan-missed base f (getD (p .heads) 0 e) t (sym z ∙ es)) at (at-none past)
+    seeks-missed past s es z = rw (plan-missed base f all (getD (p .heads) 0 e) t (sym z ∙ es)) at (at-none past)
 
     pub seeks-short : poolLimit ≤ i → (s : ℕ) → s ≡ shortIn t f → (s ≡ 0 → ⊥) → Does f p k (shortPlan base f (getD (p .heads) 0 e) s) 0 (receiveOf base l f p k)
-    seeks-short past s es n = rw es (rw (plan-short base f (getD (p .heads) 0 e) t (λ z. n (es ∙ z))) at (at-none past))
+    seeks-short past s es n = rw es (rw (plan-short base f all (getD (p .heads) 0 e) t (λ z. n (es ∙ z))) at (at-none past))
 
     -- a slot: then the PGN is listed, and the frame is no message by itself
     module _ (low : i < poolLimit) where
@@ -324,7 +327,7 @@ module _ (l : List ℕ) (f : Heard) (p : Pool) (k : Counters) (w : Whole p) (eig
       seeks-slot d ed = rw ed at-slot
 
       pub seeks-running : (b : Bool) → b ≡ runsOn f (getD (p .heads) i e) → b ≡ true → Does f p k (runPlan base f (getD (p .heads) i e)) i (receiveOf base l f p k)
-      seeks-running b eb y = rw (plan-runs base f (getD (p .heads) i e) (sym eb ∙ y)) at at-slot
+      seeks-running b eb y = rw (plan-runs base f all (getD (p .heads) i e) (sym eb ∙ y)) at at-slot
 
       slot-loud : eqb (indexOf f) 0 ≡ true → (y : Bool) → quiet f ≡ y → y ≡ false
       unfolding sought pick
@@ -333,12 +336,12 @@ module _ (l : List ℕ) (f : Heard) (p : Pool) (k : Counters) (w : Whole p) (eig
 
       slot-index : (h : Head) (b : Bool) → eqb (indexOf f) 0 ≡ b → planIndex b true base f h .short ≡ 0
       unfolding planIndex planFirst
-      slot-index h true z = loud-sized base f h (slot-loud z (quiet f) refl) (badSize f)
+      slot-index h true z = loud-sized base f h (slot-loud z (quiet f) refl) (badFirst f)
       slot-index h false z = next-short f h
 
       pub slot-alone : (d : Plan) (h : Head) → d ≡ planOf false true true base f h → d .short ≡ 0
-      unfolding planOf planListed
-      slot-alone d h ed = ap (λ (x : Plan). x .short) ed ∙ slot-index h (eqb (indexOf f) 0) refl
+      unfolding planOf planListed planSent
+      slot-alone d h ed = ap (λ (x : Plan). x .short) ed ∙ rw (eight-sent f all) (slot-index h (eqb (indexOf f) 0) refl)
 
 -- ---- a possible pool stays possible
 

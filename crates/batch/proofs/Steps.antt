@@ -1,7 +1,7 @@
 -- One frame, from what the code has found out about it: after each of its four ways the run has gone on by one, the pool is possible and the rows
 -- beside the heads show them. Assumes nothing.
 use Prim.Native.Nat.{ℕ, _+_, _*_, _≤_, _<_}
-use mathlib.Core.Path.{_≡_, refl, sym}
+use mathlib.Core.Path.{_≡_, refl, sym, ap}
 use mathlib.Core.Bool.{Bool, true, false}
 use mathlib.Core.List.{List}
 use lib.ListN.{length, getD, drop, set}
@@ -47,11 +47,15 @@ module _ (l : List ℕ) (w : Rows) (p₀ : Pool) (k₀ : Counters) (ks₀ ls₀ 
     long : length (f .«data») ≡ 8
     long = frame-long w i (length (w .times)) f turn (s .run .fit .bytes) row
 
+    all : f .length ≡ 8
+    unfolding frameInRows
+    all = ap (λ (x : Heard). x .length) row
+
     -- no slot
     module _ (past : poolLimit ≤ g) (n : ℕ) (en : n ≡ shortIn t f) where
       pub step-missed : n ≡ 0 → (v : ℕ) → v ≡ kindNumber (missKind t f) → (m : Counters) → m ≡ raised (missMark t f) c → Stands (set ks i v) (set ls i 0) ar q keys owners lasts m used (i + 1)
       step-missed z v ev m em =
-          let does = seeks-missed l f q c (s .run .whole) long freshHead (s .possible) keys owners lasts (s .mirrors) (ek .1) t et key (ek .0) g eg past n en z in
+          let does = seeks-missed l f q c (s .run .whole) long all freshHead (s .possible) keys owners lasts (s .mirrors) (ek .1) t et key (ek .0) g eg past n en z in
           record {
             run = goes-missed base l w p₀ k₀ ks₀ ls₀ ar₀ ks ls ar q c used i (s .run) turn f row 0 (omega arith) long freshHead (missKind t f) (missMark t f) does m em v ev;
             possible = s .possible;
@@ -61,12 +65,12 @@ module _ (l : List ℕ) (w : Rows) (p₀ : Pool) (k₀ : Counters) (ks₀ ls₀ 
       module _ (some : n ≡ 0 → ⊥) (b : Bool) (eb : b ≡ ltb (length ar) (used + n)) where
         pub stop-short : b ≡ true → Ends ks ls ar q c used i
         stop-short y =
-            let does = seeks-short l f q c (s .run .whole) long freshHead (s .possible) keys owners lasts (s .mirrors) (ek .1) t et key (ek .0) g eg past n en some in
+            let does = seeks-short l f q c (s .run .whole) long all freshHead (s .possible) keys owners lasts (s .mirrors) (ek .1) t et key (ek .0) g eg past n en some in
             stops-short base l w p₀ k₀ ks₀ ls₀ ar₀ ks ls ar q c used i (s .run) turn f row 0 (omega arith) long freshHead n does b eb y
 
         pub step-short : b ≡ false → (ar′ : List ℕ) → ar′ ≡ paste ar used (drop 2 (f .«data»)) n → Stands (set ks i 103) (set ls i n) ar′ q keys owners lasts c (used + n) (i + 1)
         step-short y ar′ ear =
-            let does = seeks-short l f q c (s .run .whole) long freshHead (s .possible) keys owners lasts (s .mirrors) (ek .1) t et key (ek .0) g eg past n en some in
+            let does = seeks-short l f q c (s .run .whole) long all freshHead (s .possible) keys owners lasts (s .mirrors) (ek .1) t et key (ek .0) g eg past n en some in
             record {
               run = goes-short base l w p₀ k₀ ks₀ ls₀ ar₀ ks ls ar q c used i (s .run) turn f row 0 (omega arith) long freshHead n does b eb y ar′ ear;
               possible = s .possible;
@@ -77,7 +81,7 @@ module _ (l : List ℕ) (w : Rows) (p₀ : Pool) (k₀ : Counters) (ks₀ ls₀ 
     module _ (low : g < poolLimit) (e : Head) where
       module _ (b : Bool) (eb : b ≡ runsOn f (getD (q .heads) g e)) (y : b ≡ true) where
         runs : Does f q c (runPlan base f (getD (q .heads) g e)) g (receiveOf base l f q c)
-        runs = seeks-running l f q c (s .run .whole) long e (s .possible) keys owners lasts (s .mirrors) (ek .1) t et key (ek .0) g eg low b eb y
+        runs = seeks-running l f q c (s .run .whole) long all e (s .possible) keys owners lasts (s .mirrors) (ek .1) t et key (ek .0) g eg low b eb y
 
         pub runs-fit : getD (q .heads) g e .«current_size» + 7 ≤ 223
         unfolding runPlan
@@ -94,10 +98,10 @@ module _ (l : List ℕ) (w : Rows) (p₀ : Pool) (k₀ : Counters) (ks₀ ls₀ 
 
       module _ (d : Plan) (ed : d ≡ planOf false true true base f (getD (q .heads) g e)) where
         does : Does f q c d g (receiveOf base l f q c)
-        does = seeks-slot l f q c (s .run .whole) long e (s .possible) keys owners lasts (s .mirrors) (ek .1) t et key (ek .0) g eg low d ed
+        does = seeks-slot l f q c (s .run .whole) long all e (s .possible) keys owners lasts (s .mirrors) (ek .1) t et key (ek .0) g eg low d ed
 
         alone : d .short ≡ 0
-        alone = slot-alone l f q c (s .run .whole) long e (s .possible) keys owners lasts (s .mirrors) (ek .1) t et key (ek .0) g eg low d _ ed
+        alone = slot-alone l f q c (s .run .whole) long all e (s .possible) keys owners lasts (s .mirrors) (ek .1) t et key (ek .0) g eg low d _ ed
 
         pub plan-fits : Fits d
         plan-fits = does .fits

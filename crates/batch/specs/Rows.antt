@@ -30,7 +30,7 @@ pub record Rows : Type 0 where
   pub bytes : List ℕ
 
 unfoldable pub frameInRows : Rows → ℕ → Heard
-frameInRows w i = record { «now_ms» = getD (w .times) i 0; pgn = getD (w .pgns) i 0; «source_address» = getD (w .sources) i 0; «data» = take 8 (drop (i * 8) (w .bytes)) }
+frameInRows w i = record { «now_ms» = getD (w .times) i 0; pgn = getD (w .pgns) i 0; «source_address» = getD (w .sources) i 0; «data» = take 8 (drop (i * 8) (w .bytes)); length = 8 }
 
 -- ---- the run
 

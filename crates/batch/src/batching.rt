@@ -43,6 +43,7 @@ fn blank() -> Heard
         pgn: 0,
         source_address: 0,
         data: [0; 8],
+        length: 8,
     }
 }
 

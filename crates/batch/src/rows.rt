@@ -37,6 +37,7 @@ pub(crate) fn frame_at(times: &[u64], pgns: &[u32], sources: &[u8], data: &[u8],
         pgn: pgns[i],
         source_address: sources[i],
         data: bytes,
+        length: 8,
     }
 }
 

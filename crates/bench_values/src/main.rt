@@ -1,10 +1,11 @@
 // Runs the values of document 01 that are not proved as theorems: one slot at 500 and 501 ms; the names that document 02's No. 2 gives to Ignored, at
-// their borders, each by the single call and in a batch; and every refusal number that a call can give, with what it carries, those of the bench once in
+// their borders, each by the single call and in a batch; the frames cut short of its No. 5, with a length; and every refusal number that a call can give, with what it carries, those of the bench once in
 // separate slices and once over a row of frames. The file 'stdout' was written by hand from the text of both, the numbers of the kinds from
 // docs/REFUSALS.md. The builder's frames are in the program builder_values.
 mod batching;
 mod bench_calls;
 mod building;
+mod cut_frames;
 mod frame_rows;
 mod left;
 mod receiving;
@@ -14,6 +15,8 @@ fn main() {
     receiving::one_slot();
     receiving::full_pool();
     receiving::continuations();
+    cut_frames::first_frames();
+    cut_frames::continuations();
     receiving::made();
     receiving::refusals();
     batching::refusals();

@@ -28,7 +28,7 @@ fn unlisted_frame() -> Arrival {
     arrival
 }
 
-fn show_kind(kind: Kind) {
+pub(crate) fn show_kind(kind: Kind) {
     match kind {
         Kind::ImpossiblePool => say::refused_by(1),
         Kind::NotListed => say::text(b"NotListed"),

@@ -7,7 +7,7 @@ use mathlib.Core.Path.{_≡_}
 use Prim.Native.Nat.{ℕ, _<_}
 use lib.ListN.{length, getD, set}
 use Rattle.base.specs.Lists.{firstAt, orElse}
-use Rattle.book.specs.Book.{Message, grown, newMessage, Place, idle, holds, heldIn, Deed, Unlisted, BadSize, NoSlot, Stray, AtOnce, Copied, Delivered, Broken, Told, openingAt, Machine}
+use Rattle.book.specs.Book.{Message, grown, newMessage, Place, idle, holds, heldIn, Deed, Unlisted, BadFrame, NoSlot, Stray, AtOnce, Copied, Delivered, Broken, Told, openingAt, Machine}
 use Rattle.base.proofs.First.{first-passes, Hit, hit, hits, misses}
 
 -- ---- a place found is within the list
@@ -33,7 +33,7 @@ within-first t l d = go (hit (firstAt t l))
 -- the deeds of a call that moves nothing
 pub data Quiet : Deed → Type 0 where
   is-unlisted : Quiet Unlisted
-  is-badly : Quiet BadSize
+  is-badly : Quiet BadFrame
   is-refused : Quiet NoSlot
   is-stray : Quiet Stray
 

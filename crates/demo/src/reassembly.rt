@@ -1,10 +1,12 @@
-// Engine hours reassembled: an old half message, a full pool, a clock set back, and frames that are not taken.
+// Engine hours reassembled: an old half message, a frame cut short, a full pool, a clock set back, and frames that are not taken.
 use crate::engine;
 use crate::say;
 use assembler::Arrival;
+use assembler::ArrivalWithLength;
 use assembler::Pool;
 use assembler::Received;
 use assembler::receive;
+use assembler::receive_with_length;
 use session::Counters;
 use session::Kind;
 
@@ -148,6 +150,38 @@ fn show_old_half() {
     show_counters(g);
 }
 
+// Of one frame only the first two bytes are heard.
+fn hear_two_bytes(g: Gateway, now_ms: u64, sequence: u8, index: u8, hours: u32) -> Gateway {
+    show_frame(now_ms, 35, sequence, index);
+    say::text(b"two bytes of it: ");
+    let x = ArrivalWithLength {
+        arrival: arrived_frame(now_ms, 35, sequence, index, hours),
+        length: 2,
+    };
+    let pool = g.pool;
+    let counters = g.counters;
+    let r = receive_with_length(pool, counters, &[engine::PGN], x);
+    show_answer(r);
+    after(r)
+}
+
+fn say_filled_up() {
+    say::text(b"  (filled up with 0xFF, the message would have read ");
+    say::hours(0x13_FFFF);
+    say::text(b")\n");
+}
+
+fn show_cut_frame() {
+    say::text(b"A frame cut short within a message\n");
+    let mut g = started(4);
+    g = hear(g, 0, 35, 0, 0, 0x13_0001);
+    g = hear_two_bytes(g, 10, 0, 1, 0x13_0001);
+    g = hear_tail(g, 20, 35, 0, 0x13_0001);
+    say_filled_up();
+    g = hear_whole(g, 1000, 35, 1, 0x13_0002);
+    show_counters(g);
+}
+
 fn show_full_pool() {
     say::text(b"A pool of one slot\n");
     let mut g = started(1);
@@ -203,6 +237,7 @@ fn show_not_taken() {
 
 pub(crate) fn show() {
     show_old_half();
+    show_cut_frame();
     show_full_pool();
     show_clock_set_back();
     show_not_taken();

@@ -1,6 +1,6 @@
--- A listed first frame announcing 7 to 223 bytes opens a message, or is refused exactly when no slot has room for it. No other call does either.
+-- A listed first frame announcing 7 to 223 bytes, not cut short, opens a message, or is refused exactly when no slot has room for it. No other call does either.
 -- Assumes nothing.
-use mathlib.Core.Bool.{Bool, true, false, not, _&&_, _||_}
+use mathlib.Core.Bool.{Bool, true, false, not, _&&_, _||_, false≢true}
 use mathlib.Core.List.{List, [], _∷_, map}
 use mathlib.Core.Option.{Option, none, some}
 use mathlib.Core.Path.{_≡_, refl, ap, ap₂, _∙_}
@@ -15,15 +15,16 @@ use Rattle.base.proofs.First.{Test, test, passes, fails}
 use Rattle.fast_packet.specs.FastPacket.{maxPayload}
 use Rattle.session.specs.declared.Head.{Head}
 use Rattle.session.specs.Rules.{Rules}
-use Rattle.session.specs.Frames.{indexOf, sizeOf, badSize}
+use Rattle.session.specs.Frames.{indexOf, sizeOf, badSize, isEmpty, cutFirst, badFirst}
+use Rattle.session.proofs.Cuts.{empty-cut}
 use Rattle.session.specs.Heads.{hasKey, isFree, isFreeOfSource, isSilent}
-use Rattle.assembler.specs.Call.{Call, listed, isOpener}
+use Rattle.assembler.specs.Call.{Call, listed}
 use Rattle.assembler.specs.Slots.{Slot, within, onHead, chosen}
 use Rattle.assembler.specs.Runs.{World}
 use Rattle.assembler.specs.View.{headOf}
-use Rattle.ledger.specs.Ledger.{Message, Place, idle, holds, heldIn, late, itsTurn, full, grown, liveHeld, takenBy, Told, nothingMoved, opensIn, continuesIn, given, tellOne, Ledger, numbered, nextDeed}
+use Rattle.ledger.specs.Ledger.{Message, Place, idle, holds, heldIn, late, awaited, full, grown, liveHeld, takenBy, Told, nothingMoved, opensIn, continuesIn, given, tellOne, Ledger, numbered, nextDeed}
 use Rattle.ledger.specs.Ledger.{NoSlot, Stray, Restarting, Reclaiming, deedNumber, isOneOf, opens, openingAt}
-use Rattle.ledger.specs.Demand3.{hasRoom, Admitted}
+use Rattle.ledger.specs.Demand3.{isOpener, hasRoom, Admitted}
 use Rattle.ledger.specs.Assemblers.{seenOf}
 use Rattle.ledger.proofs.Match.{chosen-same}
 use Rattle.ledger.proofs.Run.{Follows}
@@ -127,7 +128,7 @@ module _ (R : Rules) (n : ℕ) (ps : List Place) (c : Call) where
   neither-own : (i : ℕ) (m : Message) → Neither (continuesIn ps c i m)
   unfolding continuesIn opens isOneOf any deedNumber
   neither-own i m =
-      neither-pick (itsTurn c m) (neither-pick (full (grown m c)) (record { opening = refl; refusing = refl }) (record { opening = refl; refusing = refl })) (record { opening = refl; refusing = refl })
+      neither-pick (awaited c m) (neither-pick (full (grown m c)) (record { opening = refl; refusing = refl }) (record { opening = refl; refusing = refl })) (record { opening = refl; refusing = refl })
 
   neither-held : (i : ℕ) (o : Option Message) → Neither (given o (nothingMoved Stray ps) (continuesIn ps c i))
   unfolding given nothingMoved
@@ -139,26 +140,28 @@ module _ (R : Rules) (n : ℕ) (ps : List Place) (c : Call) where
   neither-continue none = unfold opens isOneOf any deedNumber in record { opening = refl; refusing = refl }
   neither-continue (some i) = neither-held i (heldIn (getD ps i (idle 0)))
 
-  -- by the tests that a call goes through: listed, index 0, a bad size, a size up to 6
+  -- by the tests that a call goes through: listed, no byte sent, index 0, a bad first frame, a size up to 6
   admits-one : Admits (tellOne R n ps c)
-      (pick (listed c) (pick (eqb (indexOf (c .heard)) 0) (pick (badSize (c .heard)) false (pick (leb (sizeOf (c .heard)) 6) false (found (takenBy R c ps)))) false) false)
-      (pick (listed c) (pick (eqb (indexOf (c .heard)) 0) (pick (badSize (c .heard)) false (pick (leb (sizeOf (c .heard)) 6) false (not (found (takenBy R c ps))))) false) false)
+      (pick (listed c) (pick (isEmpty (c .heard)) false (pick (eqb (indexOf (c .heard)) 0) (pick (badFirst (c .heard)) false (pick (leb (sizeOf (c .heard)) 6) false (found (takenBy R c ps)))) false)) false)
+      (pick (listed c) (pick (isEmpty (c .heard)) false (pick (eqb (indexOf (c .heard)) 0) (pick (badFirst (c .heard)) false (pick (leb (sizeOf (c .heard)) 6) false (not (found (takenBy R c ps))))) false)) false)
   unfolding tellOne nothingMoved opens isOneOf any deedNumber
   admits-one =
       admits-pick (listed c)
+      (admits-pick (isEmpty (c .heard)) (record { opening = refl; refusing = refl })
       (admits-pick (eqb (indexOf (c .heard)) 0)
-      (admits-pick (badSize (c .heard)) (record { opening = refl; refusing = refl })
+      (admits-pick (badFirst (c .heard)) (record { opening = refl; refusing = refl })
       (admits-pick (leb (sizeOf (c .heard)) 6) (record { opening = refl; refusing = refl }) (admits-open (takenBy R c ps))))
-      (neither-continue (firstAt (liveHeld R c) ps)))
+      (neither-continue (firstAt (liveHeld R c) ps))))
       (record { opening = refl; refusing = refl })
 
-picks : (a b x y z : Bool) → pick a (pick b (pick x false (pick y false z)) false) false ≡ ((a && (b && (not x && not y))) && z)
+picks : (a n b x y z : Bool) → pick a (pick n false (pick b (pick x false (pick y false z)) false)) false ≡ ((a && (not n && (b && (not x && not y)))) && z)
 unfolding pick
-picks true true true y z = refl
-picks true true false true z = refl
-picks true true false false z = refl
-picks true false x y z = refl
-picks false b x y z = refl
+picks true true b x y z = refl
+picks true false true true y z = refl
+picks true false true false true z = refl
+picks true false true false false z = refl
+picks true false false x y z = refl
+picks false n b x y z = refl
 
 -- the tests on a size, as two bounds
 pub size-tests : (c : Call) → (not (badSize (c .heard)) && not (leb (sizeOf (c .heard)) 6)) ≡ (leb 7 (sizeOf (c .heard)) && leb (sizeOf (c .heard)) maxPayload)
@@ -179,15 +182,35 @@ size-tests c = go (test (leb (sizeOf (c .heard)) 6)) (test (ltb maxPayload (size
     go (fails large) (fails fits) =
         rw (large, fits, ne-eqb n 0 (λ z. omega (arith, leb-false n 6 large)), le-leb 7 n (leb-false n 6 large), le-leb n maxPayload (ltb-false maxPayload n fits))
 
-pub opener-tests : (c : Call) → (listed c && (eqb (indexOf (c .heard)) 0 && (not (badSize (c .heard)) && not (leb (sizeOf (c .heard)) 6)))) ≡ isOpener c
-unfolding isOpener
-opener-tests c = rw (size-tests c) (group (listed c) (eqb (indexOf (c .heard)) 0) (leb 7 (sizeOf (c .heard))) (leb (sizeOf (c .heard)) maxPayload))
+pub opener-tests : (c : Call) → (listed c && (not (isEmpty (c .heard)) && (eqb (indexOf (c .heard)) 0 && (not (badFirst (c .heard)) && not (leb (sizeOf (c .heard)) 6))))) ≡ isOpener c
+unfolding isOpener badFirst
+opener-tests c =
+    group (listed c) (isEmpty (c .heard)) (eqb (indexOf (c .heard)) 0) (badSize (c .heard)) (cutFirst (c .heard)) (leb (sizeOf (c .heard)) 6) (empty-cut (c .heard))
+    ∙ ap (λ (b : Bool). ((listed c && eqb (indexOf (c .heard)) 0) && b) && not (cutFirst (c .heard))) (size-tests c)
+    ∙ regroup (listed c) (eqb (indexOf (c .heard)) 0) (leb 7 (sizeOf (c .heard))) (leb (sizeOf (c .heard)) maxPayload) (not (cutFirst (c .heard)))
   where
-    group : (a b x y : Bool) → (a && (b && (x && y))) ≡ (((a && b) && x) && y)
-    group true true true y = refl
-    group true true false y = refl
-    group true false x y = refl
-    group false b x y = refl
+    group : (a n b x t y : Bool) → (n ≡ true → t ≡ true) → (a && (not n && (b && (not (x || t) && not y)))) ≡ (((a && b) && (not x && not y)) && not t)
+    group a true b x true y e = go a b (not x && not y)
+      where
+        go : (a b u : Bool) → (a && false) ≡ (((a && b) && u) && false)
+        go true true true = refl
+        go true true false = refl
+        go true false u = refl
+        go false b u = refl
+    group a true b x false y e = absurd (false≢true (e refl))
+    group true false true true t y e = refl
+    group true false true false true true e = refl
+    group true false true false true false e = refl
+    group true false true false false true e = refl
+    group true false true false false false e = refl
+    group true false false x t y e = refl
+    group false false b x t y e = refl
+
+    regroup : (a b x y z : Bool) → (((a && b) && (x && y)) && z) ≡ ((((a && b) && x) && y) && z)
+    regroup true true true y z = refl
+    regroup true true false y z = refl
+    regroup true false x y z = refl
+    regroup false b x y z = refl
 
 module _ (R : Rules) (w : World) (L : Ledger) (c : Call) (h : Follows R w L) where
   room : found (takenBy R c (L .places)) ≡ any (hasRoom R c) (map headOf (within (w .pool)))
@@ -197,7 +220,7 @@ module _ (R : Rules) (w : World) (L : Ledger) (c : Call) (h : Follows R w L) whe
   unfolding nextDeed seenOf
   admitted =
       let p = admits-one R (numbered L) (L .places) c in
-      let tests = picks (listed c) (eqb (indexOf (c .heard)) 0) (badSize (c .heard)) (leb (sizeOf (c .heard)) 6) in
+      let tests = picks (listed c) (isEmpty (c .heard)) (eqb (indexOf (c .heard)) 0) (badFirst (c .heard)) (leb (sizeOf (c .heard)) 6) in
       record {
         opening = p .opening ∙ tests (found (takenBy R c (L .places))) ∙ rw (opener-tests c, room);
         refusing = p .refusing ∙ tests (not (found (takenBy R c (L .places)))) ∙ rw (opener-tests c, room);

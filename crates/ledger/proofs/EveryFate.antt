@@ -9,16 +9,16 @@ use Rattle.fast_packet.specs.FastPacket.{listedIn}
 use Rattle.session.specs.declared.Kind.{Kind}
 use Rattle.session.specs.declared.Kind.the-variants as kind
 use Rattle.session.specs.Rules.{base, silence, keysEqual}
-use Rattle.session.specs.Frames.{sequenceOf, indexOf, sizeOf, firstBytes, nextBytes, badSize, keyOf}
-use Rattle.session.specs.Heads.{freshHead, headKey, impossibleHead, hasKey, isSilent, isFree, isFreeOfSource, hasLiveKey, isExpired, inTurn, openedHead, resetHead, wanted, copiedHead, allThere}
+use Rattle.session.specs.Frames.{sequenceOf, indexOf, sizeOf, firstBytes, nextBytes, badSize, keyOf, sentBytes, isEmpty, cutFirst, badFirst}
+use Rattle.session.specs.Heads.{freshHead, headKey, impossibleHead, hasKey, isSilent, isFree, isFreeOfSource, hasLiveKey, isExpired, inTurn, cutNext, isNext, openedHead, resetHead, wanted, copiedHead, allThere}
 use Rattle.session.specs.Counting.{freshCounters, most, raise, raised, expiredMark}
 use Rattle.assembler.specs.Call.{Call}
 use Rattle.assembler.specs.Slots.{freshSlot, freshSlots, impossible, chosen, live, openedSlot, resetSlot, copiedSlot}
 use Rattle.assembler.specs.Step.{opensAt, continuesAt, eventOf, slotsAfter, markOf, padded, message, saidOf, outcome, stepIf, step}
 use Rattle.assembler.specs.Making.{freshPool}
 use Rattle.assembler.specs.View.{slotsFrom, slotsOf, headOf, flat, poolOf, zeros, whyKind, replyKind, replyPayload, replyLength, shown, receiveOf}
-use Rattle.ledger.specs.Ledger.{Ledger, Saying, ledgerOf, tells, tell, written, numbered, blank, tellOne, nothingMoved, opensIn, continuesIn, given, heldIn, openingAt, newMessage, left, full, itsTurn, grown, takenBy, keyHeld, late, free, sourceAt, freeOfSource, liveHeld, latestOf, ownBytes, framesBytes, announced, briefly, delivery, kindDue, saying, sayingDue}
-use Rattle.ledger.specs.Ledger.{deedNumber, isOneOf, opens, begins, copies, ends, asNumber, howMany, did, openings, isSome, held, Delivered, Broken, Restarting, Reclaiming, NoSlot, Stray, BadSize, Unlisted, AtOnce}
+use Rattle.ledger.specs.Ledger.{Ledger, Saying, ledgerOf, tells, tell, written, numbered, blank, tellOne, nothingMoved, opensIn, continuesIn, given, heldIn, openingAt, newMessage, left, full, itsTurn, lacks, awaited, grown, takenBy, keyHeld, late, free, sourceAt, freeOfSource, liveHeld, latestOf, ownBytes, framesBytes, announced, briefly, delivery, kindDue, saying, sayingDue}
+use Rattle.ledger.specs.Ledger.{deedNumber, isOneOf, opens, begins, copies, ends, asNumber, howMany, did, openings, isSome, held, Delivered, Broken, Restarting, Reclaiming, NoSlot, Stray, BadFrame, Unlisted, AtOnce}
 use Rattle.ledger.specs.Demand3.{Seen, inProgress}
 use Rattle.ledger.specs.Runs.{start, keptSource, sourcesOf, sayingOf, seenIn}
 use Rattle.ledger.specs.Assemblers.{receives, seenAfter}
@@ -26,18 +26,23 @@ use Rattle.ledger.specs.Runs as run
 
 -- to unfold `ran` is to unfold all that its line names
 unfoldable pub ran : ℕ → List Call → Seen
-unfolding base silence keysEqual listedIn sequenceOf indexOf sizeOf firstBytes nextBytes badSize keyOf nextPlace here orElse firstAt any total pick freshHead headKey impossibleHead hasKey isSilent isFree isFreeOfSource hasLiveKey isExpired inTurn openedHead resetHead wanted copiedHead allThere freshCounters most raise raised expiredMark freshSlot freshSlots impossible chosen live openedSlot resetSlot copiedSlot opensAt continuesAt eventOf slotsAfter markOf padded message saidOf outcome stepIf step slotsFrom slotsOf headOf flat poolOf zeros whyKind replyKind replyPayload replyLength shown receiveOf freshPool start sayingOf run.afterCall receives seenIn seenAfter inProgress howMany asNumber
+unfolding base silence keysEqual listedIn sequenceOf indexOf sizeOf firstBytes nextBytes badSize keyOf isEmpty cutFirst badFirst nextPlace here orElse firstAt any total pick freshHead headKey impossibleHead hasKey isSilent isFree isFreeOfSource hasLiveKey isExpired inTurn cutNext isNext openedHead resetHead wanted copiedHead allThere freshCounters most raise raised expiredMark freshSlot freshSlots impossible chosen live openedSlot resetSlot copiedSlot opensAt continuesAt eventOf slotsAfter markOf padded message saidOf outcome stepIf step slotsFrom slotsOf headOf flat poolOf zeros whyKind replyKind replyPayload replyLength shown receiveOf freshPool start sayingOf run.afterCall receives seenIn seenAfter inProgress howMany asNumber
 ran n cs = seenAfter (receiveOf base) (freshPool n) cs
 
 -- to unfold `told` is to unfold all that tells a ledger
 unfoldable pub told : ℕ → List Call → Ledger
-unfolding ran keptSource sourcesOf ledgerOf tells tell written numbered blank tellOne nothingMoved opensIn continuesIn given heldIn openingAt newMessage left full itsTurn grown takenBy keyHeld late free sourceAt freeOfSource liveHeld latestOf ownBytes framesBytes announced briefly delivery kindDue saying sayingDue deedNumber isOneOf opens begins copies ends did openings isSome held
+unfolding ran sentBytes keptSource sourcesOf ledgerOf tells tell written numbered blank tellOne nothingMoved opensIn continuesIn given heldIn openingAt newMessage left full itsTurn lacks awaited grown takenBy keyHeld late free sourceAt freeOfSource liveHeld latestOf ownBytes framesBytes announced briefly delivery kindDue saying sayingDue deedNumber isOneOf opens begins copies ends did openings isSome held
 told n cs = ledgerOf base (sourcesOf (freshPool n)) cs
 
 -- ---- frames of PGN 127489, sequence 0
 
+-- of whose eight bytes the first n were sent
+unfoldable pub cutFrame : ℕ → ℕ → ℕ → List ℕ → Call
+cutFrame n at from bytes = record { pgns = 7 ∷ 127489 ∷ []; heard = record { «now_ms» = at; pgn = 127489; «source_address» = from; «data» = bytes; length = n } }
+
 unfoldable pub frame : ℕ → ℕ → List ℕ → Call
-frame at from bytes = record { pgns = 7 ∷ 127489 ∷ []; heard = record { «now_ms» = at; pgn = 127489; «source_address» = from; «data» = bytes } }
+unfolding cutFrame
+frame at from bytes = cutFrame 8 at from bytes
 
 -- the first frame of a message that announces so many bytes
 unfoldable pub announces : ℕ → ℕ → ℕ → Call
@@ -75,7 +80,7 @@ pub record Every : Type 0 where
   pub still-held : held (told 1 every) ≡ 1
   pub strays : did Stray (told 1 every) ≡ 1
   pub refused : did NoSlot (told 1 every) ≡ 1
-  pub bad : did BadSize (told 1 every) ≡ 1
+  pub bad : did BadFrame (told 1 every) ≡ 1
   pub unlisted : did Unlisted (told 1 every) ≡ 1
   pub at-once : did AtOnce (told 1 every) ≡ 1
   -- what was said, the latest first: every name that a call can give on a pool that the calls made

@@ -12,6 +12,7 @@ pub mod EveryFate
 pub mod Trials
 pub mod Parts
 pub mod Wrong
+pub mod CutShort
 pub mod TooLittle
 pub mod Keys
 pub mod Mixed

@@ -4,9 +4,10 @@ use mathlib.Core.Bool.{Bool, true, false, _||_, true≢false, false≢true}
 use mathlib.Core.List.{List}
 use mathlib.Core.Option.{Option, none, some}
 use mathlib.Core.Path.{_≡_, refl, subst, _∙_}
-use Prim.Native.Nat.{ℕ, _≤_}
+use Prim.Native.Nat.{ℕ, _+_, _≤_, _<_}
 use lib.ListN.{length, getD, take, set, length-set}
 use lib.Dec.{eqb, ltb, leb}
+use native.Mathlib.Omega.{arith}
 use borrow.Author.Tests.{leb-true, leb-false, ltb-false}
 use Rattle.base.specs.Answer.{gives}
 use Rattle.base.specs.Pick.{pick}
@@ -19,7 +20,8 @@ use Rattle.session.specs.declared.Mark.{Mark}
 use Rattle.session.specs.declared.Mark.the-variants.{Nothing, Expired, Exhausted, Rejected, Lost, Unknown}
 use Rattle.session.specs.declared.Kind.the-variants.{FragmentConsumed, MessageComplete}
 use Rattle.session.specs.Rules.{Rules}
-use Rattle.session.specs.Frames.{indexOf, sizeOf, badSize, firstBytes}
+use Rattle.session.specs.Frames.{indexOf, sizeOf, badSize, firstBytes, isEmpty, badFirst}
+use Rattle.session.proofs.Cuts.{first-good, first-sent}
 use Rattle.session.specs.Heads.{impossibleHead, hasKey, isFree, isFreeOfSource, hasLiveKey, isExpired}
 use Rattle.session.specs.Counting.{expiredMark}
 use Rattle.assembler.specs.Call.{Call, CallOk, listed}
@@ -27,17 +29,17 @@ use Rattle.assembler.specs.Slots.{Slot, slotAt, freshSlot, onHead, chosen, live
 use Rattle.assembler.specs.Step as act
 use Rattle.assembler.specs.Step.{Event, message, padded, saidOf, slotsAfter, opensAt, continuesAt, eventOf}
 use Rattle.assembler.specs.View.{whyKind, replyKind, replyPayload, replyLength}
-use Rattle.ledger.specs.Ledger.{Message, Place, idle, holds, heldIn, newMessage, grown, keyHeld, late, free, freeOfSource, liveHeld, takenBy, full, itsTurn, left}
-use Rattle.ledger.specs.Ledger.{Deed, Unlisted, BadSize, NoSlot, Stray, AtOnce, Opening, Restarting, Reclaiming, Copied, Delivered, Broken, deedNumber, isOneOf, openingAt}
-use Rattle.ledger.specs.Ledger.{Told, nothingMoved, opensIn, continuesIn, given, tellOne, framesBytes, ownBytes, announced, briefly, delivery, kindDue, saying}
+use Rattle.ledger.specs.Ledger.{Message, Place, idle, holds, heldIn, newMessage, grown, keyHeld, late, free, freeOfSource, liveHeld, takenBy, full, awaited, left}
+use Rattle.ledger.specs.Ledger.{Deed, Unlisted, BadFrame, NoSlot, Stray, AtOnce, Opening, Restarting, Reclaiming, Copied, Delivered, Broken, deedNumber, isOneOf, openingAt}
+use Rattle.ledger.specs.Ledger.{Told, nothingMoved, opensIn, continuesIn, given, tellOne, framesBytes, ownBytes, announced, briefly, delivery, kindDue, saying, madeUpIn}
 use Rattle.ledger.specs.Assemblers.{replySays}
 use Rattle.ledger.proofs.Moves.{within-taken}
-use Rattle.ledger.proofs.Shows.{Shows, HeldSlot, room-of, held-source, key-same, late-same, free-same, freeOfSource-same, live-same, possible, reset-shows, opened-shows, copied-room, full-same, copied-shows, cut-same, copied-source, turn-same, short-cut, short-due, whole-due}
+use Rattle.ledger.proofs.Shows.{Shows, HeldSlot, room-of, held-source, key-same, late-same, free-same, freeOfSource-same, live-same, possible, reset-shows, opened-shows, copied-room, awaited-same, full-same, copied-shows, cut-same, copied-source, short-cut, short-full, short-due, whole-due}
 
 -- which counter a deed marks
 unfoldable pub markOf : Deed → Mark
 markOf Unlisted = Unknown
-markOf BadSize = Rejected
+markOf BadFrame = Rejected
 markOf NoSlot = Exhausted
 markOf Stray = Lost
 markOf AtOnce = Nothing
@@ -79,6 +81,8 @@ module _ (R : Rules) where
     pub shows : All2 (Shows R) (t .places) (slotsAfter (c .heard) ss e)
     pub says : replySays (gives (saidOf (c .heard) ss e)) ≡ saying (t .deed) (t .message)
     pub marks : act.markOf e ≡ markOf (t .deed)
+    -- no byte of a delivered message is made up
+    pub sent : madeUpIn (t .deed) (t .message) ≡ false
 
   -- both go the same way at a test
   match-pick : {c : Call} {ss : List Slot} (b : Bool) {t u : Told} {e f : Event} → (b ≡ true → Match c ss t e) → (b ≡ false → Match c ss u f) → Match c ss (pick b t u) (pick b e f)
@@ -106,74 +110,95 @@ module _ (R : Rules) where
   opening-says c (idle kept) = unfold kindDue saying isOneOf any deedNumber pick in refl
   opening-says c (holds m) = late-says (late R c m) (some m)
 
+  late-sent : (b : Bool) (m : Option Message) → madeUpIn (pick b Reclaiming Restarting) m ≡ false
+  unfolding madeUpIn isOneOf any deedNumber pick
+  late-sent b none = refl
+  late-sent true (some m) = refl
+  late-sent false (some m) = refl
+
+  opening-sent : (c : Call) (p : Place) → madeUpIn (openingAt (late R c) p) (heldIn p) ≡ false
+  unfolding openingAt heldIn
+  opening-sent c (idle kept) = unfold madeUpIn in refl
+  opening-sent c (holds m) = late-sent (late R c m) (some m)
+
   or-false : (a b : Bool) → (a || b) ≡ false → b ≡ false
   or-false true b e = absurd (true≢false e)
   or-false false b e = e
 
-  good-size : (c : Call) → badSize (c .heard) ≡ false → sizeOf (c .heard) ≤ maxPayload
+  good-size : (c : Call) → badFirst (c .heard) ≡ false → sizeOf (c .heard) ≤ maxPayload
   unfolding badSize
-  good-size c e = ltb-false maxPayload (sizeOf (c .heard)) (or-false (eqb (sizeOf (c .heard)) 0) (ltb maxPayload (sizeOf (c .heard))) e)
+  good-size c e = ltb-false maxPayload (sizeOf (c .heard)) (or-false (eqb (sizeOf (c .heard)) 0) (ltb maxPayload (sizeOf (c .heard))) (first-good (c .heard) e))
 
   module _ (n : ℕ) (c : Call) (ok : CallOk c) {ps : List Place} {ss : List Slot} (h : All2 (Shows R) ps ss) where
-    match-open : 7 ≤ sizeOf (c .heard) → sizeOf (c .heard) ≤ maxPayload → (o : Option ℕ) → Within (length ps) o → Match c ss (given o (nothingMoved NoSlot ps) (opensIn R n ps c)) (opensAt R (c .heard) ss o)
+    match-open : 7 ≤ sizeOf (c .heard) → sizeOf (c .heard) ≤ maxPayload → 8 ≤ c .heard .length → (o : Option ℕ) → Within (length ps) o → Match c ss (given o (nothingMoved NoSlot ps) (opensIn R n ps c)) (opensAt R (c .heard) ss o)
     unfolding given opensIn opensAt nothingMoved slotsAfter saidOf act.markOf replySays whyKind replyKind replyPayload replyLength briefly
-    match-open low high none u = record { kept = refl; shows = h; says = unfold kindDue saying isOneOf any deedNumber pick in refl; marks = unfold markOf in refl }
-    match-open low high (some i) u =
+    match-open low high all none u = record { kept = refl; shows = h; says = unfold kindDue saying isOneOf any deedNumber pick in refl; marks = unfold markOf in refl; sent = unfold madeUpIn in refl }
+    match-open low high all (some i) u =
         let q : Shows R (getD ps i (idle 0)) (slotAt ss i) = all2-at h i u (idle 0) freshSlot in
         record {
           kept = simp length-set;
-          shows = all2-set h i (opened-shows R n c (slotAt ss i) ok low high (room-of R (getD ps i (idle 0)) (slotAt ss i) q));
+          shows = all2-set h i (opened-shows R n c (slotAt ss i) ok low high all (room-of R (getD ps i (idle 0)) (slotAt ss i) q));
           says = opening-says c (getD ps i (idle 0));
           marks = opening-marks c (getD ps i (idle 0)) (slotAt ss i) q;
+          sent = opening-sent c (getD ps i (idle 0));
         }
 
-    match-chosen : 7 ≤ sizeOf (c .heard) → sizeOf (c .heard) ≤ maxPayload → Match c ss (given (takenBy R c ps) (nothingMoved NoSlot ps) (opensIn R n ps c)) (opensAt R (c .heard) ss (chosen R (c .heard) ss))
-    match-chosen low high =
+    match-chosen : 7 ≤ sizeOf (c .heard) → sizeOf (c .heard) ≤ maxPayload → 8 ≤ c .heard .length → Match c ss (given (takenBy R c ps) (nothingMoved NoSlot ps) (opensIn R n ps c)) (opensAt R (c .heard) ss (chosen R (c .heard) ss))
+    match-chosen low high all =
         subst (λ (o : Option ℕ). Match c ss (given (takenBy R c ps) (nothingMoved NoSlot ps) (opensIn R n ps c)) (opensAt R (c .heard) ss o)) (chosen-same c h)
-        (match-open low high (takenBy R c ps) (within-taken R c ps))
+        (match-open low high all (takenBy R c ps) (within-taken R c ps))
 
-    match-short : sizeOf (c .heard) ≤ 6 → Match c ss (record { deed = AtOnce; message = some (newMessage n c); places = ps }) act.shortMessage
+    match-short : sizeOf (c .heard) ≤ 6 → 2 + sizeOf (c .heard) ≤ c .heard .length → Match c ss (record { deed = AtOnce; message = some (newMessage n c); places = ps }) act.shortMessage
     unfolding slotsAfter saidOf act.markOf markOf saying isOneOf any deedNumber pick delivery announced newMessage ownBytes framesBytes
-    match-short small =
-        record { kept = refl; shows = h; says = says-message (take (sizeOf (c .heard)) (firstBytes (c .heard))) _ _ (rw (short-cut R c ok)) (short-due R c ok small); marks = refl }
+    match-short small all =
+        record {
+          kept = refl;
+          shows = h;
+          says = says-message (take (sizeOf (c .heard)) (firstBytes (c .heard))) _ _ (short-cut R c small all) (short-due R c ok small);
+          marks = refl;
+          sent = unfold madeUpIn in rw (short-full R n c ok small all);
+        }
 
     -- the calls that move nothing
     match-unlisted : Match c ss (nothingMoved Unlisted ps) act.notListed
     unfolding nothingMoved slotsAfter saidOf act.markOf markOf replySays whyKind replyKind replyPayload replyLength kindDue saying isOneOf any deedNumber pick briefly
-    match-unlisted = record { kept = refl; shows = h; says = refl; marks = refl }
+    match-unlisted = record { kept = refl; shows = h; says = refl; marks = refl; sent = unfold madeUpIn in refl }
 
-    match-bad : Match c ss (nothingMoved BadSize ps) act.rejected
+    match-bad : Match c ss (nothingMoved BadFrame ps) act.rejected
     unfolding nothingMoved slotsAfter saidOf act.markOf markOf replySays whyKind replyKind replyPayload replyLength kindDue saying isOneOf any deedNumber pick briefly
-    match-bad = record { kept = refl; shows = h; says = refl; marks = refl }
+    match-bad = record { kept = refl; shows = h; says = refl; marks = refl; sent = unfold madeUpIn in refl }
 
     match-stray : Match c ss (nothingMoved Stray ps) act.stray
     unfolding nothingMoved slotsAfter saidOf act.markOf markOf replySays whyKind replyKind replyPayload replyLength kindDue saying isOneOf any deedNumber pick briefly
-    match-stray = record { kept = refl; shows = h; says = refl; marks = refl }
+    match-stray = record { kept = refl; shows = h; says = refl; marks = refl; sent = unfold madeUpIn in refl }
 
     module _ (i : ℕ) (m : Message) (q : HeldSlot R m (slotAt ss i)) where
-      match-full : full (grown m c) ≡ true → Match c ss (record { deed = Delivered; message = some (grown m c); places = set ps i (left m) }) (act.completed i)
+      match-full : awaited c m ≡ true → full (grown m c) ≡ true → Match c ss (record { deed = Delivered; message = some (grown m c); places = set ps i (left m) }) (act.completed i)
       unfolding slotsAfter saidOf act.markOf markOf saying isOneOf any deedNumber pick delivery grown
-      match-full e =
+      match-full turn e =
           record {
             kept = simp length-set;
             shows = all2-set h i (reset-shows R m (copiedSlot (c .heard) (slotAt ss i)) (copied-source R c m (slotAt ss i) q) (copied-room R c m (slotAt ss i) ok q));
-            says = says-message _ _ _ (cut-same R c m (slotAt ss i) ok q e ∙ (unfold grown ownBytes framesBytes announced in refl)) (whole-due R c m (slotAt ss i) ok q);
+            says = says-message _ _ _ (cut-same R c m (slotAt ss i) ok q turn e ∙ (unfold grown ownBytes framesBytes announced in refl)) (whole-due R c m (slotAt ss i) ok q);
             marks = refl;
+            sent = unfold madeUpIn in rw e;
           }
 
-      match-copied : itsTurn c m ≡ true → full (grown m c) ≡ false → Match c ss (record { deed = Copied; message = some (grown m c); places = set ps i (holds (grown m c)) }) (act.copied i)
+      match-copied : awaited c m ≡ true → full (grown m c) ≡ false → Match c ss (record { deed = Copied; message = some (grown m c); places = set ps i (holds (grown m c)) }) (act.copied i)
       unfolding slotsAfter saidOf act.markOf markOf replySays whyKind replyKind replyPayload replyLength kindDue saying isOneOf any deedNumber pick briefly
-      match-copied turn e = record { kept = simp length-set; shows = all2-set h i (copied-shows R c m (slotAt ss i) ok q turn e); says = refl; marks = refl }
+      match-copied turn e = record { kept = simp length-set; shows = all2-set h i (copied-shows R c m (slotAt ss i) ok q turn e); says = refl; marks = refl; sent = unfold madeUpIn in refl }
 
-      match-broken : Match c ss (record { deed = Broken; message = some m; places = set ps i (left m) }) (act.outOfTurn i)
+      match-broken : Match c ss (record { deed = Broken; message = some m; places = set ps i (left m) }) (act.broken i)
       unfolding slotsAfter saidOf act.markOf markOf replySays whyKind replyKind replyPayload replyLength kindDue saying isOneOf any deedNumber pick briefly
-      match-broken = record { kept = simp length-set; shows = all2-set h i (reset-shows R m (slotAt ss i) (held-source R m (slotAt ss i) q) (q .room)); says = refl; marks = refl }
+      match-broken = record { kept = simp length-set; shows = all2-set h i (reset-shows R m (slotAt ss i) (held-source R m (slotAt ss i) q) (q .room)); says = refl; marks = refl; sent = unfold madeUpIn in refl }
 
       match-own : Match c ss (continuesIn ps c i m) (continuesAt (c .heard) ss (some i))
       unfolding continuesIn continuesAt
       match-own =
-          rw (← turn-same R c m (slotAt ss i) q, full-same R c m (slotAt ss i) ok q (full (grown m c)) refl)
-          (match-pick (itsTurn c m) (λ turn. match-pick (full (grown m c)) match-full (match-copied turn)) (λ out. match-broken))
+          rw (← awaited-same R c m (slotAt ss i) ok q)
+          (match-pick (awaited c m)
+          (λ turn. rw (full-same R c m (slotAt ss i) ok q turn (full (grown m c)) refl) (match-pick (full (grown m c)) (match-full turn) (match-copied turn)))
+          (λ out. match-broken))
 
     match-held : (i : ℕ) (p : Place) → Shows R p (slotAt ss i) → liveHeld R c p ≡ true → Match c ss (given (heldIn p) (nothingMoved Stray ps) (continuesIn ps c i)) (continuesAt (c .heard) ss (some i))
     unfolding given heldIn liveHeld
@@ -192,13 +217,20 @@ module _ (R : Rules) where
         subst (λ (o : Option ℕ). Match c ss (given (firstAt (liveHeld R c) ps) (nothingMoved Stray ps) (λ i. given (heldIn (getD ps i (idle 0))) (nothingMoved Stray ps) (continuesIn ps c i))) (continuesAt (c .heard) ss o))
         (live-found c h) (match-continue (firstAt (liveHeld R c) ps) refl)
 
+    short-sent : badFirst (c .heard) ≡ false → sizeOf (c .heard) ≤ 6 → 2 + sizeOf (c .heard) ≤ c .heard .length
+    short-sent good small = omega (arith, first-sent (c .heard) good, small)
+
+    long-sent : badFirst (c .heard) ≡ false → 6 < sizeOf (c .heard) → 8 ≤ c .heard .length
+    long-sent good long = omega (arith, first-sent (c .heard) good, long)
+
     pub match : Match c ss (tellOne R n ps c) (eventOf R ss c)
     unfolding tellOne eventOf
     match =
         match-pick (listed c)
-        (λ yes. match-pick (eqb (indexOf (c .heard)) 0)
-        (λ first. match-pick (badSize (c .heard)) (λ bad. match-bad)
-        (λ good. match-pick (leb (sizeOf (c .heard)) 6) (λ short. match-short (leb-true (sizeOf (c .heard)) 6 short))
-        (λ long. match-chosen (leb-false (sizeOf (c .heard)) 6 long) (good-size c good))))
-        (λ next. match-live))
+        (λ yes. match-pick (isEmpty (c .heard)) (λ none. match-bad)
+        (λ some. match-pick (eqb (indexOf (c .heard)) 0)
+        (λ first. match-pick (badFirst (c .heard)) (λ bad. match-bad)
+        (λ good. match-pick (leb (sizeOf (c .heard)) 6) (λ short. match-short (leb-true (sizeOf (c .heard)) 6 short) (short-sent good (leb-true (sizeOf (c .heard)) 6 short)))
+        (λ long. match-chosen (leb-false (sizeOf (c .heard)) 6 long) (good-size c good) (long-sent good (leb-false (sizeOf (c .heard)) 6 long)))))
+        (λ next. match-live)))
         (λ no. match-unlisted)

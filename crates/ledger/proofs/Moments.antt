@@ -107,7 +107,7 @@ saysRefused a = refusal (a .kind)
 briefly-says : (d : book.Deed) → saysRefused (briefly (kindDue d)) ≡ false
 unfolding saysRefused briefly kindDue
 briefly-says book.Unlisted = refl
-briefly-says book.BadSize = refl
+briefly-says book.BadFrame = refl
 briefly-says book.NoSlot = refl
 briefly-says book.Stray = refl
 briefly-says book.AtOnce = refl

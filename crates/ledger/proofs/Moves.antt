@@ -10,9 +10,9 @@ use Rattle.base.specs.Lists.{firstAt}
 use Rattle.base.proofs.Cases.{pick-all}
 use Rattle.book.proofs.Moves.{Within, within-or, within-first, is-unlisted, is-badly, is-refused, is-stray, Move, stays, at-once, opened, grows, delivers, breaks, Moves}
 use Rattle.session.specs.Rules.{Rules}
-use Rattle.session.specs.Frames.{indexOf, sizeOf, badSize}
+use Rattle.session.specs.Frames.{indexOf, sizeOf, isEmpty, badFirst}
 use Rattle.assembler.specs.Call.{Call, listed}
-use Rattle.ledger.specs.Ledger.{Message, grown, Place, idle, holds, heldIn, NoSlot, Stray, keyHeld, freeOfSource, free, late, takenBy, liveHeld, full, itsTurn, left, nothingMoved, opensIn, continuesIn, given, tellOne}
+use Rattle.ledger.specs.Ledger.{Message, grown, Place, idle, holds, heldIn, NoSlot, Stray, keyHeld, freeOfSource, free, late, takenBy, liveHeld, full, awaited, left, nothingMoved, opensIn, continuesIn, given, tellOne}
 
 pub within-taken : (R : Rules) (c : Call) (ps : List Place) → Within (length ps) (takenBy R c ps)
 unfolding takenBy
@@ -29,7 +29,7 @@ module _ (R : Rules) (n : ℕ) (ps : List Place) (c : Call) where
   move-own : (i : ℕ) (m : Message) → i < length ps → getD ps i (idle 0) ≡ holds m → Move (late R c) n ps c (continuesIn ps c i m)
   unfolding continuesIn left
   move-own i m u e =
-      pick-all (Move (late R c) n ps c) (itsTurn c m)
+      pick-all (Move (late R c) n ps c) (awaited c m)
       (pick-all (Move (late R c) n ps c) (full (grown m c)) (delivers i m (m .first .heard .«source_address») u e) (grows i m u e))
       (breaks i m (m .first .heard .«source_address») u e)
 
@@ -47,11 +47,12 @@ module _ (R : Rules) (n : ℕ) (ps : List Place) (c : Call) where
   unfolding tellOne nothingMoved
   move =
       pick-all (Move (late R c) n ps c) (listed c)
+      (pick-all (Move (late R c) n ps c) (isEmpty (c .heard)) (stays is-badly)
       (pick-all (Move (late R c) n ps c) (eqb (indexOf (c .heard)) 0)
-      (pick-all (Move (late R c) n ps c) (badSize (c .heard)) (stays is-badly)
+      (pick-all (Move (late R c) n ps c) (badFirst (c .heard)) (stays is-badly)
       (pick-all (Move (late R c) n ps c) (leb (sizeOf (c .heard)) 6) at-once
       (move-open (takenBy R c ps) (within-taken R c ps))))
-      (move-continue (firstAt (liveHeld R c) ps) (within-first (liveHeld R c) ps (idle 0))))
+      (move-continue (firstAt (liveHeld R c) ps) (within-first (liveHeld R c) ps (idle 0)))))
       (stays is-unlisted)
 
 pub moves : (R : Rules) → Moves (tellOne R) (late R)

@@ -23,7 +23,7 @@ use Rattle.assembler.specs.declared.Processed.{Processed}
 use Rattle.assembler.specs.declared.Received.{Received}
 use Rattle.assembler.specs.Call.{Call}
 use Rattle.assembler.specs.Slots.{Slot, Slots, within, impossible}
-use Rattle.assembler.specs.Step.{Event, notListed, rejected, shortMessage, poolFull, opened, stray, outOfTurn, copied, completed, eventOf, markOf, message, saidOf, outcome, stepIf, step}
+use Rattle.assembler.specs.Step.{Event, notListed, rejected, shortMessage, poolFull, opened, stray, broken, copied, completed, eventOf, markOf, message, saidOf, outcome, stepIf, step}
 use Rattle.assembler.specs.View.{slotsOf, whyKind, replyKind, shown, receiveOf}
 use Rattle.assembler.specs.Promises.{rulesOf, ReceivesHeard, ProcessesHeard}
 use Rattle.assembler.proofs.Promised.{received-by, processed-by}
@@ -42,7 +42,7 @@ module _ (f : Heard) (ss : List Slot) (k : Counters) where
   event-alike (opened i true) = record { unknown = refl; rejected = refl; exhausted = refl; lost = refl; expired = λ n. absurd (n refl) }
   event-alike (opened i false) = record { unknown = refl; rejected = refl; exhausted = refl; lost = refl; expired = λ n. refl }
   event-alike stray = record { unknown = refl; rejected = refl; exhausted = refl; lost = refl; expired = λ n. refl }
-  event-alike (outOfTurn i) = record { unknown = refl; rejected = refl; exhausted = refl; lost = refl; expired = λ n. refl }
+  event-alike (broken i) = record { unknown = refl; rejected = refl; exhausted = refl; lost = refl; expired = λ n. refl }
   event-alike (copied i) = record { unknown = refl; rejected = refl; exhausted = refl; lost = refl; expired = λ n. refl }
   event-alike (completed i) = record { unknown = refl; rejected = refl; exhausted = refl; lost = refl; expired = λ n. refl }
 

@@ -16,7 +16,7 @@ use Rattle.session.specs.Counting.{raised, expiredMark}
 use Rattle.assembler.specs.declared.Pool.{Pool}
 use Rattle.assembler.specs.Call.{Call}
 use Rattle.assembler.specs.Slots.{Slot, Slots, within, slotAt, impossible, openedSlot, resetSlot, copiedSlot}
-use Rattle.assembler.specs.Step.{Event, notListed, rejected, shortMessage, poolFull, opened, stray, outOfTurn, copied, completed, eventOf, slotsAfter, markOf, Said, unlisted, badFrame, noSlot, lost, ignored, consumed, message, saidOf, Outcome, outcome, stepIf, step}
+use Rattle.assembler.specs.Step.{Event, notListed, rejected, shortMessage, poolFull, opened, stray, broken, copied, completed, eventOf, slotsAfter, markOf, Said, unlisted, badFrame, noSlot, lost, ignored, consumed, message, saidOf, Outcome, outcome, stepIf, step}
 use Rattle.assembler.specs.View.{slotsOf, shown, receiveOf}
 use Rattle.ledger.specs.Assemblers.{Receive}
 
@@ -49,7 +49,7 @@ slotsBy q f ss shortMessage = q .atOnce ss
 slotsBy q f ss poolFull = ss
 slotsBy q f ss (opened i late) = set ss i (q .opening f (slotAt ss i))
 slotsBy q f ss stray = ss
-slotsBy q f ss (outOfTurn i) = set ss i (q .breaking (slotAt ss i))
+slotsBy q f ss (broken i) = set ss i (q .breaking (slotAt ss i))
 slotsBy q f ss (copied i) = set ss i (q .copying f (slotAt ss i))
 slotsBy q f ss (completed i) = set ss i (q .ending (q .copying f (slotAt ss i)))
 
@@ -60,7 +60,7 @@ markBy q shortMessage = Nothing
 markBy q poolFull = Exhausted
 markBy q (opened i late) = expiredMark late
 markBy q stray = q .straying
-markBy q (outOfTurn i) = Lost
+markBy q (broken i) = Lost
 markBy q (copied i) = Nothing
 markBy q (completed i) = Nothing
 
@@ -71,7 +71,7 @@ saidBy q f ss shortMessage = message (take (sizeOf f) (firstBytes f))
 saidBy q f ss poolFull = ignored noSlot
 saidBy q f ss (opened i late) = consumed
 saidBy q f ss stray = ignored lost
-saidBy q f ss (outOfTurn i) = ignored lost
+saidBy q f ss (broken i) = ignored lost
 saidBy q f ss (copied i) = consumed
 saidBy q f ss (completed i) = message (q .delivering f (slotAt ss i))
 
@@ -100,7 +100,7 @@ outcome-right f shortMessage p k = refl
 outcome-right f poolFull p k = refl
 outcome-right f (opened i late) p k = refl
 outcome-right f stray p k = refl
-outcome-right f (outOfTurn i) p k = refl
+outcome-right f (broken i) p k = refl
 outcome-right f (copied i) p k = refl
 outcome-right f (completed i) p k = refl
 

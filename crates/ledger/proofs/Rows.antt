@@ -21,7 +21,7 @@ use Rattle.assembler.specs.declared.Pool.{Pool}
 use Rattle.assembler.specs.declared.Received.{Received}
 use Rattle.assembler.specs.Call.{Call, CallOk}
 use Rattle.assembler.specs.Slots.{Slot, Slots, impossible}
-use Rattle.assembler.specs.Step.{Event, notListed, rejected, shortMessage, poolFull, opened, stray, outOfTurn, copied, completed, Why, ignored, consumed, Reply, padded, message, saidOf, outcome, stepIf, step}
+use Rattle.assembler.specs.Step.{Event, notListed, rejected, shortMessage, poolFull, opened, stray, broken, copied, completed, Why, ignored, consumed, Reply, padded, message, saidOf, outcome, stepIf, step}
 use Rattle.assembler.specs.View.{slotsOf, zeros, replyKind, replyPayload, replyLength, shown, receiveOf}
 use Rattle.assembler.specs.Promises.{rulesOf}
 use Rattle.batch.specs.declared.Batch.{Batch}
@@ -78,7 +78,7 @@ readable-said f ss shortMessage = readable-message _
 readable-said f ss poolFull = readable-ignored _
 readable-said f ss (opened i late) = readable-consumed
 readable-said f ss stray = readable-ignored _
-readable-said f ss (outOfTurn i) = readable-ignored _
+readable-said f ss (broken i) = readable-ignored _
 readable-said f ss (copied i) = readable-consumed
 readable-said f ss (completed i) = readable-message _
 

@@ -22,8 +22,8 @@ use Rattle.assembler.specs.Step as act
 use Rattle.assembler.specs.Step.{eventOf, slotsAfter, outcome, stepIf, step}
 use Rattle.assembler.specs.Runs.{World, afterOutcome, callOne, callAll}
 use Rattle.assembler.specs.View.{headOf}
-use Rattle.ledger.specs.Ledger.{Place, idle, holds, heldIn, late, Told, tellOne, Ledger, numbered, written, tell, tells, blank, ledgerOf, sayingDue}
-use Rattle.ledger.specs.Ledger.{Deed, Unlisted, BadSize, NoSlot, Stray, AtOnce, Opening, Restarting, Reclaiming, Copied, Delivered, Broken, deedNumber, isOneOf, asNumber, howMany, did, isSome, held}
+use Rattle.ledger.specs.Ledger.{Place, idle, holds, heldIn, late, Told, tellOne, Ledger, numbered, written, tell, tells, blank, ledgerOf, sayingDue, madeUp}
+use Rattle.ledger.specs.Ledger.{Deed, Unlisted, BadFrame, NoSlot, Stray, AtOnce, Opening, Restarting, Reclaiming, Copied, Delivered, Broken, deedNumber, isOneOf, asNumber, howMany, did, isSome, held}
 use Rattle.ledger.specs.Demand3.{inProgress, Agreed}
 use Rattle.ledger.specs.Assemblers.{AllOk, none, more, replySays, seenOf}
 use Rattle.ledger.proofs.Moves.{moves}
@@ -36,7 +36,7 @@ pub record Counted (k : Counters) (L : Ledger) : Type 0 where
   pub expired : k .«expired_sessions» ≡ did Reclaiming L
   pub lost : k .«lost_fragments» ≡ did Broken L + did Stray L
   pub exhausted : k .«pool_exhausted» ≡ did NoSlot L
-  pub rejected : k .«rejected_frames» ≡ did BadSize L
+  pub rejected : k .«rejected_frames» ≡ did BadFrame L
   pub unknown : k .«unknown_pgn» ≡ did Unlisted L
   pub expired≤ : k .«expired_sessions» ≤ numbered L
   pub lost≤ : k .«lost_fragments» ≤ numbered L
@@ -51,7 +51,7 @@ counted-blank kept = omega arith
 counted-call : (k : Counters) (L : Ledger) (c : Call) (d : Deed) (t : Told) → t .deed ≡ d → numbered L < most → Counted k L → Counted (raised (markOf d) k) (written L c t)
 unfolding raised raise most markOf written did howMany total isOneOf any deedNumber asNumber numbered
 counted-call k L c Unlisted t e l h = rw e (omega (arith, h))
-counted-call k L c BadSize t e l h = rw e (omega (arith, h))
+counted-call k L c BadFrame t e l h = rw e (omega (arith, h))
 counted-call k L c NoSlot t e l h = rw e (omega (arith, h))
 counted-call k L c Stray t e l h = rw e (omega (arith, h))
 counted-call k L c AtOnce t e l h = rw e (omega (arith, h))
@@ -69,6 +69,7 @@ pub record Follows (R : Rules) (w : World) (L : Ledger) : Type 0 where
   pub enough : w .pool .size ≤ length (w .pool .slots)
   pub shows : All2 (Shows R) (L .places) (within (w .pool))
   pub answers : map replySays (w .replies) ≡ map sayingDue (L .entries)
+  pub sent : any madeUp (L .entries) ≡ false
   pub counts : Counted (w .counters) L
 
 -- these slots, before any call
@@ -77,7 +78,7 @@ begun p = record { pool = p; counters = freshCounters; replies = [] }
 
 pub follows-begun : (R : Rules) (p : Slots) (kept : List ℕ) → p .size ≤ R .limit → p .size ≤ length (p .slots) → All2 (Shows R) (map idle kept) (within p) → Follows R (begun p) (blank kept)
 unfolding begun blank
-follows-begun R p kept h g shown = record { size = h; enough = g; shows = shown; answers = refl; counts = counted-blank kept }
+follows-begun R p kept h g shown = record { size = h; enough = g; shows = shown; answers = refl; sent = unfold any in refl; counts = counted-blank kept }
 
 -- step 1 never refuses
 pub never-impossible : (R : Rules) (w : World) (L : Ledger) → Follows R w L → impossible R (w .pool) ≡ false
@@ -106,6 +107,7 @@ module _ (R : Rules) (w : World) (L : Ledger) (c : Call) (ok : CallOk c) (h : Fo
         enough = omega (arith, length-append (slotsAfter (c .heard) (within (w .pool)) happened) (drop (w .pool .size) (w .pool .slots)), slots-length);
         shows = rw (take-at (slotsAfter (c .heard) (within (w .pool)) happened) (drop (w .pool .size) (w .pool .slots)) (w .pool .size) slots-length) (matched .shows);
         answers = cc (matched .says, h .answers);
+        sent = unfold any madeUp in rw (matched .sent) (h .sent);
         counts = rw (matched .marks) (counted-call (w .counters) L c (told .deed) told refl l (h .counts));
       }
 
@@ -154,6 +156,7 @@ agreed R kept cs w f =
     record {
       answers = f .answers;
       own = o .own;
+      sent = f .sent;
       five-counts-add-up = five-counts (ledgerOf R kept cs) (o .balance);
       exactly-one-fate = one-fate (ledgerOf R kept cs) (o .balance);
       holding =

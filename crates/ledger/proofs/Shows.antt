@@ -1,21 +1,28 @@
 -- A place of the ledger and a slot of the pool: when the slot shows the place, that the tests of both agree, that such a slot is possible, and that the
 -- slots which a call leaves show the places which the ledger leaves. Nothing is asked of the test for silence or of the test for the key.
 -- Assumes nothing.
-use mathlib.Core.Bool.{Bool, true, false}
+use mathlib.Core.Bool.{Bool, true, false, not, _&&_}
 use mathlib.Core.List.{_++_}
 use mathlib.Core.Path.{_≡_, refl, sym, ap, _∙_}
 use Prim.Native.Nat.{ℕ, suc, _+_, _*_, _-_, _≤_, _<_, min}
 use native.Mathlib.Omega.{arith}
-use lib.ListN.{length, take, length-drop}
+use lib.ListN.{length, take, drop, length-take, length-drop, length-append}
 use lib.Seq.{take-paste, length-paste, take-append-add, take-all, length-take-le}
 use borrow.Author.Tests.{eqb-true, leb-true, leb-false, le-leb, lt-leb, le-ltb, lt-ltb, eq-eqb}
 use Rattle.fast_packet.specs.FastPacket.{maxPayload}
 use Rattle.session.specs.Rules.{Key, Rules}
-use Rattle.session.specs.Frames.{sequenceOf, indexOf, sizeOf, firstBytes, nextBytes, keyOf}
-use Rattle.session.specs.Heads.{headKey, impossibleHead, hasKey, isSilent, isFree, isFreeOfSource, hasLiveKey, inTurn, openedHead, resetHead, wanted, copiedHead, allThere}
+use Rattle.session.specs.Frames.{sequenceOf, indexOf, sizeOf, firstBytes, nextBytes, keyOf, sentBytes}
+use Rattle.session.proofs.Sound.{and-left}
+use Rattle.session.proofs.Cuts.{sent-part, next-sent}
+use Rattle.session.specs.Heads.{headKey, impossibleHead, hasKey, isSilent, isFree, isFreeOfSource, hasLiveKey, inTurn, cutNext, isNext, openedHead, resetHead, wanted, copiedHead, allThere}
 use Rattle.assembler.specs.Call.{Call, CallOk}
 use Rattle.assembler.specs.Slots.{Slot, openedSlot, resetSlot, copiedSlot}
-use Rattle.ledger.specs.Ledger.{Message, newMessage, grown, latestOf, framesBytes, ownBytes, announced, Place, idle, holds, keyHeld, late, free, sourceAt, freeOfSource, liveHeld, left, full, itsTurn}
+use Rattle.ledger.specs.Ledger.{Message, newMessage, grown, latestOf, framesBytes, ownBytes, announced, Place, idle, holds, keyHeld, late, free, sourceAt, freeOfSource, liveHeld, left, full, itsTurn, lacks, awaited}
+
+-- where all eight bytes were sent, they are the frame's
+all-sent : (c : Call) → CallOk c → 8 ≤ c .heard .length → sentBytes (c .heard) ≡ c .heard .«data»
+unfolding sentBytes
+all-sent c ok h = take-all (c .heard .length) (c .heard .«data») (omega (arith, ok .eight, h))
 
 module _ (R : Rules) where
   -- ---- a place and its slot
@@ -112,9 +119,10 @@ module _ (R : Rules) where
   unfolding nextBytes
   next-length c ok = simp length-drop (rw (ok .eight))
 
-  pub opened-shows : (n : ℕ) (c : Call) (s : Slot) → CallOk c → 7 ≤ sizeOf (c .heard) → sizeOf (c .heard) ≤ maxPayload → length (s .buffer) ≡ maxPayload → Shows (holds (newMessage n c)) (openedSlot (c .heard) s)
+  pub opened-shows : (n : ℕ) (c : Call) (s : Slot) → CallOk c → 7 ≤ sizeOf (c .heard) → sizeOf (c .heard) ≤ maxPayload → 8 ≤ c .heard .length → length (s .buffer) ≡ maxPayload
+      → Shows (holds (newMessage n c)) (openedSlot (c .heard) s)
   unfolding newMessage openedSlot openedHead headKey keyOf announced latestOf ownBytes framesBytes sequenceOf
-  opened-shows n c s ok low high r =
+  opened-shows n c s ok low high all r =
       record {
         busy = refl;
         key = refl;
@@ -124,13 +132,13 @@ module _ (R : Rules) where
         current = refl;
         time = refl;
         room = length-paste (s .buffer) 0 (firstBytes (c .heard)) 6 (omega arith) (omega (arith, first-length c ok)) ∙ r;
-        bytes = take-paste (s .buffer) 0 (firstBytes (c .heard)) 6 (omega arith) (omega (arith, first-length c ok));
+        bytes = take-paste (s .buffer) 0 (firstBytes (c .heard)) 6 (omega arith) (omega (arith, first-length c ok)) ∙ (unfold firstBytes in rw (all-sent c ok all));
         low = low;
         high = high;
         missing = omega arith;
       }
 
-  -- a continuation in turn
+  -- a continuation that the message waits for
   module _ (c : Call) (m : Message) (s : Slot) (ok : CallOk c) (h : HeldSlot m s) where
     wants : wanted (s .head) ≡ min 7 (announced m - (6 + 7 * length (m .later)))
     unfolding wanted
@@ -141,61 +149,110 @@ module _ (R : Rules) where
     copied-room = length-paste (s .buffer) (s .head .«current_size») (nextBytes (c .heard)) (wanted (s .head))
         (omega (arith, wants, h .current, h .missing, h .high, h .room)) (omega (arith, wants, next-length c ok)) ∙ h .room
 
-    copied-bytes : take (copiedSlot (c .heard) s .head .«current_size») (copiedSlot (c .heard) s .buffer) ≡ ownBytes m ++ take (wanted (s .head)) (nextBytes (c .heard))
-    unfolding copiedSlot copiedHead
-    copied-bytes = take-paste (s .buffer) (s .head .«current_size») (nextBytes (c .heard)) (wanted (s .head))
-        (omega (arith, h .current, h .missing, h .high, h .room)) (omega (arith, wants, next-length c ok)) ∙ rw (h .bytes)
-
     own-length : length (ownBytes m) ≡ 6 + 7 * length (m .later)
     own-length = ap length (sym (h .bytes)) ∙ length-take-le (s .head .«current_size») (s .buffer) (omega (arith, h .current, h .missing, h .high, h .room)) ∙ h .current
 
-    -- all is there exactly when the own frames' bytes reach the announced size
-    pub full-same : (b : Bool) → full (grown m c) ≡ b → allThere (copiedHead (c .heard) (s .head)) ≡ b
-    unfolding full grown copiedHead announced allThere
-    full-same true e = le-leb (s .head .«expected_size») (s .head .«current_size» + wanted (s .head)) (omega (arith, leb-true (sizeOf (m .first .heard)) (6 + 7 * suc (length (m .later))) e, wants, h .expected, h .current))
-    full-same false e = lt-leb (s .head .«expected_size») (s .head .«current_size» + wanted (s .head)) (omega (arith, leb-false (sizeOf (m .first .heard)) (6 + 7 * suc (length (m .later))) e, wants, h .expected, h .current))
+    lacks-same : lacks c m ≡ cutNext (c .heard) (s .head)
+    unfolding lacks cutNext
+    lacks-same = rw (own-length, wants)
 
-    pub copied-shows : itsTurn c m ≡ true → full (grown m c) ≡ false → Shows (holds (grown m c)) (copiedSlot (c .heard) s)
-    unfolding full grown copiedSlot copiedHead announced itsTurn latestOf ownBytes framesBytes headKey
-    copied-shows turn e =
-        let seven : wanted (s .head) ≡ 7 = omega (arith, leb-false (sizeOf (m .first .heard)) (6 + 7 * suc (length (m .later))) e, wants) in
-        record {
-          busy = h .busy;
-          key = h .key;
-          sequence = h .sequence;
-          expected = h .expected;
-          index = omega (arith, eqb-true (indexOf (c .heard)) (length (m .later) + 1) turn);
-          current = omega (arith, seven, h .current);
-          time = refl;
-          room = copied-room;
-          bytes = copied-bytes ∙ rw (seven, take-all 7 (nextBytes (c .heard)) (omega (arith, next-length c ok)));
-          low = h .low;
-          high = h .high;
-          missing = omega (arith, leb-false (sizeOf (m .first .heard)) (6 + 7 * suc (length (m .later))) e);
-        }
+    pub awaited-same : awaited c m ≡ isNext (c .heard) (s .head)
+    unfolding awaited isNext itsTurn inTurn
+    awaited-same = rw (lacks-same, h .index)
 
-    -- what is delivered is the own frames' bytes, cut at the announced size
-    pub cut-same : full (grown m c) ≡ true → take (s .head .«expected_size») (copiedSlot (c .heard) s .buffer) ≡ take (announced m) (ownBytes m ++ nextBytes (c .heard))
-    unfolding full grown copiedSlot copiedHead announced
-    cut-same e =
-        let reach : s .head .«current_size» + wanted (s .head) ≡ announced m = omega (arith, leb-true (sizeOf (m .first .heard)) (6 + 7 * suc (length (m .later))) e, wants, h .current, h .missing) in
-        let all : length (ownBytes m) + wanted (s .head) ≡ announced m = omega (arith, reach, own-length, h .current) in
-        ap (λ (k : ℕ). take k (copiedSlot (c .heard) s .buffer)) (h .expected ∙ sym reach) ∙ copied-bytes
-        ∙ sym (take-append-add (ownBytes m) (nextBytes (c .heard)) (wanted (s .head))) ∙ ap (λ (k : ℕ). take k (ownBytes m ++ nextBytes (c .heard))) all
+    module _ (turn : awaited c m ≡ true) where
+      -- every byte that it needs was sent
+      sent : 1 + wanted (s .head) ≤ c .heard .length
+      sent = next-sent (c .heard) (s .head) (sym awaited-same ∙ turn)
+
+      sent-long : length (drop 1 (sentBytes (c .heard))) ≡ min (c .heard .length) 8 - 1
+      unfolding sentBytes
+      sent-long = simp (length-drop, length-take) (rw (ok .eight))
+
+      copied-bytes : take (copiedSlot (c .heard) s .head .«current_size») (copiedSlot (c .heard) s .buffer) ≡ ownBytes m ++ take (wanted (s .head)) (drop 1 (sentBytes (c .heard)))
+      unfolding copiedSlot copiedHead nextBytes sentBytes
+      copied-bytes = take-paste (s .buffer) (s .head .«current_size») (drop 1 (c .heard .«data»)) (wanted (s .head))
+          (omega (arith, h .current, h .missing, h .high, h .room)) (unfold nextBytes in omega (arith, wants, next-length c ok))
+          ∙ rw (h .bytes, sent-part 1 (wanted (s .head)) (c .heard .length) (c .heard .«data») sent)
+
+      grown-bytes : ownBytes (grown m c) ≡ ownBytes m ++ drop 1 (sentBytes (c .heard))
+      unfolding grown ownBytes framesBytes
+      grown-bytes = refl
+
+      grown-long : length (ownBytes (grown m c)) ≡ 6 + 7 * length (m .later) + (min (c .heard .length) 8 - 1)
+      grown-long = ap length grown-bytes ∙ length-append (ownBytes m) (drop 1 (sentBytes (c .heard))) ∙ omega (arith, own-length, sent-long)
+
+      reaches : full (grown m c) ≡ true → announced m ≤ length (ownBytes (grown m c))
+      unfolding full grown announced
+      reaches e = leb-true (announced (grown m c)) (length (ownBytes (grown m c))) e
+
+      falls-short : full (grown m c) ≡ false → length (ownBytes (grown m c)) < announced m
+      unfolding full grown announced
+      falls-short e = leb-false (announced (grown m c)) (length (ownBytes (grown m c))) e
+
+      -- all is there exactly when the own frames' bytes reach the announced size
+      pub full-same : (b : Bool) → full (grown m c) ≡ b → allThere (copiedHead (c .heard) (s .head)) ≡ b
+      unfolding copiedHead allThere
+      full-same true e = le-leb (s .head .«expected_size») (s .head .«current_size» + wanted (s .head)) (omega (arith, reaches e, grown-long, wants, h .expected, h .current))
+      full-same false e = lt-leb (s .head .«expected_size») (s .head .«current_size» + wanted (s .head)) (omega (arith, falls-short e, grown-long, wants, sent, h .expected, h .current))
+
+      -- where more is missing all seven bytes were needed, and sent
+      seven : full (grown m c) ≡ false → wanted (s .head) ≡ 7
+      seven e = omega (arith, falls-short e, grown-long, wants, sent)
+
+      seven-sent : full (grown m c) ≡ false → take (wanted (s .head)) (drop 1 (sentBytes (c .heard))) ≡ drop 1 (sentBytes (c .heard))
+      seven-sent e = take-all (wanted (s .head)) (drop 1 (sentBytes (c .heard))) (omega (arith, seven e, sent-long))
+
+      more-missing : full (grown m c) ≡ false → 6 + 7 * suc (length (m .later)) < announced m
+      more-missing e = omega (arith, falls-short e, grown-long, sent, seven e)
+
+      in-turn : indexOf (c .heard) ≡ length (m .later) + 1
+      unfolding awaited itsTurn
+      in-turn = eqb-true (indexOf (c .heard)) (length (m .later) + 1) (and-left (itsTurn c m) (not (lacks c m)) turn)
+
+      pub copied-shows : full (grown m c) ≡ false → Shows (holds (grown m c)) (copiedSlot (c .heard) s)
+      unfolding grown copiedSlot copiedHead announced latestOf ownBytes framesBytes headKey
+      copied-shows e =
+          record {
+            busy = h .busy;
+            key = h .key;
+            sequence = h .sequence;
+            expected = h .expected;
+            index = omega (arith, in-turn);
+            current = omega (arith, seven e, h .current);
+            time = refl;
+            room = copied-room;
+            bytes = copied-bytes ∙ rw (seven-sent e);
+            low = h .low;
+            high = h .high;
+            missing = more-missing e;
+          }
+
+      -- what is delivered is the own frames' bytes, cut at the announced size
+      pub cut-same : full (grown m c) ≡ true → take (s .head .«expected_size») (copiedSlot (c .heard) s .buffer) ≡ take (announced m) (ownBytes m ++ drop 1 (sentBytes (c .heard)))
+      unfolding copiedSlot copiedHead
+      cut-same e =
+          let reach : s .head .«current_size» + wanted (s .head) ≡ announced m = omega (arith, reaches e, grown-long, wants, h .current, h .missing) in
+          let all : length (ownBytes m) + wanted (s .head) ≡ announced m = omega (arith, reach, own-length, h .current) in
+          ap (λ (k : ℕ). take k (copiedSlot (c .heard) s .buffer)) (h .expected ∙ sym reach) ∙ copied-bytes
+          ∙ sym (take-append-add (ownBytes m) (drop 1 (sentBytes (c .heard))) (wanted (s .head))) ∙ ap (λ (k : ℕ). take k (ownBytes m ++ drop 1 (sentBytes (c .heard)))) all
 
   -- a slot reset after a copy still has the message's source
   pub copied-source : (c : Call) (m : Message) (s : Slot) → HeldSlot m s → copiedSlot (c .heard) s .head .«source_address» ≡ grown m c .first .heard .«source_address»
   unfolding copiedSlot copiedHead grown
   copied-source c m s q = held-source m s q
 
-  pub turn-same : (c : Call) (m : Message) (s : Slot) → HeldSlot m s → itsTurn c m ≡ inTurn (c .heard) (s .head)
-  unfolding itsTurn inTurn
-  turn-same c m s q = rw (q .index)
-
   -- ---- what is said
 
-  pub short-cut : (c : Call) → CallOk c → take 6 (firstBytes (c .heard)) ≡ firstBytes (c .heard)
-  short-cut c ok = take-all 6 (firstBytes (c .heard)) (omega (arith, first-length c ok))
+  -- a message of up to six bytes, of which every byte was sent
+  pub short-cut : (c : Call) → sizeOf (c .heard) ≤ 6 → 2 + sizeOf (c .heard) ≤ c .heard .length
+      → take (sizeOf (c .heard)) (firstBytes (c .heard)) ≡ take (sizeOf (c .heard)) (take 6 (drop 2 (sentBytes (c .heard))))
+  unfolding firstBytes sentBytes
+  short-cut c small h = sym (sent-part 0 (sizeOf (c .heard)) 6 _ (omega (arith, small)) ∙ sent-part 2 (sizeOf (c .heard)) (c .heard .length) (c .heard .«data») h)
+
+  pub short-full : (n : ℕ) (c : Call) → CallOk c → sizeOf (c .heard) ≤ 6 → 2 + sizeOf (c .heard) ≤ c .heard .length → full (newMessage n c) ≡ true
+  unfolding full newMessage announced ownBytes framesBytes sentBytes
+  short-full n c ok small h = le-leb (sizeOf (c .heard)) _ (simp (length-take, length-drop) (omega (arith, ok .eight)))
 
   -- the length of a message is the announced size: of one delivered at once ...
   pub short-due : (c : Call) → CallOk c → sizeOf (c .heard) ≤ 6 → length (take (sizeOf (c .heard)) (firstBytes (c .heard))) ≡ sizeOf (c .heard)

@@ -17,12 +17,12 @@ use Rattle.session.specs.Heads.{openedHead, copiedHead}
 use Rattle.session.specs.Counting.{freshCounters}
 use Rattle.assembler.specs.declared.Received.{Received}
 use Rattle.assembler.specs.Call.{Call}
-use Rattle.assembler.specs.Slots.{Slot, resetSlot}
+use Rattle.assembler.specs.Slots.{Slot, within, resetSlot}
 use Rattle.assembler.specs.Making.{freshPool}
-use Rattle.assembler.specs.View.{replyBy, replyOf, receiveOf}
-use Rattle.ledger.specs.Demand2.{Answered, Ignored, FragmentConsumed, MessageComplete, whole, answerOf, Original, happens, originalIf, originalOf, asIgnored, readReply, asOriginal}
+use Rattle.assembler.specs.View.{slotsOf, replyBy, replyOf, receiveOf}
+use Rattle.ledger.specs.Demand2.{originalEvent, continuedAt, cutAt, neededCut, Answered, Ignored, FragmentConsumed, MessageComplete, whole, answerOf, Original, happens, originalIf, originalOf, asIgnored, readReply, asOriginal}
 use Rattle.ledger.specs.Assemblers.{Receive, Demand2, AlwaysIgnores, OneKind, NeverStores}
-use Rattle.ledger.proofs.Demand2.{call-as}
+use Rattle.ledger.proofs.Demand2.{none-cut, call-as}
 use Rattle.ledger.proofs.EveryFate.{ran, frame, announces, goes-on}
 use Rattle.ledger.proofs.Parts.{Parts, untouched, slotsBy, markBy, saidBy, outcomeBy, stepBy, by}
 use Rattle.ledger.proofs.Wrong.{completes}
@@ -35,7 +35,7 @@ first f c = f (c .pgns) (c .heard) (freshPool 4) freshCounters
 
 pub meets-demand-2 : Demand2 (receiveOf base)
 unfolding Demand2
-meets-demand-2 pgns heard pool counters = call-as base pgns heard pool counters
+meets-demand-2 pgns heard pool counters whole = call-as base pgns heard pool counters whole
 
 -- ---- one fixed kind of answer
 
@@ -51,11 +51,11 @@ firstly c = originalOf base (c .pgns) (c .heard) (freshPool 4) freshCounters
 
 -- 00 06 and six bytes are a message; 00 00 is ignored
 six-completes : isMessage (firstly (announces 6 0 35) .answer) ≡ true
-unfolding ran announces frame isMessage originalOf originalIf happens answerOf whole
+unfolding ran announces frame isMessage originalOf originalIf originalEvent continuedAt happens answerOf whole
 six-completes = refl
 
 nothing-completes : isMessage (firstly (announces 0 0 35) .answer) ≡ false
-unfolding ran announces frame isMessage originalOf originalIf happens answerOf whole
+unfolding ran announces frame isMessage originalOf originalIf originalEvent continuedAt happens answerOf whole
 nothing-completes = refl
 
 -- whether an answer is a message is told by its kind
@@ -69,19 +69,26 @@ by-kind kind.Lost payload length = refl
 by-kind kind.FragmentConsumed payload length = refl
 by-kind kind.MessageComplete payload length = refl
 
-module _ (f : Receive) (meets : Demand2 f) where
-  as-steps : (c : Call) → asOriginal (first f c) ≡ firstly c
-  unfolding Demand2
-  as-steps c = meets (c .pgns) (c .heard) (freshPool 4) freshCounters
+-- no byte that the call needs was cut
+abbrev Whole : Call → Type 0
+Whole c = neededCut base (within (slotsOf (freshPool 4))) (record { pgns = c .pgns; heard = c .heard }) ≡ false
 
-  answers-as : (c : Call) → readReply (replyOf (first f c)) ≡ firstly c .answer
-  answers-as c = unfold asOriginal in ap (λ (o : Original). o .answer) (as-steps c)
+announces-whole : (n : ℕ) → Whole (announces n 0 35)
+announces-whole n = none-cut base (within (slotsOf (freshPool 4))) (announces n 0 35) (unfold announces frame in refl)
+
+module _ (f : Receive) (meets : Demand2 f) where
+  as-steps : (c : Call) → Whole c → asOriginal (first f c) ≡ firstly c
+  unfolding Demand2
+  as-steps c whole = meets (c .pgns) (c .heard) (freshPool 4) freshCounters whole
+
+  answers-as : (c : Call) → Whole c → readReply (replyOf (first f c)) ≡ firstly c .answer
+  answers-as c whole = unfold asOriginal in ap (λ (o : Original). o .answer) (as-steps c whole)
 
   -- the two frames are not answered alike
   not-alike : (b : Bool) → ((c : Call) → isMessage (readReply (replyOf (first f c))) ≡ b) → ⊥
   not-alike b same =
-      let six : b ≡ true = sym (same (announces 6 0 35)) ∙ ap isMessage (answers-as (announces 6 0 35)) ∙ six-completes in
-      let nothing : b ≡ false = sym (same (announces 0 0 35)) ∙ ap isMessage (answers-as (announces 0 0 35)) ∙ nothing-completes in
+      let six : b ≡ true = sym (same (announces 6 0 35)) ∙ ap isMessage (answers-as (announces 6 0 35) (announces-whole 6)) ∙ six-completes in
+      let nothing : b ≡ false = sym (same (announces 0 0 35)) ∙ ap isMessage (answers-as (announces 0 0 35) (announces-whole 0)) ∙ nothing-completes in
       true≢false (sym six ∙ nothing)
 
   pub rejects-always-ignored : AlwaysIgnores f → ⊥
@@ -105,7 +112,7 @@ module _ (f : Receive) (meets : Demand2 f) where
 
 -- the first of P10's frames leaves its first byte in the pool
 seven-stores : getD (firstly (announces 7 0 35) .pool .bytes) 0 0 ≡ 1
-unfolding ran announces frame originalOf originalIf happens
+unfolding ran announces frame originalOf originalIf originalEvent continuedAt happens
 seven-stores = refl
 
 fresh-byte : getD (freshPool 4 .bytes) 0 0 ≡ 0
@@ -118,7 +125,7 @@ rejects-never-stores f meets never =
     let c : Call = announces 7 0 35 in
     let kept : first f c .pool .bytes ≡ freshPool 4 .bytes = never (c .pgns) (c .heard) (freshPool 4) freshCounters in
     let byte : (getD (first f c .pool .bytes) 0 0 ≡ getD (freshPool 4 .bytes) 0 0) = ap (λ (l : List ℕ). getD l 0 0) kept in
-    let stored : getD (first f c .pool .bytes) 0 0 ≡ getD (firstly c .pool .bytes) 0 0 = unfold asOriginal in ap (λ (o : Original). getD (o .pool .bytes) 0 0) (as-steps f meets c) in
+    let stored : getD (first f c .pool .bytes) 0 0 ≡ getD (firstly c .pool .bytes) 0 0 = unfold asOriginal in ap (λ (o : Original). getD (o .pool .bytes) 0 0) (as-steps f meets c (announces-whole 7)) in
     omega (arith, stored, byte, seven-stores, fresh-byte)
 
 -- the receive call that only lacks the stores: it gives another message on P10's frames
@@ -149,7 +156,7 @@ unfolding ran announces goes-on frame by stepBy outcomeBy slotsBy markBy saidBy 
 nothing-says = refl
 
 steps-say : lastOf (originalOf base (goes-on 1 1 35 .pgns) (goes-on 1 1 35 .heard) (halfway .pool) (halfway .counters) .answer) ≡ 7
-unfolding ran announces goes-on frame by stepBy outcomeBy slotsBy markBy saidBy untouched storesNothing halfway originalOf originalIf happens answerOf whole lastOf
+unfolding ran announces goes-on frame by stepBy outcomeBy slotsBy markBy saidBy untouched storesNothing halfway originalOf originalIf originalEvent continuedAt happens answerOf whole lastOf
 steps-say = refl
 
 pub rejects-stores-nothing : Demand2 (by storesNothing) → ⊥
@@ -157,5 +164,5 @@ unfolding Demand2
 rejects-stores-nothing meets =
     let c : Call = goes-on 1 1 35 in
     let same : lastOf (readReply (replyOf (by storesNothing (c .pgns) (c .heard) (halfway .pool) (halfway .counters)))) ≡ lastOf (originalOf base (c .pgns) (c .heard) (halfway .pool) (halfway .counters) .answer) =
-    unfold asOriginal in ap (λ (o : Original). lastOf (o .answer)) (meets (c .pgns) (c .heard) (halfway .pool) (halfway .counters)) in
+    unfold asOriginal in ap (λ (o : Original). lastOf (o .answer)) (meets (c .pgns) (c .heard) (halfway .pool) (halfway .counters) (none-cut base (within (slotsOf (halfway .pool))) c (unfold goes-on frame in refl))) in
     omega (arith, same, nothing-says, steps-say)

@@ -1,4 +1,5 @@
 -- What theorems beside demand 3 speak of: any assembler by value, with what demands 2 and 3 ask of it; and the steps over slots.
+use mathlib.Core.Bool.{false}
 use mathlib.Core.List.{List, [], _∷_, map}
 use mathlib.Core.Path.{_≡_}
 use Prim.Native.Nat.{ℕ, _≤_}
@@ -14,9 +15,9 @@ use Rattle.assembler.specs.Call.{Call, CallOk}
 use Rattle.assembler.specs.Slots.{within}
 use Rattle.assembler.specs.Step.{Reply}
 use Rattle.assembler.specs.Runs.{Assembler, World, freshWorld, callAll}
-use Rattle.assembler.specs.View.{headOf, replyKind, replyPayload, replyLength, replyOf}
+use Rattle.assembler.specs.View.{slotsOf, headOf, replyKind, replyPayload, replyLength, replyOf}
 use Rattle.ledger.specs.Ledger.{Saying, ledgerOf}
-use Rattle.ledger.specs.Demand2.{Ignored, originalOf, readReply, asOriginal}
+use Rattle.ledger.specs.Demand2.{Ignored, originalOf, neededCut, readReply, asOriginal}
 use Rattle.ledger.specs.Demand3.{Seen, Closes}
 use Rattle.ledger.specs.Runs.{State, start, seenIn, afterCall}
 
@@ -27,9 +28,11 @@ Receive = List ℕ → Heard → Pool → Counters → Received
 -- ---- demand 2, and the assemblers that document 01 says must not pass it: "an assembler that always says Ignored, or one fixed answer (demand 2, on a six-byte
 -- message); one that never stores a fragment (2, on seven bytes)"
 
--- its answer, with the four names of document 02's No. 2 read as Ignored, its pool and its counters are those of document 01's steps, at every input
+-- its answer, with the four names of document 02's No. 2 read as Ignored, its pool and its counters are those of document 01's steps, at every input of which no
+-- byte that is needed was cut
 unfoldable pub Demand2 : Receive → Type 0
-Demand2 f = (pgns : List ℕ) (heard : Heard) (pool : Pool) (counters : Counters) → asOriginal (f pgns heard pool counters) ≡ originalOf base pgns heard pool counters
+Demand2 f = (pgns : List ℕ) (heard : Heard) (pool : Pool) (counters : Counters) → neededCut base (within (slotsOf pool)) (record { pgns = pgns; heard = heard }) ≡ false
+    → asOriginal (f pgns heard pool counters) ≡ originalOf base pgns heard pool counters
 
 -- it says Ignored, by whichever of the four names, whatever it hears
 unfoldable pub AlwaysIgnores : Receive → Type 0

@@ -1,22 +1,47 @@
--- Demand 2 after document 02's No. 2: "Demand 2 then reads the four as Ignored." Document 01's own answers, which are the original's, stand here for that
--- reading alone; no contract cites this file.
-use mathlib.Core.Bool.{Bool, true, false}
+-- Demand 2 after document 02's No. 2, "Demand 2 then reads the four as Ignored", and its No. 5, of frames of which no byte that is needed was cut.
+-- Document 01's own steps and answers, which are the original's, stand here for that reading alone; no contract cites this file.
+use mathlib.Core.Bool.{Bool, true, false, not, _&&_}
 use mathlib.Core.List.{List, [], _++_}
+use mathlib.Core.Option.{Option, none, some}
 use Prim.Native.Nat.{ℕ}
 use lib.ListN.{length, take, drop}
+use lib.Dec.{eqb, leb}
 use Rattle.base.specs.Answer.{Answer, gives, refuses}
+use Rattle.base.specs.Pick.{pick}
 use Rattle.session.specs.declared.Heard.{Heard}
 use Rattle.session.specs.declared.Counters.{Counters}
 use Rattle.session.specs.Rules.{Rules}
-use Rattle.session.specs.Frames.{sizeOf, firstBytes}
+use Rattle.session.specs.Frames.{indexOf, sizeOf, badSize, firstBytes, isEmpty, cutFirst}
+use Rattle.session.specs.Heads.{inTurn, cutNext, copiedHead, allThere}
 use Rattle.session.specs.Counting.{raised}
 use Rattle.assembler.specs.declared.Pool.{Pool}
 use Rattle.assembler.specs.declared.Received.{Received}
-use Rattle.assembler.specs.Call.{Call}
-use Rattle.assembler.specs.Slots.{Slot, Slots, within, slotAt, impossible, copiedSlot}
-use Rattle.assembler.specs.Step.{Event, notListed, rejected, shortMessage, poolFull, opened, stray, outOfTurn, copied, completed, eventOf, slotsAfter, markOf, Said, padded}
+use Rattle.assembler.specs.Call.{Call, listed}
+use Rattle.assembler.specs.Slots.{Slot, Slots, within, slotAt, impossible, chosen, live, copiedSlot}
+use Rattle.assembler.specs.Step.{Event, notListed, rejected, shortMessage, poolFull, opened, stray, broken, copied, completed, opensAt, slotsAfter, markOf, Said, padded}
 use Rattle.assembler.specs.Step as now
 use Rattle.assembler.specs.View.{slotsOf, poolOf, replyOf}
+
+-- ---- document 01's steps, in its own words: they know no length, and the original takes eight bytes
+
+-- step 4: "None: a stray .. Index not last index + 1: the slot is reset .. Otherwise copy ..; MessageComplete with reset when all is there, else FragmentConsumed"
+unfoldable pub continuedAt : Heard → List Slot → Option ℕ → Event
+continuedAt f ss none = stray
+continuedAt f ss (some i) =
+    pick (inTurn f (slotAt ss i .head))
+    (pick (allThere (copiedHead f (slotAt ss i .head))) (completed i) (copied i))
+    (broken i)
+
+-- "PGN not listed"; "Index 0": "0 or over 223", "Size 1 to 6: MessageComplete at once .. Otherwise take"; "Index 1 to 31. Take the first .."
+unfoldable pub originalEvent : Rules → List Slot → Call → Event
+originalEvent R ss c =
+    pick (listed c)
+    (pick (eqb (indexOf (c .heard)) 0)
+    (pick (badSize (c .heard)) rejected
+    (pick (leb (sizeOf (c .heard)) 6) shortMessage
+    (opensAt R (c .heard) ss (chosen R (c .heard) ss))))
+    (continuedAt (c .heard) ss (live R (c .heard) ss)))
+    notListed
 
 -- ---- document 01's answers, in its own words
 
@@ -38,7 +63,7 @@ answerOf f ss shortMessage = whole (take (sizeOf f) (firstBytes f))
 answerOf f ss poolFull = Ignored
 answerOf f ss (opened i late) = FragmentConsumed
 answerOf f ss stray = Ignored
-answerOf f ss (outOfTurn i) = Ignored
+answerOf f ss (broken i) = Ignored
 answerOf f ss (copied i) = FragmentConsumed
 answerOf f ss (completed i) = whole (take (slotAt ss i .head .«expected_size») (copiedSlot f (slotAt ss i) .buffer))
 
@@ -60,10 +85,24 @@ happens e f p k =
 -- step 1 comes first: "the pool comes back unchanged with 1"
 unfoldable pub originalIf : Bool → Rules → Slots → Counters → Call → Original
 originalIf true R p k c = record { answer = refuses 1 []; pool = poolOf p; counters = k }
-originalIf false R p k c = happens (eventOf R (within p) c) (c .heard) p k
+originalIf false R p k c = happens (originalEvent R (within p) c) (c .heard) p k
 
 unfoldable pub originalOf : Rules → List ℕ → Heard → Pool → Counters → Original
 originalOf R pgns f p k = originalIf (impossible R (slotsOf p)) R (slotsOf p) k (record { pgns = pgns; heard = f })
+
+-- ---- where document 02's No. 5 parts from it: a byte that is needed was cut
+
+-- of a continuation: one that its live session needs, and waits for
+unfoldable pub cutAt : Heard → List Slot → Option ℕ → Bool
+cutAt f ss none = false
+cutAt f ss (some i) = inTurn f (slotAt ss i .head) && cutNext f (slotAt ss i .head)
+
+-- of a listed frame: its first byte; of a first frame with a good size: a byte of the message (cut before its size, that is filled up as 255, and both reject it)
+unfoldable pub neededCut : Rules → List Slot → Call → Bool
+neededCut R ss c =
+    listed c
+    && pick (isEmpty (c .heard)) true
+    (pick (eqb (indexOf (c .heard)) 0) (not (badSize (c .heard)) && cutFirst (c .heard)) (cutAt (c .heard) ss (live R (c .heard) ss)))
 
 -- ---- the reading
 

@@ -1,22 +1,22 @@
--- The ledger of a run, told from the calls alone by document 01's steps. It knows no buffer, no running size, no index and no counter:
+-- The ledger of a run, told from the calls alone by document 01's steps, with the cut frames of document 02's No. 5. It knows no buffer, no running size, no index and no counter:
 -- of each place it knows only which message it holds, and of each message which call began it and which frames are its own.
 -- Messages, places, deeds and entries are those of the crate `book`, over the calls.
 use mathlib.Core.Bool.{Bool, true, false, not, _&&_}
 use mathlib.Core.List.{List, [], _∷_, _++_}
 use mathlib.Core.Option.{Option, none, some}
-use Prim.Native.Nat.{ℕ, _+_, _*_}
-use lib.ListN.{length, getD, take, set}
-use lib.Dec.{eqb, leb}
+use Prim.Native.Nat.{ℕ, _+_, _-_, min}
+use lib.ListN.{length, getD, take, drop, set}
+use lib.Dec.{eqb, ltb, leb}
 use Rattle.base.specs.Pick.{pick}
 use Rattle.base.specs.Lists.{firstAt, orElse}
 use Rattle.book.specs.Book as book
-pub use Rattle.book.specs.Book.{idle, holds, Deed, Unlisted, BadSize, NoSlot, Stray, AtOnce, Opening, Restarting, Reclaiming, Copied, Delivered, Broken}
+pub use Rattle.book.specs.Book.{idle, holds, Deed, Unlisted, BadFrame, NoSlot, Stray, AtOnce, Opening, Restarting, Reclaiming, Copied, Delivered, Broken}
 unfoldable pub use Rattle.book.specs.Book.{deedNumber, isOneOf, opens, begins, copies, ends, newMessage, grown, heldIn, openingAt, numbered, written, tell, tells, blank}
 unfoldable pub use Rattle.book.specs.Book.{asNumber, howMany, did, openings, isSome, held, isMessage, wasOpened, fatesOf, belongs, framesOf, Owned, OwnBook}
 use Rattle.session.specs.declared.Kind.{Kind}
 use Rattle.session.specs.declared.Kind.the-variants.{NotListed, Rejected, PoolFull, Lost, FragmentConsumed, MessageComplete}
 use Rattle.session.specs.Rules.{Rules}
-use Rattle.session.specs.Frames.{keyOf, indexOf, sizeOf, badSize, firstBytes, nextBytes}
+use Rattle.session.specs.Frames.{keyOf, indexOf, sizeOf, sentBytes, isEmpty, badFirst}
 use Rattle.assembler.specs.Call.{Call, listed}
 use Rattle.assembler.specs.Step.{padded}
 use Rattle.assembler.specs.View.{zeros}
@@ -38,10 +38,11 @@ Ledger = book.Ledger Call
 
 -- ---- what 01's steps make of a message and a place
 
--- its own frames' bytes, in the order of the calls: six of the first frame, seven of each continuation
+-- its own frames' bytes as they were sent, in the order of the calls: up to six of the first frame, after sequence and size; up to seven of each
+-- continuation, after the sequence
 unfoldable pub framesBytes : Call → List Call → List ℕ
-framesBytes first [] = take 6 (firstBytes (first .heard))
-framesBytes first (c ∷ older) = framesBytes first older ++ nextBytes (c .heard)
+framesBytes first [] = take 6 (drop 2 (sentBytes (first .heard)))
+framesBytes first (c ∷ older) = framesBytes first older ++ drop 1 (sentBytes (c .heard))
 
 unfoldable pub ownBytes : Message → List ℕ
 ownBytes m = framesBytes (m .first) (m .later)
@@ -89,9 +90,17 @@ takenBy R c ps = orElse (firstAt (keyHeld R c) ps) (orElse (firstAt (freeOfSourc
 unfoldable pub itsTurn : Call → Message → Bool
 itsTurn c m = eqb (indexOf (c .heard)) (length (m .later) + 1)
 
+-- it "lacks a byte that the session needs": one of the next seven that are missing
+unfoldable pub lacks : Call → Message → Bool
+lacks c m = ltb (c .heard .length) (1 + min 7 (announced m - length (ownBytes m)))
+
+-- the continuation that the message waits for
+unfoldable pub awaited : Call → Message → Bool
+awaited c m = itsTurn c m && not (lacks c m)
+
 -- the bytes of its own frames reach the announced size
 unfoldable pub full : Message → Bool
-full m = leb (announced m) (6 + 7 * length (m .later))
+full m = leb (announced m) (length (ownBytes m))
 
 -- the place left idle by its message
 unfoldable pub left : Message → Place
@@ -106,10 +115,11 @@ nothingMoved d ps = record { deed = d; message = none; places = ps }
 unfoldable pub opensIn : Rules → ℕ → List Place → Call → ℕ → Told
 opensIn R n ps c i = record { deed = openingAt (late R c) (getD ps i (idle 0)); message = heldIn (getD ps i (idle 0)); places = set ps i (holds (newMessage n c)) }
 
--- the message of place i: "Index not last index + 1: the slot is reset .. Otherwise copy ..; MessageComplete with reset when all is there"
+-- the message of place i: "Index not last index + 1: the slot is reset .. Otherwise copy ..; MessageComplete with reset when all is there"; one that lacks a byte
+-- "breaks it, as one out of turn does"
 unfoldable pub continuesIn : List Place → Call → ℕ → Message → Told
 continuesIn ps c i m =
-    pick (itsTurn c m)
+    pick (awaited c m)
     (pick (full (grown m c)) (record { deed = Delivered; message = some (grown m c); places = set ps i (left m) })
     (record { deed = Copied; message = some (grown m c); places = set ps i (holds (grown m c)) }))
     (record { deed = Broken; message = some m; places = set ps i (left m) })
@@ -120,15 +130,16 @@ given none t f = t
 given (some a) t f = f a
 
 -- step 2, "PGN not listed"; step 3 at "Index 0": "0 or over 223", "Size 1 to 6: MessageComplete at once", "Otherwise take .. else Ignored, pool_exhausted";
--- step 4 at "Index 1 to 31": "Take the first ..", "None: a stray"
+-- step 4 at "Index 1 to 31": "Take the first ..", "None: a stray"; and the cut frames that are Rejected
 unfoldable pub tellOne : Rules → ℕ → List Place → Call → Told
 tellOne R n ps c =
     pick (listed c)
+    (pick (isEmpty (c .heard)) (nothingMoved BadFrame ps)
     (pick (eqb (indexOf (c .heard)) 0)
-    (pick (badSize (c .heard)) (nothingMoved BadSize ps)
+    (pick (badFirst (c .heard)) (nothingMoved BadFrame ps)
     (pick (leb (sizeOf (c .heard)) 6) (record { deed = AtOnce; message = some (newMessage n c); places = ps })
     (given (takenBy R c ps) (nothingMoved NoSlot ps) (opensIn R n ps c))))
-    (given (firstAt (liveHeld R c) ps) (nothingMoved Stray ps) (λ i. given (heldIn (getD ps i (idle 0))) (nothingMoved Stray ps) (continuesIn ps c i))))
+    (given (firstAt (liveHeld R c) ps) (nothingMoved Stray ps) (λ i. given (heldIn (getD ps i (idle 0))) (nothingMoved Stray ps) (continuesIn ps c i)))))
     (nothingMoved Unlisted ps)
 
 -- ---- the ledger
@@ -160,7 +171,7 @@ delivery (some m) = record { kind = MessageComplete; payload = padded (take (ann
 -- each deed calls for one name; where 01 says Ignored, document 02's No. 2 tells why
 unfoldable pub kindDue : Deed → Kind
 kindDue Unlisted = NotListed
-kindDue BadSize = Rejected
+kindDue BadFrame = Rejected
 kindDue NoSlot = PoolFull
 kindDue Stray = Lost
 kindDue AtOnce = MessageComplete
@@ -176,3 +187,11 @@ saying d m = pick (isOneOf (AtOnce ∷ Delivered ∷ []) d) (delivery m) (briefl
 
 unfoldable pub sayingDue : Entry → Saying
 sayingDue e = saying (e .deed) (e .message)
+
+-- a message is delivered, and its own frames did not send as many bytes as it announced: a byte of it would be made up
+unfoldable pub madeUpIn : Deed → Option Message → Bool
+madeUpIn d none = false
+madeUpIn d (some m) = isOneOf (AtOnce ∷ Delivered ∷ []) d && not (full m)
+
+unfoldable pub madeUp : Entry → Bool
+madeUp e = madeUpIn (e .deed) (e .message)

@@ -1,3 +1,4 @@
+pub mod Cuts
 pub mod PlanLaws
 pub mod SearchLaws
 pub mod Walks

@@ -1,7 +1,7 @@
 -- The cases of the plan, as the code meets them: `search (needs, plans)` finds the case. Assumes nothing.
-use Prim.Native.Nat.{ℕ, _+_, _≤_, _<_}
+use Prim.Native.Nat.{ℕ, _+_, _≤_, _<_, min}
 use mathlib.Core.Path.{_≡_, refl, _∙_}
-use mathlib.Core.Bool.{Bool, true, false, not, _&&_, _||_}
+use mathlib.Core.Bool.{Bool, true, false, not, _&&_, _||_, false≢true}
 use lib.Dec.{eqb, ltb, leb}
 use borrow.Author.Tests.{not-true, not-false, le-leb, lt-leb, eq-eqb, ne-eqb}
 use Rattle.session.specs.declared.Heard.{Heard}
@@ -11,10 +11,12 @@ use Rattle.session.specs.declared.Mark.{Mark}
 use Rattle.session.specs.declared.Kind.the-variants.{ImpossiblePool, NotListed, Rejected, PoolFull, Lost, FragmentConsumed, MessageComplete}
 use Rattle.session.specs.declared.Mark.the-variants as mark
 use Rattle.session.specs.Rules.{Rules, silence, base}
-use Rattle.session.specs.Frames.{indexOf, sizeOf, badSize}
-use Rattle.session.specs.Heads.{isSilent, isExpired, inTurn, openedHead, resetHead, wanted, copiedHead, allThere}
+use Rattle.session.specs.Frames.{indexOf, sizeOf, badSize, isEmpty, cutFirst, badFirst}
+use Rattle.session.specs.Heads.{isSilent, isExpired, inTurn, cutNext, isNext, openedHead, resetHead, wanted, copiedHead, allThere}
 use Rattle.session.specs.Counting.{expiredMark}
-use Rattle.session.specs.inner.Plan.{idle, planOpen, planShort, planSized, planFirst, planCopy, planTurn, planNext, planIndex, planListed, planOf}
+use Rattle.session.proofs.Sound.{or-left, or-right}
+use Rattle.session.proofs.Cuts.{empty-bad}
+use Rattle.session.specs.inner.Plan.{idle, planOpen, planShort, planSized, planFirst, planCopy, planTurn, planNext, planIndex, planSent, planListed, planOf}
 
 module _ (f : Heard) (h : Head) (t : Bool) (e : t ≡ silence (f .«now_ms») (h .«last_seen_ms»)) where
   pub mark-late : (h .«in_progress» && t) ≡ true → mark.Expired ≡ expiredMark (isExpired base f h)
@@ -29,6 +31,18 @@ pub turn-is : (f : Heard) (h : Head) (i a b : ℕ) → i ≡ indexOf f → a ≡
 unfolding inTurn
 turn-is f h i a b ei ea eb = rw (ea, ei, eb)
 
+pub cut-is : (f : Heard) (h : Head) (n : ℕ) → n ≡ wanted h → ltb (f .length) (1 + n) ≡ cutNext f h
+unfolding cutNext
+cut-is f h n en = rw en
+
+pub next-is : (f : Heard) (h : Head) (t c : Bool) → t ≡ inTurn f h → c ≡ cutNext f h → (t && not c) ≡ isNext f h
+unfolding isNext
+next-is f h t c et ec = rw (et, ec)
+
+pub bad-is : (f : Heard) (size n : ℕ) → size ≡ sizeOf f → n ≡ min 6 size → ((eqb size 0 || ltb 223 size) || ltb (f .length) (2 + n)) ≡ badFirst f
+unfolding badFirst badSize cutFirst
+bad-is f size n es en = rw (en, es)
+
 module _ (R : Rules) (f : Heard) (h : Head) where
   pub open-none : (found : Bool) (r : Plan) → not found ≡ true → r ≡ idle PoolFull mark.Exhausted h → r ≡ planOpen found R f h
   unfolding planOpen
@@ -39,19 +53,19 @@ module _ (R : Rules) (f : Heard) (h : Head) where
   unfolding planOpen
   open-some found m t e em et = rw (em, et, not-false found e)
 
-  module _ (found : Bool) (size : ℕ) (es : size ≡ sizeOf f) where
-    pub size-bad : (r : Plan) → (eqb size 0 || ltb 223 size) ≡ true → r ≡ idle Rejected mark.Rejected h → r ≡ planFirst found R f h
-    unfolding planFirst planSized badSize
-    size-bad r b er = er ∙ rw (← es, b)
+  module _ (found b : Bool) (eb : b ≡ badFirst f) where
+    pub size-bad : (r : Plan) → b ≡ true → r ≡ idle Rejected mark.Rejected h → r ≡ planFirst found R f h
+    unfolding planFirst planSized
+    size-bad r y er = er ∙ rw (← eb, y)
 
-    module _ (b : (eqb size 0 || ltb 223 size) ≡ false) where
+    module _ (y : b ≡ false) (size : ℕ) (es : size ≡ sizeOf f) where
       pub size-short : size ≤ 6 → record { kind = MessageComplete; mark = mark.Nothing; head = h; at = 0; from = 0; count = 0; whole = 0; short = size } ≡ planFirst found R f h
-      unfolding planFirst planSized planShort badSize
-      size-short s = simp (← es, b, le-leb size 6 s)
+      unfolding planFirst planSized planShort
+      size-short s = simp (← eb, y, ← es, le-leb size 6 s)
 
       pub size-long : (r : Plan) → 6 < size → r ≡ planOpen found R f h → r ≡ planFirst found R f h
-      unfolding planFirst planSized planShort badSize
-      size-long r s er = er ∙ simp (← es, b, lt-leb size 6 s)
+      unfolding planFirst planSized planShort
+      size-long r s er = er ∙ simp (← eb, y, ← es, lt-leb size 6 s)
 
 module _ (f : Heard) (h : Head) where
   pub copy-last : (u v : Head) (n : ℕ) → u ≡ copiedHead f h → v ≡ resetHead u → n ≡ wanted h
@@ -78,7 +92,7 @@ module _ (f : Heard) (h : Head) where
     unfolding planNext
     next-none e er = er ∙ rw (not-true found e)
 
-    module _ (e : not found ≡ false) (t : Bool) (et : t ≡ inTurn f h) where
+    module _ (e : not found ≡ false) (t : Bool) (et : t ≡ isNext f h) where
       pub next-broken : (u : Head) → not t ≡ true → u ≡ resetHead h → r ≡ idle Lost mark.Lost u → r ≡ planNext found f h
       unfolding planNext planTurn
       next-broken u y eu er = er ∙ rw (eu, not-false found e, ← et, not-true t y)
@@ -88,14 +102,21 @@ module _ (f : Heard) (h : Head) where
       next-turn y er = er ∙ rw (not-false found e, ← et, not-false t y)
 
 module _ (R : Rules) (f : Heard) (h : Head) where
-  module _ (found : Bool) (r : Plan) (i : ℕ) (ei : i ≡ indexOf f) where
-    pub listed-first : i ≡ 0 → r ≡ planFirst found R f h → r ≡ planListed true found R f h
-    unfolding planListed planIndex
-    listed-first z er = er ∙ rw (← ei, eq-eqb i 0 z)
+  module _ (found : Bool) where
+    sent-first : (e z : Bool) → isEmpty f ≡ e → eqb (indexOf f) 0 ≡ z → (e || z) ≡ true → planFirst found R f h ≡ planSent e found R f h
+    unfolding planFirst planSized planSent planIndex
+    sent-first true z ee ez y = rw (empty-bad f ee)
+    sent-first false true ee ez y = rw ez
+    sent-first false false ee ez y = absurd (false≢true y)
 
-    pub listed-next : (i ≡ 0 → ⊥) → r ≡ planNext found f h → r ≡ planListed true found R f h
-    unfolding planListed planIndex
-    listed-next z er = er ∙ rw (← ei, ne-eqb i 0 z)
+    module _ (r : Plan) (i : ℕ) (ei : i ≡ indexOf f) where
+      pub listed-first : (eqb (f .length) 0 || eqb i 0) ≡ true → r ≡ planFirst found R f h → r ≡ planListed true found R f h
+      unfolding planListed isEmpty
+      listed-first y er = er ∙ sent-first (isEmpty f) (eqb (indexOf f) 0) refl refl (rw (← ei) y)
+
+      pub listed-next : (eqb (f .length) 0 || eqb i 0) ≡ false → r ≡ planNext found f h → r ≡ planListed true found R f h
+      unfolding planListed planSent isEmpty planIndex
+      listed-next y er = er ∙ rw (or-left (eqb (f .length) 0) (eqb i 0) y, ← ei, or-right (eqb (f .length) 0) (eqb i 0) y)
 
   module _ (bad listed found : Bool) (r : Plan) where
     pub decided-bad : bad ≡ true → r ≡ idle ImpossiblePool mark.Nothing h → r ≡ planOf bad listed found R f h
@@ -110,4 +131,4 @@ module _ (R : Rules) (f : Heard) (h : Head) where
     unfolding planOf
     decided-listed e l er = er ∙ rw (e, not-false listed l)
 
-pub ruleset plans = (mark-late, mark-early, turn-is, open-none, open-some, size-bad, size-short, size-long, copy-last, copy-more, copy-full, copy-open, next-none, next-broken, next-turn, listed-first, listed-next, decided-bad, decided-unlisted, decided-listed)
+pub ruleset plans = (mark-late, mark-early, turn-is, cut-is, next-is, bad-is, open-none, open-some, size-bad, size-short, size-long, copy-last, copy-more, copy-full, copy-open, next-none, next-broken, next-turn, listed-first, listed-next, decided-bad, decided-unlisted, decided-listed)

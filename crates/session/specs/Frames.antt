@@ -1,9 +1,9 @@
 -- What a heard frame says.
 use mathlib.Core.Bool.{Bool, _||_}
 use mathlib.Core.List.{List}
-use Prim.Native.Nat.{ℕ, _/_, _%_}
+use Prim.Native.Nat.{ℕ, _+_, _/_, _%_, min}
 use lib.Dec.{eqb, ltb}
-use lib.ListN.{getD, drop}
+use lib.ListN.{getD, take, drop}
 use Rattle.fast_packet.specs.FastPacket.{maxPayload}
 use Rattle.session.specs.declared.Heard.{Heard}
 use Rattle.session.specs.Rules.{Key}
@@ -33,3 +33,21 @@ badSize f = eqb (sizeOf f) 0 || ltb maxPayload (sizeOf f)
 
 unfoldable pub keyOf : Heard → Key
 keyOf f = record { source = f .«source_address»; pgn = f .pgn; sequence = sequenceOf f }
+
+-- ---- document 02, No. 5: a frame cut short
+
+-- of its eight bytes the first `length` were sent
+unfoldable pub sentBytes : Heard → List ℕ
+sentBytes f = take (f .length) (f .«data»)
+
+-- "a listed frame of length 0": neither index nor sequence was sent
+unfoldable pub isEmpty : Heard → Bool
+isEmpty f = eqb (f .length) 0
+
+-- "a first frame of length 1", which has no size; "a first frame with a good announced size n and a length below 2 + min(6, n)"
+unfoldable pub cutFirst : Heard → Bool
+cutFirst f = ltb (f .length) (2 + min 6 (sizeOf f))
+
+-- a first frame that is Rejected
+unfoldable pub badFirst : Heard → Bool
+badFirst f = badSize f || cutFirst f

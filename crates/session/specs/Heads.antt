@@ -54,10 +54,6 @@ hasLiveKey R f h = hasKey R f h && not (isSilent R f h)
 unfoldable pub isExpired : Rules → Heard → Head → Bool
 isExpired R f h = h .«in_progress» && isSilent R f h
 
--- the index is "last index + 1"
-unfoldable pub inTurn : Heard → Head → Bool
-inTurn f h = eqb (indexOf f) (h .«last_frame_index» + 1)
-
 -- "Then it opens: first six bytes stored, last index 0, time now"
 unfoldable pub openedHead : Heard → Head
 openedHead f =
@@ -89,6 +85,18 @@ resetHead h =
 -- "the lesser of 7 and what is missing"
 unfoldable pub wanted : Head → ℕ
 wanted h = min 7 (h .«expected_size» - h .«current_size»)
+
+-- the index is "last index + 1"
+unfoldable pub inTurn : Heard → Head → Bool
+inTurn f h = eqb (indexOf f) (h .«last_frame_index» + 1)
+
+-- document 02, No. 5: it "lacks a byte that the session needs"; they follow byte 0
+unfoldable pub cutNext : Heard → Head → Bool
+cutNext f h = ltb (f .length) (1 + wanted h)
+
+-- the continuation that the session waits for; any other breaks it
+unfoldable pub isNext : Heard → Head → Bool
+isNext f h = inTurn f h && not (cutNext f h)
 
 -- "Otherwise copy .., set index and time"
 unfoldable pub copiedHead : Heard → Head → Head

@@ -41,12 +41,13 @@ pub struct Head {
     pub last_seen_ms: u64,
 }
 
-// A frame as it was heard, with the clock reading at it.
+// A frame as it was heard, with the clock reading at it: of its eight bytes the first `length` were sent.
 pub struct Heard {
     pub now_ms: u64,
     pub pgn: u32,
     pub source_address: u8,
     pub data: [u8; 8],
+    pub length: usize,
 }
 
 // The counters are cumulative. `rejected_frames` and `unknown_pgn` say that the assembler was handed traffic it does not deal with; the other
@@ -70,7 +71,7 @@ pub enum Mark {
 }
 
 // What the caller is told of a frame. An impossible pool is refused. NotListed, Rejected, PoolFull and Lost say why a frame was not taken; Lost is a
-// continuation without a live session, or one out of turn, which ends its session.
+// continuation without a live session, or one out of turn or cut short, which ends its session.
 pub enum Kind {
     ImpossiblePool,
     NotListed,

@@ -1,21 +1,17 @@
 // The heads that a frame leaves.
 ghost use mathlib.Core.Path.{_≡_};
-ghost use Prim.Native.Nat.{_-_, min};
-ghost use Rattle.session.specs.Heads.{inTurn, openedHead, resetHead, wanted, copiedHead};
+ghost use Prim.Native.Nat.{_-_};
+ghost use Rattle.session.specs.Heads.{inTurn, cutNext, isNext, openedHead, resetHead, wanted, copiedHead};
 use crate::CONTINUATION_PAYLOAD;
 use crate::FIRST_FRAME_PAYLOAD;
 use crate::Head;
 use crate::Heard;
+use crate::frames::NEXT_DATA;
 use crate::frames::index_of;
+use crate::frames::least;
 use crate::frames::sequence_of;
 use crate::frames::size_of;
 use crate::frames::wide;
-
-pub(crate) fn is_in_turn(h: Head, heard: Heard) -> bool
-    ensures { λ r. ⌜ r ≡ inTurn heard h ⌝ }
-{
-    wide(index_of(heard)) == wide(h.last_frame_index) + 1
-}
 
 pub(crate) fn opened_head(heard: Heard) -> Head
     ensures { λ r. ⌜ r ≡ openedHead heard ⌝ }
@@ -48,12 +44,6 @@ pub(crate) fn reset_head(ended: Head) -> Head
     }
 }
 
-fn least(a: usize, b: usize) -> usize
-    ensures { λ r. ⌜ r ≡ min a b ⌝ }
-{
-    if a <= b { a } else { b }
-}
-
 // What is left of a after b, or 0.
 fn less(a: usize, b: usize) -> usize
     ensures { λ r. ⌜ r ≡ a - b ⌝ }
@@ -66,6 +56,27 @@ pub(crate) fn wanted_by(h: Head) -> usize
     ensures { λ r. ⌜ r ≡ wanted h ⌝ }
 {
     least(CONTINUATION_PAYLOAD, less(h.expected_size, h.current_size))
+}
+
+fn is_in_turn(h: Head, heard: Heard) -> bool
+    ensures { λ r. ⌜ r ≡ inTurn heard h ⌝ }
+{
+    wide(index_of(heard)) == wide(h.last_frame_index) + 1
+}
+
+// Whether a byte that the session needs was not sent.
+fn is_cut(h: Head, heard: Heard) -> bool
+    ensures { λ r. ⌜ r ≡ cutNext heard h ⌝ }
+{
+    let ends = NEXT_DATA + wanted_by(h);
+    heard.length < ends
+}
+
+// Whether it is the frame that the session waits for.
+pub(crate) fn is_next(h: Head, heard: Heard) -> bool
+    ensures { λ r. ⌜ r ≡ isNext heard h ⌝ }
+{
+    is_in_turn(h, heard) & !is_cut(h, heard)
 }
 
 pub(crate) fn copied_head(h: Head, heard: Heard) -> Head

@@ -11,20 +11,17 @@ use crate::Heard;
 use crate::Kind;
 use crate::Mark;
 use crate::Plan;
+use crate::frames::FIRST_DATA;
+use crate::frames::NEXT_DATA;
 use crate::frames::index_of;
+use crate::frames::is_bad_first;
 use crate::frames::size_of;
 use crate::heads::is_silent;
 use crate::moved::copied_head;
-use crate::moved::is_in_turn;
+use crate::moved::is_next;
 use crate::moved::opened_head;
 use crate::moved::reset_head;
 use crate::moved::wanted_by;
-use fast_packet::MAX_FAST_PACKET_PAYLOAD;
-
-// The message of a first frame starts after sequence and size, that of a continuation after the sequence.
-const FIRST_DATA: usize = 2;
-
-const NEXT_DATA: usize = 1;
 
 fn stay(kind: Kind, mark: Mark, h: Head) -> Plan
     ensures { λ r. ⌜ r ≡ idle kind mark h ⌝ }
@@ -74,10 +71,10 @@ fn plan_open(found: bool, h: Head, heard: Heard) -> Plan
 fn plan_first(found: bool, h: Head, heard: Heard) -> Plan
     ensures { λ r. ⌜ r ≡ planFirst found base heard h ⌝ }
 {
-    let size = size_of(heard);
-    if (size == 0) | (MAX_FAST_PACKET_PAYLOAD < size) {
+    if is_bad_first(heard) {
         return stay(Kind::Rejected, Mark::Rejected, h);
     }
+    let size = size_of(heard);
     if size <= FIRST_FRAME_PAYLOAD {
         return Plan {
             kind: Kind::MessageComplete,
@@ -133,14 +130,14 @@ fn plan_copy(h: Head, heard: Heard) -> Plan
     plan_more(h, heard)
 }
 
-// Continuation frame: a stray, out of turn, or copied, and perhaps the last.
+// Continuation frame: a stray, out of turn or cut short, or copied, and perhaps the last.
 fn plan_next(found: bool, h: Head, heard: Heard) -> Plan
     ensures { λ r. ⌜ r ≡ planNext found heard h ⌝ }
 {
     if !found {
         return stay(Kind::Lost, Mark::Lost, h);
     }
-    if !is_in_turn(h, heard) {
+    if !is_next(h, heard) {
         return stay(Kind::Lost, Mark::Lost, reset_head(h));
     }
     plan_copy(h, heard)
@@ -149,7 +146,8 @@ fn plan_next(found: bool, h: Head, heard: Heard) -> Plan
 fn plan_listed(found: bool, h: Head, heard: Heard) -> Plan
     ensures { λ r. ⌜ r ≡ planListed true found base heard h ⌝ }
 {
-    if index_of(heard) == 0 {
+    // without a byte there is no index, and it is no good first frame
+    if (heard.length == 0) | (index_of(heard) == 0) {
         return plan_first(found, h, heard);
     }
     plan_next(found, h, heard)

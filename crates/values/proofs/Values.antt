@@ -6,8 +6,8 @@ use Rattle.fast_packet.specs.FastPacket.{listedIn}
 use Rattle.can_id.specs.Build.{buildOf}
 use Rattle.builder.specs.Next.{nextOf, framedStep}
 use Rattle.session.specs.Rules.{silence, keysEqual, base}
-use Rattle.session.specs.Frames.{sequenceOf, indexOf, sizeOf, firstBytes, nextBytes, badSize, keyOf}
-use Rattle.session.specs.Heads.{freshHead, headKey, impossibleHead, hasKey, isSilent, isFree, isFreeOfSource, hasLiveKey, isExpired, inTurn, openedHead, resetHead, wanted, copiedHead, allThere}
+use Rattle.session.specs.Frames.{sequenceOf, indexOf, sizeOf, firstBytes, nextBytes, badSize, keyOf, isEmpty, cutFirst, badFirst}
+use Rattle.session.specs.Heads.{freshHead, headKey, impossibleHead, hasKey, isSilent, isFree, isFreeOfSource, hasLiveKey, isExpired, inTurn, cutNext, isNext, openedHead, resetHead, wanted, copiedHead, allThere}
 use Rattle.session.specs.Counting.{freshCounters, most, raise, raised, expiredMark}
 use Rattle.assembler.specs.Slots.{freshSlot, impossible, chosen, live, openedSlot, resetSlot, copiedSlot}
 use Rattle.assembler.specs.Step.{opensAt, continuesAt, eventOf, slotsAfter, markOf, padded, message, saidOf, outcome, stepIf, step}
@@ -16,7 +16,7 @@ use Rattle.assembler.specs.View.{slotsFrom, headOf, flat, slotsOf, poolOf, zero
 use Rattle.values.specs.Values.{Values}
 
 pub values : Values
-unfolding pick nextPlace here orElse firstAt any fill listedIn buildOf nextOf framedStep silence keysEqual base sequenceOf indexOf sizeOf firstBytes nextBytes badSize keyOf freshHead headKey impossibleHead hasKey isSilent isFree isFreeOfSource hasLiveKey isExpired inTurn openedHead resetHead wanted copiedHead allThere freshCounters most raise raised expiredMark freshSlot impossible chosen live openedSlot resetSlot copiedSlot opensAt continuesAt eventOf slotsAfter markOf padded message saidOf outcome stepIf step slotsFrom headOf flat slotsOf poolOf zeros whyKind replyKind replyPayload replyLength shown receiveOf freshPool
+unfolding pick nextPlace here orElse firstAt any fill listedIn buildOf nextOf framedStep silence keysEqual base sequenceOf indexOf sizeOf firstBytes nextBytes badSize keyOf isEmpty cutFirst badFirst freshHead headKey impossibleHead hasKey isSilent isFree isFreeOfSource hasLiveKey isExpired inTurn cutNext isNext openedHead resetHead wanted copiedHead allThere freshCounters most raise raised expiredMark freshSlot impossible chosen live openedSlot resetSlot copiedSlot opensAt continuesAt eventOf slotsAfter markOf padded message saidOf outcome stepIf step slotsFrom headOf flat slotsOf poolOf zeros whyKind replyKind replyPayload replyLength shown receiveOf freshPool
 values =
     record {
       p1 = refl;

@@ -19,9 +19,9 @@ use Rattle.assembler.specs.Step.{padded}
 use Rattle.assembler.specs.Making.{freshPool}
 use Rattle.assembler.specs.View.{slotsOf, receiveOf}
 
--- what a call gives: PGN 127489, listed, from source 35, at this reading, with these bytes
+-- what a call gives: PGN 127489, listed, from source 35, at this reading, with these eight bytes
 abbrev pub heardOn : Pool → Counters → ℕ → List ℕ → Received
-heardOn p k time bytes = receiveOf base (127489 ∷ []) (record { «now_ms» = time; pgn = 127489; «source_address» = 35; «data» = bytes }) p k
+heardOn p k time bytes = receiveOf base (127489 ∷ []) (record { «now_ms» = time; pgn = 127489; «source_address» = 35; «data» = bytes; length = 8 }) p k
 
 -- on a fresh pool of the default size, with zero counters
 abbrev pub begin : ℕ → List ℕ → Received

@@ -1,5 +1,6 @@
 //! The receive call: one frame on any pool, and runs of frames. Compared after every call: answer (through `reading`), payload
-//! (all 223 bytes), length, counters, and every slot left behind with its buffer, those past the size too.
+//! (all 223 bytes), length, counters, and every slot left behind with its buffer, those past the size too. Where a byte that is
+//! needed was cut the original would fill it up: there document 02's No. 5 decides, in its own words (`cut_short`).
 use crate::reading::{kind_of, read, Reading, Said};
 use crate::rng::Rng;
 use crate::tally::answered;
@@ -126,6 +127,48 @@ pub fn impossible(size: usize, slots: &[Slot]) -> bool {
         })
 }
 
+/// What document 02's No. 5 says of a frame that lacks a byte: "Rejected", or the live session of this slot broken, "as one out of turn does".
+#[derive(Clone, Copy, Debug, PartialEq, Eq)]
+pub enum CutShort {
+    Rejected,
+    Breaks(usize),
+}
+
+/// No. 5, in its own words, over the slots of the pool's size; none where no byte that is needed was cut.
+pub fn cut_short(list: &[u32], slots: &[Slot], h: &Heard, length: usize) -> Option<CutShort> {
+    if !list.contains(&h.pgn) {
+        return None;
+    }
+    if length == 0 {
+        return Some(CutShort::Rejected);
+    }
+    let (sequence, index) = (h.data[0] / 32, h.data[0] % 32);
+    if index == 0 {
+        let n = h.data[1] as usize;
+        return (length == 1 || (1..=223).contains(&n) && length < 2 + n.min(6)).then_some(CutShort::Rejected);
+    }
+    let live = |s: &Slot| s.in_progress && (s.source, s.pgn, s.sequence) == (h.source, h.pgn, sequence) && h.now.saturating_sub(s.last_time) <= 500;
+    let k = slots.iter().position(live)?;
+    (length < 1 + (slots[k].expected - slots[k].current).min(7)).then_some(CutShort::Breaks(k))
+}
+
+/// Does to the original what No. 5 says, and gives the kind that is due.
+fn set_cut_short(o: &mut dyn Original, cut: CutShort) -> u32 {
+    let mut counters = o.counters();
+    let (kind, counter) = match cut {
+        CutShort::Rejected => (raw::REJECTED, &mut counters[2]),
+        CutShort::Breaks(k) => {
+            let s = o.slot(k);
+            o.set_slot(k, &Slot { in_progress: false, pgn: 0, sequence: 0, expected: 0, current: 0, last_index: 0, ..s });
+            (raw::LOST, &mut counters[3])
+        }
+    };
+    *counter = counter.saturating_add(1);
+    o.set_counters(counters);
+    answered("cut_short", kind);
+    kind
+}
+
 /// The single calls of eight bytes, as `length` and `by_value` of `called`.
 const SINGLE_CALLS: [(Option<usize>, bool); 3] = [(None, false), (None, true), (Some(8), false)];
 
@@ -224,6 +267,7 @@ impl Pair {
             assert!(a == got && p == self.p && counters == self.counters, "the two calls of the port, {h:?}");
         }
         let mut heard = *h;
+        let mut cut = None;
         if let Some(n) = length {
             // As the original's own advice has it (fast_packet/mod.rs).
             let mut data = [0xFF; 8];
@@ -231,10 +275,16 @@ impl Pair {
             data[..len].copy_from_slice(&h.data[..len]);
             assert_eq!(fast_packet::fill_short(h.data, n), data, "{:?} cut to {n}", h.data);
             heard.data = data;
+            cut = cut_short(&self.list, &self.slots()[..self.size], h, n);
         }
-        let (result, said) = asked(&mut *self.o, &heard);
-        said.hold(got.kind, &(h, length, self.size));
-        assert_eq!((got.payload, got.length), message_left(&result), "{h:?}, length {length:?}, size {}", self.size);
+        if let Some(cut) = cut {
+            let due = Answer { kind: set_cut_short(&mut *self.o, cut), payload: LENT.payload, length: 0 };
+            assert_eq!(got, due, "{h:?}, length {length:?}, size {}", self.size);
+        } else {
+            let (result, said) = asked(&mut *self.o, &heard);
+            said.hold(got.kind, &(h, length, self.size));
+            assert_eq!((got.payload, got.length), message_left(&result), "{h:?}, length {length:?}, size {}", self.size);
+        }
         assert_eq!(self.counters, self.o.counters(), "counters after {h:?}");
         for k in 0..8 {
             let s = if k < self.size { self.o.slot(k) } else { self.past[k - self.size] };
@@ -294,6 +344,50 @@ pub fn every_slot() -> u64 {
         }
     }
     steps
+}
+
+/// Lengths of a frame, and past its end.
+const LENGTHS: [usize; 11] = [0, 1, 2, 3, 4, 5, 6, 7, 8, 9, usize::MAX];
+
+/// Every announced size at every length, listed and not, where no slot is free and where one is.
+pub fn every_cut_first_frame() -> u64 {
+    let mut steps = 0;
+    for (size, list) in [(0, 127_489), (1, 127_489), (4, 127_489), (4, 5)] {
+        let mut p = Pair::fresh(size, &[list]);
+        for announced in 0..=255u8 {
+            for length in LENGTHS {
+                p.hear(&Heard { now: 1000 * announced as u64, pgn: 127_489, source: 9, data: [3 << 5, announced, 1, 2, 3, 4, 5, 6] }, Some(length));
+                steps += 1;
+            }
+        }
+    }
+    steps
+}
+
+/// Every valid expected size and last index of a slot, under a continuation of every length: in turn, out of turn, of another key, and late.
+pub fn every_cut_continuation() -> u64 {
+    let mut steps = 0;
+    let mut p = Pair::fresh(1, &[127_489]);
+    let bytes: [u8; 223] = std::array::from_fn(|i| i as u8 ^ 0xA5);
+    for expected in 7..=223usize {
+        for last_index in (0..31u8).filter(|&i| 6 + 7 * (i as usize) < expected) {
+            let slot = Slot { in_progress: true, source: 9, pgn: 127_489, sequence: 3, bytes, expected, current: 6 + 7 * last_index as usize, last_index, last_time: 1000 };
+            for length in LENGTHS {
+                let next = last_index + 1;
+                for (now, sequence, index) in [(1500, 3, next), (0, 3, next), (1501, 3, next), (1000, 2, next), (1000, 3, next % 31 + 1)] {
+                    p.set(&std::array::from_fn(|_| slot), [7; 5]);
+                    p.hear(&Heard { now, pgn: 127_489, source: 9, data: [sequence << 5 | index, 20, 1, 2, 3, 4, 5, 6] }, Some(length));
+                    steps += 1;
+                }
+            }
+        }
+    }
+    steps
+}
+
+/// Both.
+pub fn every_cut() -> u64 {
+    every_cut_first_frame() + every_cut_continuation()
 }
 
 /// Two slots over a small alphabet of states, under a small alphabet of frames.
@@ -949,8 +1043,14 @@ pub fn safe_pools(seed: u64, steps: u64) -> u64 {
                 1 => hold_single(p.receive(list, h.now, h.pgn, h.source, &h.data), asked(&mut *o, &h), &h),
                 2 => {
                     let n = r.below(10) as usize;
-                    let cut = Heard { data: std::array::from_fn(|i| if i < n { h.data[i] } else { 0xFF }), ..h };
-                    hold_single(p.process_frame_with_length(list, h.now, h.pgn, h.source, &h.data, n), asked(&mut *o, &cut), &cut);
+                    let got = p.process_frame_with_length(list, h.now, h.pgn, h.source, &h.data, n);
+                    if let Some(cut) = cut_short(list, &slots, &h, n) {
+                        answered("safe", kind_of(&got));
+                        assert_eq!(kind_of(&got), set_cut_short(&mut *o, cut), "{h:?}, length {n}");
+                    } else {
+                        let filled = Heard { data: std::array::from_fn(|i| if i < n { h.data[i] } else { 0xFF }), ..h };
+                        hold_single(got, asked(&mut *o, &filled), &filled);
+                    }
                 }
                 _ => {
                     let (mut rows, mut want) = (Rows::default(), vec![]);

@@ -11,6 +11,11 @@ fn every_size_and_index_of_a_slot_is_answered_as_the_original_does() {
 }
 
 #[test]
+fn a_frame_that_lacks_a_byte_is_rejected_or_breaks_its_session() {
+    run("receiving, every length of a frame, against the paper's words where a byte is cut", receive::every_cut);
+}
+
+#[test]
 fn two_slots_over_a_small_alphabet_are_answered_as_the_original_does() {
     run("receiving, two slots over a small alphabet", receive::two_slots);
 }

@@ -18,12 +18,12 @@ pub struct Pool {
 pub enum ProcessResult<Message = CompletedMessage> {
     /// The list lent to the call does not have the PGN (`unknown_pgn`).
     NotListed,
-    /// A first frame announced 0 or more than 223 bytes (`rejected_frames`).
+    /// A first frame announced 0 or more than 223 bytes, or was cut short, or a frame came without a byte (`rejected_frames`).
     Rejected,
     /// A first frame began a message of 7 bytes or more, and no slot was free or had its key (`pool_exhausted`).
     PoolFull,
-    /// A continuation found no live session (a late one stays as it is), or it came out of turn, which ended its session
-    /// (`lost_fragments`).
+    /// A continuation found no live session (a late one stays as it is), or it came out of turn or without a byte that its session
+    /// needs, which ended the session (`lost_fragments`).
     Lost,
     /// The frame was taken, and more of its message is missing.
     FragmentConsumed,
@@ -133,7 +133,9 @@ impl Pool {
     pub fn receive(&mut self, pgns: &[u32], now_ms: u64, pgn: u32, source_address: u8, data: &[u8; 8]) -> ProcessResult {
         answer(|payload, length| self.numbers.receive(&mut self.counters, pgns, now_ms, pgn, source_address, data, payload, length))
     }
-    /// Of the frame's bytes only the first min(frame_length, 8) count; 0xFF stands for the others.
+    /// Of the frame's bytes only the first min(frame_length, 8) were sent; at 8 or more it is `process_frame`. A frame of a listed PGN without a byte is
+    /// Rejected, and so is a first frame that lacks its size or a byte of the message; a continuation that lacks a byte its live session needs is Lost
+    /// and ends the session.
     pub fn process_frame_with_length(&mut self, pgns: &[u32], now_ms: u64, pgn: u32, source_address: u8, data: &[u8; 8], frame_length: usize) -> ProcessResult {
         answer(|payload, length| self.numbers.process_frame_with_length(&mut self.counters, pgns, now_ms, pgn, source_address, data, frame_length, payload, length))
     }

@@ -11,8 +11,8 @@ use Rattle.session.specs.declared.Kind.the-variants.{ImpossiblePool, Not
 use Rattle.session.specs.declared.Mark.{Mark}
 use Rattle.session.specs.declared.Mark.the-variants as mark
 use Rattle.session.specs.Rules.{Rules}
-use Rattle.session.specs.Frames.{indexOf, sizeOf, badSize}
-use Rattle.session.specs.Heads.{isExpired, inTurn, openedHead, resetHead, wanted, copiedHead, allThere}
+use Rattle.session.specs.Frames.{indexOf, sizeOf, isEmpty, badFirst}
+use Rattle.session.specs.Heads.{isExpired, isNext, openedHead, resetHead, wanted, copiedHead, allThere}
 use Rattle.session.specs.Counting.{expiredMark}
 
 unfoldable pub idle : Kind → Mark → Head → Plan
@@ -31,7 +31,7 @@ planSized true found R f h = idle Rejected mark.Rejected h
 planSized false found R f h = planShort (leb (sizeOf f) 6) found R f h
 
 unfoldable pub planFirst : Bool → Rules → Heard → Head → Plan
-planFirst found R f h = planSized (badSize f) found R f h
+planFirst found R f h = planSized (badFirst f) found R f h
 
 unfoldable pub planCopy : Bool → Heard → Head → Plan
 planCopy true f h =
@@ -45,15 +45,19 @@ planTurn false f h = idle Lost mark.Lost (resetHead h)
 
 unfoldable pub planNext : Bool → Heard → Head → Plan
 planNext false f h = idle Lost mark.Lost h
-planNext true f h = planTurn (inTurn f h) f h
+planNext true f h = planTurn (isNext f h) f h
 
 unfoldable pub planIndex : Bool → Bool → Rules → Heard → Head → Plan
 planIndex true found R f h = planFirst found R f h
 planIndex false found R f h = planNext found f h
 
+unfoldable pub planSent : Bool → Bool → Rules → Heard → Head → Plan
+planSent true found R f h = idle Rejected mark.Rejected h
+planSent false found R f h = planIndex (eqb (indexOf f) 0) found R f h
+
 unfoldable pub planListed : Bool → Bool → Rules → Heard → Head → Plan
 planListed false found R f h = idle NotListed mark.Unknown h
-planListed true found R f h = planIndex (eqb (indexOf f) 0) found R f h
+planListed true found R f h = planSent (isEmpty f) found R f h
 
 unfoldable pub planOf : Bool → Bool → Bool → Rules → Heard → Head → Plan
 planOf true listed found R f h = idle ImpossiblePool mark.Nothing h

@@ -6,7 +6,7 @@ use Rattle.assembler.proofs.arrivals.heard_with_length.Tie as tie
 
 returns : tie.Need-returns
 unfolding heardWithLength
-returns c = rw (c .fill-short .ensures)
+returns c = rw (c .before .fill-short .ensures, c .at-most-eight .ensures)
 
 pub heard-with-length-spec : {M : Type 1} → statement M
-heard-with-length-spec = tie.close (tie.spec (λ c κs. search needs) returns)
+heard-with-length-spec = tie.close (tie.spec (λ c κs. search needs) (λ c κs. search needs) returns)

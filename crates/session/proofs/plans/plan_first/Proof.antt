@@ -11,6 +11,7 @@ plan-first-spec =
     (λ c κs. search needs)
     (λ c κs. search needs)
     (λ c. search (needs, plans))
+    (λ c κs. search needs)
     (λ c. search (needs, plans))
     (λ c κs. search needs)
     (λ c. search (needs, plans)))

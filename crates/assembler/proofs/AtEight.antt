@@ -1,0 +1,51 @@
+-- The eight-byte entry is the entry with a length at 8, and at every length above it: they hear the same frame, so their promises are the same.
+-- Assumes nothing.
+use Prim.Native.Nat.{ℕ, zero, suc, _≤_, min}
+use mathlib.Core.Path.{_≡_, refl, sym, ap, subst, _∙_}
+use mathlib.Core.List.{List, [], _∷_}
+use lib.ListN.{length, take}
+use lib.Seq.{take-all}
+use native.Mathlib.Omega.{arith}
+use Rattle.base.specs.Lists.{fill}
+use Rattle.fast_packet.specs.FastPacket.{filledFrom}
+use Rattle.session.specs.declared.Counters.{Counters}
+use Rattle.session.specs.declared.Heard.{Heard}
+use Rattle.assembler.specs.declared.Arrival.{Arrival}
+use Rattle.assembler.specs.declared.ArrivalWithLength.{ArrivalWithLength}
+use Rattle.assembler.specs.declared.Pool.{Pool}
+use Rattle.assembler.specs.declared.Processed.{Processed}
+use Rattle.assembler.specs.declared.Received.{Received}
+use Rattle.assembler.specs.Arrivals.{heardOf, heardWithLength}
+use Rattle.assembler.specs.Promises.{ReceivesHeard, ProcessesHeard, Receives, ReceivesWithLength, Processes, ProcessesWithLength}
+
+fill-all : (n : ℕ) (bytes : List ℕ) → length bytes ≡ n → fill n bytes ≡ bytes
+unfolding fill
+fill-all zero [] e = refl
+fill-all zero (b ∷ bytes) e = absurd (omega (arith, e))
+fill-all (suc n) [] e = absurd (omega (arith, e))
+fill-all (suc n) (b ∷ bytes) e = ap (_∷_ b) (fill-all n bytes (omega (arith, e)))
+
+module _ (a : Arrival) (eight : length (a .«data») ≡ 8) (n : ℕ) (all : 8 ≤ n) where
+  abbrev sent : ArrivalWithLength
+  sent = record { arrival = a; length = n }
+
+  pub heard-eight : heardWithLength sent ≡ heardOf a
+  unfolding heardWithLength heardOf filledFrom
+  heard-eight =
+      let most : min n 8 ≡ 8 = omega (arith, all) in
+      rw (most, take-all 8 (a .«data») (omega (arith, eight)), fill-all 8 (a .«data») eight)
+
+  module _ (pgns : List ℕ) (pool : Pool) (counters : Counters) where
+    -- `receive_with_length` and `process_frame_with_length_through` promise what `receive` and `process_frame_through` do, and the other way round
+    pub received-at-eight : (r : Received) → ReceivesWithLength pgns sent pool counters r → Receives pgns a pool counters r
+    received-at-eight r h = subst (λ (f : Heard). ReceivesHeard pgns f pool counters r) heard-eight h
+
+    pub received-as-eight : (r : Received) → Receives pgns a pool counters r → ReceivesWithLength pgns sent pool counters r
+    received-as-eight r h = subst (λ (f : Heard). ReceivesHeard pgns f pool counters r) (sym heard-eight) h
+
+    -- and so do `process_frame_with_length` and `process_frame`
+    pub processed-at-eight : (r : Processed) (after : Counters) → ProcessesWithLength pgns sent pool counters r after → Processes pgns a pool counters r after
+    processed-at-eight r after h = subst (λ (f : Heard). ProcessesHeard pgns f pool counters r after) heard-eight h
+
+    pub processed-as-eight : (r : Processed) (after : Counters) → Processes pgns a pool counters r after → ProcessesWithLength pgns sent pool counters r after
+    processed-as-eight r after h = subst (λ (f : Heard). ProcessesHeard pgns f pool counters r after) (sym heard-eight) h
