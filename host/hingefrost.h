@@ -114,7 +114,8 @@ uint32_t hf_can_id_build_to(uint32_t pgn, uint8_t source_address, uint8_t priori
 
 /* ---- a frame cut short */
 
-/* Keeps the first min(len, 8) bytes and fills the rest with 0xFF. */
+/* Keeps the first min(len, 8) bytes and fills the rest with 0xFF. A frame that was heard short goes to hf_process_frame_with_length as it
+ * is: filled up, it would be taken for one of eight bytes. */
 void hf_fill_short(uint8_t data[HF_FRAME_BYTES], size_t len);
 
 /* ---- from a payload to frames, as arrays; the structs below are the same with less to write */

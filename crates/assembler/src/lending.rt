@@ -47,7 +47,7 @@ pub fn process_frame(
     processed_of(out)
 }
 
-// The same for a frame with a length: its first bytes, and 0xFF after them.
+// The same for a frame with a length. One that lacks a byte which is needed is Rejected, or breaks its session.
 pub fn process_frame_with_length(
     pool: Pool,
     counters: &mut Counters,

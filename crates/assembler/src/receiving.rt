@@ -75,7 +75,7 @@ pub fn receive(pool: Pool, counters: Counters, pgns: &[u32], arrival: Arrival) -
     receive_heard(pool, counters, pgns, heard_of(arrival))
 }
 
-// The same for a frame with a length: its first bytes, and 0xFF after them.
+// The same for a frame with a length. One that lacks a byte which is needed is Rejected, or breaks its session.
 pub fn receive_with_length(
     pool: Pool,
     counters: Counters,

@@ -38,7 +38,7 @@ fn byte_or_fill(data: [u8; 8], len: usize, i: usize) -> u8
     if i < len { data[i] } else { FILL }
 }
 
-// The first min(len, 8) bytes of a frame, and 0xFF after them: a receiver takes eight bytes and never sees the length.
+// The first min(len, 8) bytes of a frame, and 0xFF after them.
 pub fn fill_short(data: [u8; 8], len: usize) -> [u8; 8]
     ensures { λ r. ⌜ r ≡ filledFrom len «data» ⌝ }
 {
