@@ -1,9 +1,9 @@
 -- The eight-byte entry is the entry with a length at 8, and at every length above it: they hear the same frame, so their promises are the same.
 -- Assumes nothing.
 use Prim.Native.Nat.{ℕ, zero, suc, _≤_, min}
-use mathlib.Core.Path.{_≡_, refl, sym, ap, subst, _∙_}
+use mathlib.Core.Path.{_≡_, refl, sym, ap, subst}
 use mathlib.Core.List.{List, [], _∷_}
-use lib.ListN.{length, take}
+use lib.ListN.{length}
 use lib.Seq.{take-all}
 use native.Mathlib.Omega.{arith}
 use Rattle.base.specs.Lists.{fill}

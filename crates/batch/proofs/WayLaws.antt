@@ -1,7 +1,7 @@
 -- The cases of the ways that most frames go, as the code meets them, and the plans that they stand for. Assumes nothing.
 use Prim.Native.Nat.{ℕ, _+_, _-_, _%_, _≤_, _<_}
 use mathlib.Core.Path.{_≡_, refl, sym, ap, _∙_}
-use mathlib.Core.Bool.{Bool, true, false, not, _&&_, _||_, true≢false}
+use mathlib.Core.Bool.{Bool, true, false, not, _||_, true≢false}
 use lib.ListN.{getD}
 use lib.Dec.{eqb, ltb, leb}
 use native.Mathlib.Omega.{arith}

@@ -2,12 +2,12 @@
 -- Assumes nothing.
 use mathlib.Core.List.{List, [], _∷_, map}
 use mathlib.Core.Path.{_≡_, refl, ap}
-use Prim.Native.Nat.{ℕ, _<_}
+use Prim.Native.Nat.{ℕ}
 use native.Mathlib.Omega.{arith}
 use lib.Dec.{lit<, lit≤}
 use Rattle.session.specs.declared.Kind.the-variants as kind
 use Rattle.session.specs.Rules.{base}
-use Rattle.assembler.specs.Call.{Call, CallOk}
+use Rattle.assembler.specs.Call.{Call}
 use Rattle.assembler.specs.Making.{freshPool}
 use Rattle.assembler.specs.View.{receiveOf}
 use Rattle.ledger.specs.Ledger.{sayingDue, ledgerOf, did, openings, held, Delivered, Broken, Stray, NoSlot, BadFrame, AtOnce}

@@ -12,7 +12,7 @@ use Rattle.session.specs.declared.Counters.{Counters}
 use Rattle.session.specs.declared.Heard.{Heard}
 use Rattle.session.specs.Rules.{Rules}
 use Rattle.session.specs.Frames.{indexOf, sizeOf, badSize, isEmpty, cutFirst, badFirst}
-use Rattle.session.specs.Heads.{inTurn, cutNext, isNext, copiedHead, allThere}
+use Rattle.session.specs.Heads.{inTurn, cutNext, isNext}
 use Rattle.session.proofs.Cuts.{eight-sent, eight-first, eight-cut}
 use Rattle.assembler.specs.declared.Arrival.{Arrival}
 use Rattle.assembler.specs.declared.ArrivalWithLength.{ArrivalWithLength}

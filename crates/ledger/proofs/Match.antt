@@ -31,7 +31,7 @@ use Rattle.assembler.specs.Step.{Event, message, padded, saidOf, slotsAfter, op
 use Rattle.assembler.specs.View.{whyKind, replyKind, replyPayload, replyLength}
 use Rattle.ledger.specs.Ledger.{Message, Place, idle, holds, heldIn, newMessage, grown, keyHeld, late, free, freeOfSource, liveHeld, takenBy, full, awaited, left}
 use Rattle.ledger.specs.Ledger.{Deed, Unlisted, BadFrame, NoSlot, Stray, AtOnce, Opening, Restarting, Reclaiming, Copied, Delivered, Broken, deedNumber, isOneOf, openingAt}
-use Rattle.ledger.specs.Ledger.{Told, nothingMoved, opensIn, continuesIn, given, tellOne, framesBytes, ownBytes, announced, briefly, delivery, kindDue, saying, madeUpIn}
+use Rattle.ledger.specs.Ledger.{Told, nothingMoved, opensIn, continuesIn, given, tellOne, framesBytes, ownBytes, announced, briefly, delivery, kindDue, saying, unsentIn}
 use Rattle.ledger.specs.Assemblers.{replySays}
 use Rattle.ledger.proofs.Moves.{within-taken}
 use Rattle.ledger.proofs.Shows.{Shows, HeldSlot, room-of, held-source, key-same, late-same, free-same, freeOfSource-same, live-same, possible, reset-shows, opened-shows, copied-room, awaited-same, full-same, copied-shows, cut-same, copied-source, short-cut, short-full, short-due, whole-due}
@@ -81,8 +81,8 @@ module _ (R : Rules) where
     pub shows : All2 (Shows R) (t .places) (slotsAfter (c .heard) ss e)
     pub says : replySays (gives (saidOf (c .heard) ss e)) ≡ saying (t .deed) (t .message)
     pub marks : act.markOf e ≡ markOf (t .deed)
-    -- no byte of a delivered message is made up
-    pub sent : madeUpIn (t .deed) (t .message) ≡ false
+    -- every byte of a delivered message was sent
+    pub sent : unsentIn (t .deed) (t .message) ≡ false
 
   -- both go the same way at a test
   match-pick : {c : Call} {ss : List Slot} (b : Bool) {t u : Told} {e f : Event} → (b ≡ true → Match c ss t e) → (b ≡ false → Match c ss u f) → Match c ss (pick b t u) (pick b e f)
@@ -110,15 +110,15 @@ module _ (R : Rules) where
   opening-says c (idle kept) = unfold kindDue saying isOneOf any deedNumber pick in refl
   opening-says c (holds m) = late-says (late R c m) (some m)
 
-  late-sent : (b : Bool) (m : Option Message) → madeUpIn (pick b Reclaiming Restarting) m ≡ false
-  unfolding madeUpIn isOneOf any deedNumber pick
+  late-sent : (b : Bool) (m : Option Message) → unsentIn (pick b Reclaiming Restarting) m ≡ false
+  unfolding unsentIn isOneOf any deedNumber pick
   late-sent b none = refl
   late-sent true (some m) = refl
   late-sent false (some m) = refl
 
-  opening-sent : (c : Call) (p : Place) → madeUpIn (openingAt (late R c) p) (heldIn p) ≡ false
+  opening-sent : (c : Call) (p : Place) → unsentIn (openingAt (late R c) p) (heldIn p) ≡ false
   unfolding openingAt heldIn
-  opening-sent c (idle kept) = unfold madeUpIn in refl
+  opening-sent c (idle kept) = unfold unsentIn in refl
   opening-sent c (holds m) = late-sent (late R c m) (some m)
 
   or-false : (a b : Bool) → (a || b) ≡ false → b ≡ false
@@ -132,7 +132,7 @@ module _ (R : Rules) where
   module _ (n : ℕ) (c : Call) (ok : CallOk c) {ps : List Place} {ss : List Slot} (h : All2 (Shows R) ps ss) where
     match-open : 7 ≤ sizeOf (c .heard) → sizeOf (c .heard) ≤ maxPayload → 8 ≤ c .heard .length → (o : Option ℕ) → Within (length ps) o → Match c ss (given o (nothingMoved NoSlot ps) (opensIn R n ps c)) (opensAt R (c .heard) ss o)
     unfolding given opensIn opensAt nothingMoved slotsAfter saidOf act.markOf replySays whyKind replyKind replyPayload replyLength briefly
-    match-open low high all none u = record { kept = refl; shows = h; says = unfold kindDue saying isOneOf any deedNumber pick in refl; marks = unfold markOf in refl; sent = unfold madeUpIn in refl }
+    match-open low high all none u = record { kept = refl; shows = h; says = unfold kindDue saying isOneOf any deedNumber pick in refl; marks = unfold markOf in refl; sent = unfold unsentIn in refl }
     match-open low high all (some i) u =
         let q : Shows R (getD ps i (idle 0)) (slotAt ss i) = all2-at h i u (idle 0) freshSlot in
         record {
@@ -156,21 +156,21 @@ module _ (R : Rules) where
           shows = h;
           says = says-message (take (sizeOf (c .heard)) (firstBytes (c .heard))) _ _ (short-cut R c small all) (short-due R c ok small);
           marks = refl;
-          sent = unfold madeUpIn in rw (short-full R n c ok small all);
+          sent = unfold unsentIn in rw (short-full R n c ok small all);
         }
 
     -- the calls that move nothing
     match-unlisted : Match c ss (nothingMoved Unlisted ps) act.notListed
     unfolding nothingMoved slotsAfter saidOf act.markOf markOf replySays whyKind replyKind replyPayload replyLength kindDue saying isOneOf any deedNumber pick briefly
-    match-unlisted = record { kept = refl; shows = h; says = refl; marks = refl; sent = unfold madeUpIn in refl }
+    match-unlisted = record { kept = refl; shows = h; says = refl; marks = refl; sent = unfold unsentIn in refl }
 
     match-bad : Match c ss (nothingMoved BadFrame ps) act.rejected
     unfolding nothingMoved slotsAfter saidOf act.markOf markOf replySays whyKind replyKind replyPayload replyLength kindDue saying isOneOf any deedNumber pick briefly
-    match-bad = record { kept = refl; shows = h; says = refl; marks = refl; sent = unfold madeUpIn in refl }
+    match-bad = record { kept = refl; shows = h; says = refl; marks = refl; sent = unfold unsentIn in refl }
 
     match-stray : Match c ss (nothingMoved Stray ps) act.stray
     unfolding nothingMoved slotsAfter saidOf act.markOf markOf replySays whyKind replyKind replyPayload replyLength kindDue saying isOneOf any deedNumber pick briefly
-    match-stray = record { kept = refl; shows = h; says = refl; marks = refl; sent = unfold madeUpIn in refl }
+    match-stray = record { kept = refl; shows = h; says = refl; marks = refl; sent = unfold unsentIn in refl }
 
     module _ (i : ℕ) (m : Message) (q : HeldSlot R m (slotAt ss i)) where
       match-full : awaited c m ≡ true → full (grown m c) ≡ true → Match c ss (record { deed = Delivered; message = some (grown m c); places = set ps i (left m) }) (act.completed i)
@@ -181,16 +181,16 @@ module _ (R : Rules) where
             shows = all2-set h i (reset-shows R m (copiedSlot (c .heard) (slotAt ss i)) (copied-source R c m (slotAt ss i) q) (copied-room R c m (slotAt ss i) ok q));
             says = says-message _ _ _ (cut-same R c m (slotAt ss i) ok q turn e ∙ (unfold grown ownBytes framesBytes announced in refl)) (whole-due R c m (slotAt ss i) ok q);
             marks = refl;
-            sent = unfold madeUpIn in rw e;
+            sent = unfold unsentIn in rw e;
           }
 
       match-copied : awaited c m ≡ true → full (grown m c) ≡ false → Match c ss (record { deed = Copied; message = some (grown m c); places = set ps i (holds (grown m c)) }) (act.copied i)
       unfolding slotsAfter saidOf act.markOf markOf replySays whyKind replyKind replyPayload replyLength kindDue saying isOneOf any deedNumber pick briefly
-      match-copied turn e = record { kept = simp length-set; shows = all2-set h i (copied-shows R c m (slotAt ss i) ok q turn e); says = refl; marks = refl; sent = unfold madeUpIn in refl }
+      match-copied turn e = record { kept = simp length-set; shows = all2-set h i (copied-shows R c m (slotAt ss i) ok q turn e); says = refl; marks = refl; sent = unfold unsentIn in refl }
 
       match-broken : Match c ss (record { deed = Broken; message = some m; places = set ps i (left m) }) (act.broken i)
       unfolding slotsAfter saidOf act.markOf markOf replySays whyKind replyKind replyPayload replyLength kindDue saying isOneOf any deedNumber pick briefly
-      match-broken = record { kept = simp length-set; shows = all2-set h i (reset-shows R m (slotAt ss i) (held-source R m (slotAt ss i) q) (q .room)); says = refl; marks = refl; sent = unfold madeUpIn in refl }
+      match-broken = record { kept = simp length-set; shows = all2-set h i (reset-shows R m (slotAt ss i) (held-source R m (slotAt ss i) q) (q .room)); says = refl; marks = refl; sent = unfold unsentIn in refl }
 
       match-own : Match c ss (continuesIn ps c i m) (continuesAt (c .heard) ss (some i))
       unfolding continuesIn continuesAt

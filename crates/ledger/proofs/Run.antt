@@ -22,7 +22,7 @@ use Rattle.assembler.specs.Step as act
 use Rattle.assembler.specs.Step.{eventOf, slotsAfter, outcome, stepIf, step}
 use Rattle.assembler.specs.Runs.{World, afterOutcome, callOne, callAll}
 use Rattle.assembler.specs.View.{headOf}
-use Rattle.ledger.specs.Ledger.{Place, idle, holds, heldIn, late, Told, tellOne, Ledger, numbered, written, tell, tells, blank, ledgerOf, sayingDue, madeUp}
+use Rattle.ledger.specs.Ledger.{Place, idle, holds, heldIn, late, Told, tellOne, Ledger, numbered, written, tell, tells, blank, ledgerOf, sayingDue, unsent}
 use Rattle.ledger.specs.Ledger.{Deed, Unlisted, BadFrame, NoSlot, Stray, AtOnce, Opening, Restarting, Reclaiming, Copied, Delivered, Broken, deedNumber, isOneOf, asNumber, howMany, did, isSome, held}
 use Rattle.ledger.specs.Demand3.{inProgress, Agreed}
 use Rattle.ledger.specs.Assemblers.{AllOk, none, more, replySays, seenOf}
@@ -69,7 +69,7 @@ pub record Follows (R : Rules) (w : World) (L : Ledger) : Type 0 where
   pub enough : w .pool .size ≤ length (w .pool .slots)
   pub shows : All2 (Shows R) (L .places) (within (w .pool))
   pub answers : map replySays (w .replies) ≡ map sayingDue (L .entries)
-  pub sent : any madeUp (L .entries) ≡ false
+  pub sent : any unsent (L .entries) ≡ false
   pub counts : Counted (w .counters) L
 
 -- these slots, before any call
@@ -107,7 +107,7 @@ module _ (R : Rules) (w : World) (L : Ledger) (c : Call) (ok : CallOk c) (h : Fo
         enough = omega (arith, length-append (slotsAfter (c .heard) (within (w .pool)) happened) (drop (w .pool .size) (w .pool .slots)), slots-length);
         shows = rw (take-at (slotsAfter (c .heard) (within (w .pool)) happened) (drop (w .pool .size) (w .pool .slots)) (w .pool .size) slots-length) (matched .shows);
         answers = cc (matched .says, h .answers);
-        sent = unfold any madeUp in rw (matched .sent) (h .sent);
+        sent = unfold any unsent in rw (matched .sent) (h .sent);
         counts = rw (matched .marks) (counted-call (w .counters) L c (told .deed) told refl l (h .counts));
       }
 

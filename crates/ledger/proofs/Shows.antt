@@ -1,7 +1,7 @@
 -- A place of the ledger and a slot of the pool: when the slot shows the place, that the tests of both agree, that such a slot is possible, and that the
 -- slots which a call leaves show the places which the ledger leaves. Nothing is asked of the test for silence or of the test for the key.
 -- Assumes nothing.
-use mathlib.Core.Bool.{Bool, true, false, not, _&&_}
+use mathlib.Core.Bool.{Bool, true, false, not}
 use mathlib.Core.List.{_++_}
 use mathlib.Core.Path.{_≡_, refl, sym, ap, _∙_}
 use Prim.Native.Nat.{ℕ, suc, _+_, _*_, _-_, _≤_, _<_, min}

@@ -20,7 +20,7 @@ use Rattle.assembler.specs.Call.{Call}
 use Rattle.assembler.specs.Slots.{Slot, within, resetSlot}
 use Rattle.assembler.specs.Making.{freshPool}
 use Rattle.assembler.specs.View.{slotsOf, replyBy, replyOf, receiveOf}
-use Rattle.ledger.specs.Demand2.{originalEvent, continuedAt, cutAt, neededCut, Answered, Ignored, FragmentConsumed, MessageComplete, whole, answerOf, Original, happens, originalIf, originalOf, asIgnored, readReply, asOriginal}
+use Rattle.ledger.specs.Demand2.{originalEvent, continuedAt, neededCut, Answered, Ignored, FragmentConsumed, MessageComplete, whole, answerOf, Original, happens, originalIf, originalOf, asIgnored, readReply, asOriginal}
 use Rattle.ledger.specs.Assemblers.{Receive, Demand2, AlwaysIgnores, OneKind, NeverStores}
 use Rattle.ledger.proofs.Demand2.{none-cut, call-as}
 use Rattle.ledger.proofs.EveryFate.{ran, frame, announces, goes-on}

@@ -12,7 +12,7 @@ use Rattle.session.specs.Rules.{Rules}
 use Rattle.session.specs.Frames.{indexOf, sizeOf, cutFirst}
 use Rattle.session.specs.Heads.{hasKey, isSilent}
 use Rattle.assembler.specs.Call.{Call, listed}
-use Rattle.ledger.specs.Ledger.{Ledger, Saying, nextDeed, sayingDue, madeUp, OwnBook, opens, isOneOf, asNumber, howMany, did, openings, held, wasOpened, fatesOf, Delivered, Broken, Restarting, Reclaiming, NoSlot, Stray, BadFrame, Unlisted}
+use Rattle.ledger.specs.Ledger.{Ledger, Saying, nextDeed, sayingDue, unsent, OwnBook, opens, isOneOf, asNumber, howMany, did, openings, held, wasOpened, fatesOf, Delivered, Broken, Restarting, Reclaiming, NoSlot, Stray, BadFrame, Unlisted}
 
 -- what is seen after a run: all that was said, the latest first; the heads of the slots within the size; the counters
 pub record Seen : Type 0 where
@@ -30,7 +30,7 @@ pub record Agreed (s : Seen) (L : Ledger) : Type 0 where
   -- ... and its own frames are the one that began it and all that were copied for it, by the book
   pub own : OwnBook (L .entries)
   -- ... which sent as many bytes as it announced, so that every byte of it was sent: no filling stands in it
-  pub sent : any madeUp (L .entries) ≡ false
+  pub sent : any unsent (L .entries) ≡ false
   -- the five counts add up to those opened
   pub five-counts-add-up : did Delivered L + did Broken L + did Restarting L + did Reclaiming L + held L ≡ openings L
   -- each opened message has exactly one fate, and a number that was not opened has none

@@ -188,10 +188,10 @@ saying d m = pick (isOneOf (AtOnce ∷ Delivered ∷ []) d) (delivery m) (briefl
 unfoldable pub sayingDue : Entry → Saying
 sayingDue e = saying (e .deed) (e .message)
 
--- a message is delivered, and its own frames did not send as many bytes as it announced: a byte of it would be made up
-unfoldable pub madeUpIn : Deed → Option Message → Bool
-madeUpIn d none = false
-madeUpIn d (some m) = isOneOf (AtOnce ∷ Delivered ∷ []) d && not (full m)
+-- a message is delivered, and its own frames did not send as many bytes as it announced: a byte of it was not sent
+unfoldable pub unsentIn : Deed → Option Message → Bool
+unsentIn d none = false
+unsentIn d (some m) = isOneOf (AtOnce ∷ Delivered ∷ []) d && not (full m)
 
-unfoldable pub madeUp : Entry → Bool
-madeUp e = madeUpIn (e .deed) (e .message)
+unfoldable pub unsent : Entry → Bool
+unsent e = unsentIn (e .deed) (e .message)
