@@ -1,7 +1,7 @@
 -- A call keeps a possible pool possible, for any rules. Assumes nothing.
 use Prim.Native.Nat.{ℕ, zero, suc, _+_, _-_, _*_, _≤_, _<_, min}
 use mathlib.Core.Path.{_≡_, refl, _∙_}
-use mathlib.Core.Bool.{Bool, true, false, _&&_}
+use mathlib.Core.Bool.{Bool, true, false}
 use mathlib.Core.Option.{Option, none, some}
 use mathlib.Core.List.{List, [], _∷_, _++_, append-nil}
 use lib.ListN.{length, take, drop, set, length-set, length-take, length-drop, length-replicate, drop-of-length-le}
@@ -11,6 +11,7 @@ use native.Mathlib.Omega.{arith}
 use borrow.Author.Tests.{ltb-false, leb-false, eqb-true, lt-ltb, le-ltb, eq-eqb}
 use Rattle.base.specs.Pick.{pick}
 use Rattle.base.specs.Lists.{any}
+use Rattle.base.proofs.Bools.{or-left, or-right, and-false}
 use Rattle.base.proofs.Cases.{less?}
 use Rattle.base.proofs.First.{first-passes}
 use Rattle.session.specs.declared.Counters.{Counters}
@@ -20,7 +21,7 @@ use Rattle.session.specs.Rules.{Rules}
 use Rattle.session.specs.Frames.{sequenceOf, indexOf, sizeOf, badSize, firstBytes, nextBytes, isEmpty, badFirst}
 use Rattle.session.specs.Heads.{impossibleHead, hasLiveKey, inTurn, isNext, openedHead, resetHead, wanted, copiedHead, allThere}
 use Rattle.session.proofs.Cuts.{first-good, next-in-turn}
-use Rattle.session.proofs.Sound.{Sound, sound, none-at, busy-live, or-left, or-right}
+use Rattle.session.proofs.Sound.{Sound, sound, none-at, busy-live}
 use Rattle.assembler.specs.Call.{Call, CallOk, listed}
 use Rattle.assembler.specs.Slots.{Slot, Slots, freshSlot, slotAt, within, onHead, impossible, chosen, live, openedSlot, resetSlot, copiedSlot}
 use Rattle.assembler.specs.Step.{Event, notListed, rejected, shortMessage, poolFull, opened, stray, broken, copied, completed, opensAt, continuesAt, eventOf, slotsAfter, outcome, stepIf, step}
@@ -71,10 +72,6 @@ opened-fine R f a b d = rw (le-ltb 7 (sequenceOf f) a, le-ltb (sizeOf f) 7 b, le
 reset-fine : (R : Rules) (h : Head) → impossibleHead (resetHead h) ≡ false
 unfolding impossibleHead resetHead
 reset-fine R h = refl
-
-and-false : (a : Bool) → (a && false) ≡ false
-and-false true = refl
-and-false false = refl
 
 copied-fine : (R : Rules) (f : Heard) (h : Head) → Sound h → isNext f h ≡ true → allThere (copiedHead f h) ≡ false → impossibleHead (copiedHead f h) ≡ false
 unfolding impossibleHead copiedHead allThere inTurn wanted

@@ -12,14 +12,15 @@ use native.Mathlib.Omega.{arith}
 use borrow.Author.Tests.{lt-ltb, eqb-false, leb-true, leb-false}
 use Rattle.base.specs.Pick.{pick}
 use Rattle.base.specs.Lists.{firstAt, orElse}
-use Rattle.base.proofs.Cases.{less?}
+use Rattle.base.proofs.Bools.{or-true}
+use Rattle.base.proofs.Cases.{less?, pick-both}
 use Rattle.session.specs.declared.Counters.{Counters}
 use Rattle.session.specs.declared.Head.{Head}
 use Rattle.session.specs.declared.Heard.{Heard}
 use Rattle.session.specs.Rules.{Rules, Key}
 use Rattle.session.specs.Frames.{sequenceOf, indexOf, sizeOf, firstBytes, nextBytes, keyOf, badSize, isEmpty, cutFirst, badFirst}
 use Rattle.session.specs.Heads.{headKey, hasKey, isFree, isFreeOfSource, isSilent, hasLiveKey, isExpired, openedHead, wanted, inTurn, cutNext, isNext, copiedHead, allThere}
-use Rattle.session.proofs.Cuts.{sent-part, first-sent, next-sent, or-sure}
+use Rattle.session.proofs.Cuts.{sent-part, first-sent, next-sent}
 use Rattle.assembler.specs.Call.{Call, listed}
 use Rattle.assembler.specs.Slots.{Slot, Slots, within, slotAt, onHead, impossible, chosen, live, openedSlot, copiedSlot}
 use Rattle.assembler.specs.Step.{Event, rejected, shortMessage, copied, completed, opensAt, continuesAt, eventOf, slotsAfter, markOf, saidOf, outcome, stepIf, step}
@@ -42,11 +43,6 @@ module _ (now pgn source sent : ℕ) where
       said : saidOf (frame d) ss a ≡ saidOf (frame e) ss b
       mark : markOf a ≡ markOf b
 
-    alike-pick : {ss : List Slot} (t : Bool) {a b a′ b′ : Event} → (t ≡ true → Alike ss a a′) → (t ≡ false → Alike ss b b′) → Alike ss (pick t a b) (pick t a′ b′)
-    unfolding pick
-    alike-pick true h g = h refl
-    alike-pick false h g = g refl
-
     alike-rejected : (ss : List Slot) → Alike ss rejected rejected
     unfolding slotsAfter saidOf
     alike-rejected ss = record { slots = refl; said = refl; mark = refl }
@@ -59,7 +55,7 @@ module _ (now pgn source sent : ℕ) where
     -- and with less a first frame is bad whatever it announces
     one-bad : sent < 2 → (bytes : List ℕ) → badFirst (frame bytes) ≡ true
     unfolding badFirst cutFirst
-    one-bad few bytes = rw (lt-ltb sent (2 + min 6 (sizeOf (frame bytes))) (omega (arith, few))) (or-sure (badSize (frame bytes)))
+    one-bad few bytes = rw (lt-ltb sent (2 + min 6 (sizeOf (frame bytes))) (omega (arith, few))) (or-true (badSize (frame bytes)))
 
     bad-same : badFirst (frame d) ≡ badFirst (frame e)
     bad-same = less? sent 2 (λ few. one-bad few d ∙ sym (one-bad few e)) (λ two. unfold badFirst badSize cutFirst in rw (size-same two))
@@ -102,7 +98,7 @@ module _ (now pgn source sent : ℕ) where
             (pick (leb (sizeOf (frame e)) 6) shortMessage (opensAt R (frame e) ss (chosen R (frame e) ss)))
         alike-good =
             rw (size-same (omega (arith, whole)), chosen-same)
-            (alike-pick (leb (sizeOf (frame e)) 6) (λ short. alike-short (leb-true (sizeOf (frame e)) 6 short)) (λ long. alike-open (leb-false (sizeOf (frame e)) 6 long) (chosen R (frame e) ss)))
+            (pick-both (Alike ss) (leb (sizeOf (frame e)) 6) (λ short. alike-short (leb-true (sizeOf (frame e)) 6 short)) (λ long. alike-open (leb-false (sizeOf (frame e)) 6 long) (chosen R (frame e) ss)))
 
       -- ---- a continuation
       live-same : live R (frame d) ss ≡ live R (frame e) ss
@@ -132,7 +128,7 @@ module _ (now pgn source sent : ℕ) where
       alike-next none = unfold slotsAfter saidOf in record { slots = refl; said = refl; mark = refl }
       alike-next (some i) =
           rw (next-same (slotAt ss i .head), copied-head-same (slotAt ss i .head))
-          (alike-pick (isNext (frame e) (slotAt ss i .head)) (λ turn. alike-copy i turn (allThere (copiedHead (frame e) (slotAt ss i .head))))
+          (pick-both (Alike ss) (isNext (frame e) (slotAt ss i .head)) (λ turn. alike-copy i turn (allThere (copiedHead (frame e) (slotAt ss i .head))))
           (λ out. unfold slotsAfter saidOf in record { slots = refl; said = refl; mark = refl }))
 
       -- ---- by the tests that a listed frame with a byte goes through
@@ -141,8 +137,8 @@ module _ (now pgn source sent : ℕ) where
           (pick (eqb (indexOf (frame e)) 0) (pick (badFirst (frame e)) rejected (pick (leb (sizeOf (frame e)) 6) shortMessage (opensAt R (frame e) ss (chosen R (frame e) ss)))) (continuesAt (frame e) ss (live R (frame e) ss)))
       alike-listed =
           rw (index-same, bad-same, live-same)
-          (alike-pick (eqb (indexOf (frame e)) 0)
-          (λ first. alike-pick (badFirst (frame e)) (λ bad. alike-rejected ss) (λ good. alike-good (first-sent (frame e) good)))
+          (pick-both (Alike ss) (eqb (indexOf (frame e)) 0)
+          (λ first. pick-both (Alike ss) (badFirst (frame e)) (λ bad. alike-rejected ss) (λ good. alike-good (first-sent (frame e) good)))
           (λ next. alike-next (live R (frame e) ss)))
 
     -- ---- one call
@@ -153,8 +149,8 @@ module _ (now pgn source sent : ℕ) where
       alike : (ss : List Slot) → Alike ss (eventOf R ss (call d)) (eventOf R ss (call e))
       unfolding eventOf isEmpty
       alike ss =
-          alike-pick (listed (call e))
-          (λ yes. alike-pick (eqb sent 0) (λ none. alike-rejected ss) (λ some. alike-listed R ss (not-none (eqb-false sent 0 some))))
+          pick-both (Alike ss) (listed (call e))
+          (λ yes. pick-both (Alike ss) (eqb sent 0) (λ none. alike-rejected ss) (λ some. alike-listed R ss (not-none (eqb-false sent 0 some))))
           (λ no. unfold slotsAfter saidOf in record { slots = refl; said = refl; mark = refl })
         where
           not-none : (sent ≡ 0 → ⊥) → 0 < sent

@@ -24,7 +24,8 @@ use Rattle.assembler.specs.Slots.{Slot, Slots, within, slotAt, impossibl
 pub data Event : Type 0 where
   -- step 2: "PGN not listed"
   notListed : Event
-  -- step 3: announced 0 or over 223, or cut short, or no byte at all; a message of 1 to 6 bytes; no slot to take; slot i opened, and whether the message it held is late
+  -- step 3: announced 0 or over 223, or cut short, or no byte at all; a message of 1 to 6 bytes; no slot to take; slot i opened, and whether the message it
+  -- held is late
   rejected shortMessage poolFull : Event
   opened : ℕ → Bool → Event
   -- step 4: no live slot with this key; slot i reset, by a frame out of turn or cut short; a fragment copied to slot i; and all is there

@@ -22,6 +22,12 @@ unfolding pick
 pick-all P true h k = h
 pick-all P false h k = k
 
+-- what holds of two values that one test picks
+pub pick-both : {A B : Type 0} (P : A → B → Type 0) (t : Bool) {x x′ : A} {y y′ : B} → (t ≡ true → P x y) → (t ≡ false → P x′ y′) → P (pick t x x′) (pick t y y′)
+unfolding pick
+pick-both P true h k = h refl
+pick-both P false h k = k refl
+
 -- ---- uniqueness: two answers that meet a promise are equal, where the promise is an equation of the answer
 pub determined : {A : Type 0} {x r s : A} → r ≡ x → s ≡ x → r ≡ s
 determined p q = p ∙ sym q

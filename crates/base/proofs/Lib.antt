@@ -1,3 +1,4 @@
+pub mod Bools
 pub mod Cases
 pub mod First
 pub mod Paired

@@ -27,7 +27,7 @@ use Rattle.session.specs.Counting.{raised}
 use Rattle.session.specs.inner.Search.{nothingFound, seenIf, foundIn}
 use Rattle.session.specs.inner.Plan.{idle}
 use Rattle.session.proofs.Seen.{seen-bad}
-use Rattle.session.proofs.Sound.{or-left, or-right}
+use Rattle.base.proofs.Bools.{or-left, or-right}
 use Rattle.assembler.specs.declared.Pool.{Pool}
 use Rattle.assembler.specs.Slots.{onHead, impossible}
 use Rattle.assembler.specs.View.{slotsFrom, slotsOf, receiveOf}

@@ -28,7 +28,7 @@ use Rattle.session.specs.Frames.{sequenceOf, indexOf, sizeOf, badSize, badFirst
 use Rattle.session.specs.Heads.{copiedHead, headKey, hasKey, isSilent, isFree, isFreeOfSource, hasLiveKey}
 use Rattle.session.specs.inner.Search.{seen, seenIf, foundIn, firstOf, placeOf, withinLimit}
 use Rattle.session.specs.inner.Plan.{idle, planOpen, planShort, planSized, planFirst, planCopy, planTurn, planNext, planIndex, planSent, planListed, planOf}
-use Rattle.session.proofs.Sound.{or-left, or-right}
+use Rattle.base.proofs.Bools.{or-left, or-right}
 use Rattle.session.proofs.Cuts.{eight-sent, eight-bad}
 use Rattle.session.proofs.Seen.{place, seen-key, seen-live, seen-own, seen-free}
 use Rattle.assembler.specs.declared.Pool.{Pool}

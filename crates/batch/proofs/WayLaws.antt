@@ -19,7 +19,7 @@ use Rattle.session.specs.Heads.{inTurn, wanted, copiedHead, allThere}
 use Rattle.session.specs.Counting.{raised}
 use Rattle.session.specs.Kinds.{kindNumber}
 use Rattle.session.specs.inner.Plan.{idle, planOpen, planShort, planSized, planFirst, planCopy, planTurn, planNext, planIndex, planSent, planListed, planOf}
-use Rattle.session.proofs.Sound.{and-left, and-right}
+use Rattle.base.proofs.Bools.{and-left, and-right}
 use Rattle.session.proofs.Cuts.{eight-sent, eight-bad, eight-next}
 use Rattle.batch.specs.declared.ways.Untaken.{Untaken}
 use Rattle.batch.specs.inner.Ways.{shortIn, missKind, missMark, runsOn}

@@ -11,6 +11,8 @@ use lib.Dec.{eqb, ltb, leb}
 use borrow.Author.Tests.{leb-false, leb-true, ltb-false, ltb-true, le-leb, lt-leb, ne-eqb}
 use Rattle.base.specs.Pick.{pick}
 use Rattle.base.specs.Lists.{nextPlace, here, orElse, firstAt, any}
+use Rattle.base.proofs.Bools.{and-false}
+use Rattle.base.proofs.Cases.{pick-all}
 use Rattle.base.proofs.First.{Test, test, passes, fails}
 use Rattle.fast_packet.specs.FastPacket.{maxPayload}
 use Rattle.session.specs.declared.Head.{Head}
@@ -104,11 +106,6 @@ admits-pick false h g = g
 abbrev Neither : Told → Type 0
 Neither t = Admits t false false
 
-neither-pick : (b : Bool) {t u : Told} → Neither t → Neither u → Neither (pick b t u)
-unfolding pick
-neither-pick true h g = h
-neither-pick false h g = g
-
 module _ (R : Rules) (n : ℕ) (ps : List Place) (c : Call) where
   admits-late : (b : Bool) (o : Option Message) (qs : List Place) → Admits (record { deed = pick b Reclaiming Restarting; message = o; places = qs }) true false
   unfolding pick opens isOneOf any deedNumber
@@ -128,7 +125,7 @@ module _ (R : Rules) (n : ℕ) (ps : List Place) (c : Call) where
   neither-own : (i : ℕ) (m : Message) → Neither (continuesIn ps c i m)
   unfolding continuesIn opens isOneOf any deedNumber
   neither-own i m =
-      neither-pick (awaited c m) (neither-pick (full (grown m c)) (record { opening = refl; refusing = refl }) (record { opening = refl; refusing = refl })) (record { opening = refl; refusing = refl })
+      pick-all Neither (awaited c m) (pick-all Neither (full (grown m c)) (record { opening = refl; refusing = refl }) (record { opening = refl; refusing = refl })) (record { opening = refl; refusing = refl })
 
   neither-held : (i : ℕ) (o : Option Message) → Neither (given o (nothingMoved Stray ps) (continuesIn ps c i))
   unfolding given nothingMoved
@@ -170,10 +167,6 @@ size-tests c = go (test (leb (sizeOf (c .heard)) 6)) (test (ltb maxPayload (size
   where
     n : ℕ
     n = sizeOf (c .heard)
-
-    and-false : (a : Bool) → (a && false) ≡ false
-    and-false true = refl
-    and-false false = refl
 
     go : Test (leb n 6) → Test (ltb maxPayload n) → (not (eqb n 0 || ltb maxPayload n) && not (leb n 6)) ≡ (leb 7 n && leb n maxPayload)
     go (passes small) big = rw (small, and-false (not (eqb n 0 || ltb maxPayload n)), lt-leb 7 n (omega (arith, leb-true n 6 small)))

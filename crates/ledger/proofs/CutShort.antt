@@ -1,5 +1,5 @@
--- Frames cut short, of which demand 3 speaks too: a run that has every one of them, and the assembler that fills up within a message, of which demand 3 does not hold.
--- Assumes nothing.
+-- Frames cut short, of which demand 3 speaks too: a run that has each kind of cut, and the assembler that fills up within a message, of which demand 3 does
+-- not hold. Assumes nothing.
 use mathlib.Core.List.{List, [], _∷_, map}
 use mathlib.Core.Path.{_≡_, refl, ap}
 use Prim.Native.Nat.{ℕ}
@@ -17,11 +17,11 @@ use Rattle.ledger.specs.Assemblers.{Demand3, Receive, AllOk, none, more,
 use Rattle.ledger.proofs.EveryFate.{ran, told, cutFrame, frame, announces, saidKind}
 use Rattle.ledger.proofs.Trials.{lastLength, lastByte}
 
--- of whose bytes the first k were sent, and 0xFF follows as the entry with a length fills up: the first frame of a message of eight bytes
+-- the first frame of a message of eight bytes, of which the first k bytes were sent
 unfoldable pub beginsCut : ℕ → ℕ → Call
 beginsCut k now = cutFrame k now 35 (0 ∷ 8 ∷ 1 ∷ 2 ∷ 3 ∷ 4 ∷ 5 ∷ 255 ∷ [])
 
--- its continuation, of which only byte 0 and one byte of the message were sent
+-- its continuation, of which only byte 0 and one byte of the message were sent, filled up
 unfoldable pub endsCut : ℕ → Call
 endsCut now = cutFrame 2 now 35 (1 ∷ 7 ∷ 255 ∷ 255 ∷ 255 ∷ 255 ∷ 255 ∷ 255 ∷ [])
 
@@ -29,13 +29,13 @@ endsCut now = cutFrame 2 now 35 (1 ∷ 7 ∷ 255 ∷ 255 ∷ 255 ∷ 255 ∷ 255
 unfoldable pub endsWhole : ℕ → Call
 endsWhole now = cutFrame 3 now 35 (1 ∷ 7 ∷ 8 ∷ 255 ∷ 255 ∷ 255 ∷ 255 ∷ 255 ∷ [])
 
--- ---- one slot, and every cut
+-- ---- one slot, and each kind of cut
 
 unfoldable pub cuts : List Call
 cuts =
     -- a first frame without its last byte is Rejected, and so are one without its size and a frame without a byte
     beginsCut 7 0 ∷ beginsCut 1 1 ∷ cutFrame 0 2 35 (255 ∷ 255 ∷ 255 ∷ 255 ∷ 255 ∷ 255 ∷ 255 ∷ 255 ∷ [])
-    -- then there is no message to continue: a stray, cut or not
+    -- then there is no message to continue: a stray, though it is cut
     ∷ endsCut 3
     -- a message broken by a continuation that lacks a byte
     ∷ announces 8 4 35 ∷ endsCut 5

@@ -8,6 +8,7 @@ use mathlib.Core.List.{List}
 use lib.Dec.{eqb, leb}
 use Rattle.base.specs.Answer.{gives, refuses}
 use Rattle.base.specs.Pick.{pick}
+use Rattle.base.proofs.Bools.{and-false}
 use Rattle.session.specs.declared.Counters.{Counters}
 use Rattle.session.specs.declared.Heard.{Heard}
 use Rattle.session.specs.Rules.{Rules}
@@ -46,10 +47,6 @@ said-as f ss (completed i) = refl
 abbrev readOutcome : Outcome → Original
 readOutcome o = record { answer = readReply (o .reply); pool = poolOf (o .pool); counters = o .counters }
 
-and-none : (a : Bool) → (a && false) ≡ false
-and-none true = refl
-and-none false = refl
-
 -- ---- where no byte that is needed was cut, the event is that of document 01's own steps
 
 whole-first : (a b : Bool) → (not a && b) ≡ false → (a || b) ≡ a
@@ -85,13 +82,13 @@ module _ (R : Rules) (ss : List Slot) (c : Call) where
   cut-none : c .heard .length ≡ 8 → (o : Option ℕ) → cutAt (c .heard) ss o ≡ false
   unfolding cutAt
   cut-none eight none = refl
-  cut-none eight (some i) = rw (eight-cut (c .heard) eight (slotAt ss i .head)) (and-none (inTurn (c .heard) (slotAt ss i .head)))
+  cut-none eight (some i) = rw (eight-cut (c .heard) eight (slotAt ss i .head)) (and-false (inTurn (c .heard) (slotAt ss i .head)))
 
   pub none-cut : c .heard .length ≡ 8 → neededCut R ss c ≡ false
   unfolding neededCut pick
   none-cut eight =
-      rw (eight-sent (c .heard) eight, eight-first (c .heard) eight, cut-none eight (live R (c .heard) ss), and-none (not (badSize (c .heard))), same (eqb (indexOf (c .heard)) 0))
-      (and-none (listed c))
+      rw (eight-sent (c .heard) eight, eight-first (c .heard) eight, cut-none eight (live R (c .heard) ss), and-false (not (badSize (c .heard))), same (eqb (indexOf (c .heard)) 0))
+      (and-false (listed c))
     where
       same : (b : Bool) → pick b false false ≡ false
       same true = refl

@@ -1,6 +1,6 @@
 -- The walk: one call keeps slots and places in step. It says what the ledger's deed calls for and marks its counter.
 -- Assumes nothing.
-use mathlib.Core.Bool.{Bool, true, false, _||_, true≢false, false≢true}
+use mathlib.Core.Bool.{Bool, true, false, false≢true}
 use mathlib.Core.List.{List}
 use mathlib.Core.Option.{Option, none, some}
 use mathlib.Core.Path.{_≡_, refl, subst, _∙_}
@@ -12,6 +12,8 @@ use borrow.Author.Tests.{leb-true, leb-false, ltb-false}
 use Rattle.base.specs.Answer.{gives}
 use Rattle.base.specs.Pick.{pick}
 use Rattle.base.specs.Lists.{firstAt, any}
+use Rattle.base.proofs.Bools.{or-right}
+use Rattle.base.proofs.Cases.{pick-both}
 use Rattle.base.proofs.First.{first-passes}
 use Rattle.base.proofs.Paired.{All2, all2-first, all2-any, all2-at, all2-set}
 use Rattle.book.proofs.Moves.{Within}
@@ -84,12 +86,6 @@ module _ (R : Rules) where
     -- every byte of a delivered message was sent
     pub sent : unsentIn (t .deed) (t .message) ≡ false
 
-  -- both go the same way at a test
-  match-pick : {c : Call} {ss : List Slot} (b : Bool) {t u : Told} {e f : Event} → (b ≡ true → Match c ss t e) → (b ≡ false → Match c ss u f) → Match c ss (pick b t u) (pick b e f)
-  unfolding pick
-  match-pick true h g = h refl
-  match-pick false h g = g refl
-
   late-marks : (b : Bool) → expiredMark b ≡ markOf (pick b Reclaiming Restarting)
   unfolding expiredMark markOf pick
   late-marks true = refl
@@ -121,13 +117,9 @@ module _ (R : Rules) where
   opening-sent c (idle kept) = unfold unsentIn in refl
   opening-sent c (holds m) = late-sent (late R c m) (some m)
 
-  or-false : (a b : Bool) → (a || b) ≡ false → b ≡ false
-  or-false true b e = absurd (true≢false e)
-  or-false false b e = e
-
   good-size : (c : Call) → badFirst (c .heard) ≡ false → sizeOf (c .heard) ≤ maxPayload
   unfolding badSize
-  good-size c e = ltb-false maxPayload (sizeOf (c .heard)) (or-false (eqb (sizeOf (c .heard)) 0) (ltb maxPayload (sizeOf (c .heard))) (first-good (c .heard) e))
+  good-size c e = ltb-false maxPayload (sizeOf (c .heard)) (or-right (eqb (sizeOf (c .heard)) 0) (ltb maxPayload (sizeOf (c .heard))) (first-good (c .heard) e))
 
   module _ (n : ℕ) (c : Call) (ok : CallOk c) {ps : List Place} {ss : List Slot} (h : All2 (Shows R) ps ss) where
     match-open : 7 ≤ sizeOf (c .heard) → sizeOf (c .heard) ≤ maxPayload → 8 ≤ c .heard .length → (o : Option ℕ) → Within (length ps) o → Match c ss (given o (nothingMoved NoSlot ps) (opensIn R n ps c)) (opensAt R (c .heard) ss o)
@@ -196,8 +188,8 @@ module _ (R : Rules) where
       unfolding continuesIn continuesAt
       match-own =
           rw (← awaited-same R c m (slotAt ss i) ok q)
-          (match-pick (awaited c m)
-          (λ turn. rw (full-same R c m (slotAt ss i) ok q turn (full (grown m c)) refl) (match-pick (full (grown m c)) (match-full turn) (match-copied turn)))
+          (pick-both (Match c ss) (awaited c m)
+          (λ turn. rw (full-same R c m (slotAt ss i) ok q turn (full (grown m c)) refl) (pick-both (Match c ss) (full (grown m c)) (match-full turn) (match-copied turn)))
           (λ out. match-broken))
 
     match-held : (i : ℕ) (p : Place) → Shows R p (slotAt ss i) → liveHeld R c p ≡ true → Match c ss (given (heldIn p) (nothingMoved Stray ps) (continuesIn ps c i)) (continuesAt (c .heard) ss (some i))
@@ -226,11 +218,11 @@ module _ (R : Rules) where
     pub match : Match c ss (tellOne R n ps c) (eventOf R ss c)
     unfolding tellOne eventOf
     match =
-        match-pick (listed c)
-        (λ yes. match-pick (isEmpty (c .heard)) (λ none. match-bad)
-        (λ some. match-pick (eqb (indexOf (c .heard)) 0)
-        (λ first. match-pick (badFirst (c .heard)) (λ bad. match-bad)
-        (λ good. match-pick (leb (sizeOf (c .heard)) 6) (λ short. match-short (leb-true (sizeOf (c .heard)) 6 short) (short-sent good (leb-true (sizeOf (c .heard)) 6 short)))
+        pick-both (Match c ss) (listed c)
+        (λ yes. pick-both (Match c ss) (isEmpty (c .heard)) (λ none. match-bad)
+        (λ some. pick-both (Match c ss) (eqb (indexOf (c .heard)) 0)
+        (λ first. pick-both (Match c ss) (badFirst (c .heard)) (λ bad. match-bad)
+        (λ good. pick-both (Match c ss) (leb (sizeOf (c .heard)) 6) (λ short. match-short (leb-true (sizeOf (c .heard)) 6 short) (short-sent good (leb-true (sizeOf (c .heard)) 6 short)))
         (λ long. match-chosen (leb-false (sizeOf (c .heard)) 6 long) (good-size c good) (long-sent good (leb-false (sizeOf (c .heard)) 6 long)))))
         (λ next. match-live)))
         (λ no. match-unlisted)

@@ -1,6 +1,6 @@
 -- What a batch leaves and says is what the single calls of the frames it took leave and say; and those frames have eight bytes each.
 -- Assumes nothing.
-use mathlib.Core.Bool.{Bool, true, false, _||_, true≢false}
+use mathlib.Core.Bool.{Bool, true, false}
 use mathlib.Core.List.{List, [], _∷_, _++_, append-assoc, append-nil}
 use mathlib.Core.Path.{_≡_, refl, sym, ap, subst, _∙_}
 use Prim.Native.Nat.{ℕ, zero, suc, _+_, _*_, _≤_, _<_}
@@ -11,6 +11,7 @@ use lib.Dec.{ltb}
 use borrow.Author.Tests.{ltb-false}
 use Rattle.base.specs.Answer.{gives, refuses}
 use Rattle.base.specs.Pick.{pick}
+use Rattle.base.proofs.Bools.{or-left, or-right}
 use Rattle.session.specs.declared.Heard.{Heard}
 use Rattle.session.specs.declared.Counters.{Counters}
 use Rattle.session.specs.declared.Kind.{Kind}
@@ -183,17 +184,9 @@ rows-ok l w small (suc n) i h =
     } in
     more ok (rows-ok l w small n (suc i) (omega arith))
 
-or-first : (a b : Bool) → (a || b) ≡ false → a ≡ false
-or-first true b e = e
-or-first false b e = refl
-
-or-second : (a b : Bool) → (a || b) ≡ false → b ≡ false
-or-second true b e = absurd (true≢false e)
-or-second false b e = e
-
 long-enough : (n pgns sources bytes kinds lengths : ℕ) → tooShort n pgns sources bytes kinds lengths ≡ false → n * 8 ≤ bytes
 unfolding tooShort
-long-enough n pgns sources bytes kinds lengths e = ltb-false bytes (n * 8) (or-first (ltb bytes (n * 8)) _ (or-second (ltb sources n) _ (or-second (ltb pgns n) _ e)))
+long-enough n pgns sources bytes kinds lengths e = ltb-false bytes (n * 8) (or-left (ltb bytes (n * 8)) _ (or-right (ltb sources n) _ (or-right (ltb pgns n) _ e)))
 
 pub record Taken (z y : State) (cs : List Call) : Type 0 where
   pub is : y ≡ receives (receiveOf base) z cs

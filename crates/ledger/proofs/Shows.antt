@@ -12,7 +12,7 @@ use borrow.Author.Tests.{eqb-true, leb-true, leb-false, le-leb, lt-leb, le-ltb, 
 use Rattle.fast_packet.specs.FastPacket.{maxPayload}
 use Rattle.session.specs.Rules.{Key, Rules}
 use Rattle.session.specs.Frames.{sequenceOf, indexOf, sizeOf, firstBytes, nextBytes, keyOf, sentBytes}
-use Rattle.session.proofs.Sound.{and-left}
+use Rattle.base.proofs.Bools.{and-left}
 use Rattle.session.proofs.Cuts.{sent-part, next-sent}
 use Rattle.session.specs.Heads.{headKey, impossibleHead, hasKey, isSilent, isFree, isFreeOfSource, hasLiveKey, inTurn, cutNext, isNext, openedHead, resetHead, wanted, copiedHead, allThere}
 use Rattle.assembler.specs.Call.{Call, CallOk}

@@ -1,5 +1,5 @@
--- The ledger of a run, told from the calls alone by document 01's steps, with the cut frames of document 02's No. 5. It knows no buffer, no running size, no index and no counter:
--- of each place it knows only which message it holds, and of each message which call began it and which frames are its own.
+-- The ledger of a run, told from the calls alone by document 01's steps, with the cut frames of document 02's No. 5. It knows no buffer, no running size, no
+-- index and no counter: of each place it knows only which message it holds, and of each message which call began it and which frames are its own.
 -- Messages, places, deeds and entries are those of the crate `book`, over the calls.
 use mathlib.Core.Bool.{Bool, true, false, not, _&&_}
 use mathlib.Core.List.{List, [], _∷_, _++_}
@@ -182,8 +182,12 @@ kindDue Copied = FragmentConsumed
 kindDue Delivered = MessageComplete
 kindDue Broken = Lost
 
+-- it delivered a message, at once or from its place
+abbrev pub isDelivery : Deed → Bool
+isDelivery d = isOneOf (AtOnce ∷ Delivered ∷ []) d
+
 unfoldable pub saying : Deed → Option Message → Saying
-saying d m = pick (isOneOf (AtOnce ∷ Delivered ∷ []) d) (delivery m) (briefly (kindDue d))
+saying d m = pick (isDelivery d) (delivery m) (briefly (kindDue d))
 
 unfoldable pub sayingDue : Entry → Saying
 sayingDue e = saying (e .deed) (e .message)
@@ -191,7 +195,7 @@ sayingDue e = saying (e .deed) (e .message)
 -- a message is delivered, and its own frames did not send as many bytes as it announced: a byte of it was not sent
 unfoldable pub unsentIn : Deed → Option Message → Bool
 unsentIn d none = false
-unsentIn d (some m) = isOneOf (AtOnce ∷ Delivered ∷ []) d && not (full m)
+unsentIn d (some m) = isDelivery d && not (full m)
 
 unfoldable pub unsent : Entry → Bool
 unsent e = unsentIn (e .deed) (e .message)

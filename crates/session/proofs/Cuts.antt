@@ -3,26 +3,14 @@ use Prim.Native.Nat.{ℕ, zero, suc, _+_, _-_, _≤_, min}
 use mathlib.Core.Path.{_≡_, refl, ap}
 use mathlib.Core.List.{List, [], _∷_}
 use lib.ListN.{take, drop}
-use mathlib.Core.Bool.{Bool, true, false, not, _&&_, _||_}
+use mathlib.Core.Bool.{true, false, not}
 use native.Mathlib.Omega.{arith}
 use borrow.Author.Tests.{not-true, ltb-false, lt-ltb, le-ltb, eqb-true, ne-eqb}
+use Rattle.base.proofs.Bools.{or-left, or-right, or-false, or-true, and-left, and-right, and-true}
 use Rattle.session.specs.declared.Heard.{Heard}
 use Rattle.session.specs.declared.Head.{Head}
 use Rattle.session.specs.Frames.{sizeOf, badSize, isEmpty, cutFirst, badFirst}
 use Rattle.session.specs.Heads.{wanted, inTurn, cutNext, isNext}
-use Rattle.session.proofs.Sound.{or-left, or-right, and-left, and-right}
-
-or-none : (b : Bool) → (b || false) ≡ b
-or-none true = refl
-or-none false = refl
-
-and-all : (b : Bool) → (b && true) ≡ b
-and-all true = refl
-and-all false = refl
-
-pub or-sure : (b : Bool) → (b || true) ≡ true
-or-sure true = refl
-or-sure false = refl
 
 -- the bytes that were sent are the frame's as far as they go
 pub sent-part : (k w n : ℕ) (bytes : List ℕ) → k + w ≤ n → take w (drop k (take n bytes)) ≡ take w (drop k bytes)
@@ -42,7 +30,7 @@ module _ (f : Heard) where
 
   pub empty-bad : isEmpty f ≡ true → badFirst f ≡ true
   unfolding badFirst
-  empty-bad e = rw (empty-cut e) (or-sure (badSize f))
+  empty-bad e = rw (empty-cut e) (or-true (badSize f))
 
   pub first-good : badFirst f ≡ false → badSize f ≡ false
   unfolding badFirst
@@ -73,7 +61,7 @@ module _ (f : Heard) where
 
     pub eight-bad : badFirst f ≡ badSize f
     unfolding badFirst
-    eight-bad = rw (eight-first) (or-none (badSize f))
+    eight-bad = rw (eight-first) (or-false (badSize f))
 
     pub eight-cut : (h : Head) → cutNext f h ≡ false
     unfolding cutNext wanted
@@ -81,4 +69,4 @@ module _ (f : Heard) where
 
     pub eight-next : (h : Head) → isNext f h ≡ inTurn f h
     unfolding isNext
-    eight-next h = rw (eight-cut h) (and-all (inTurn f h))
+    eight-next h = rw (eight-cut h) (and-true (inTurn f h))

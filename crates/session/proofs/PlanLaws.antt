@@ -4,6 +4,7 @@ use mathlib.Core.Path.{_≡_, refl, _∙_}
 use mathlib.Core.Bool.{Bool, true, false, not, _&&_, _||_, false≢true}
 use lib.Dec.{eqb, ltb, leb}
 use borrow.Author.Tests.{not-true, not-false, le-leb, lt-leb}
+use Rattle.base.proofs.Bools.{or-left, or-right}
 use Rattle.session.specs.declared.Heard.{Heard}
 use Rattle.session.specs.declared.Head.{Head}
 use Rattle.session.specs.declared.Plan.{Plan}
@@ -14,7 +15,6 @@ use Rattle.session.specs.Rules.{Rules, silence, base}
 use Rattle.session.specs.Frames.{indexOf, sizeOf, badSize, isEmpty, cutFirst, badFirst}
 use Rattle.session.specs.Heads.{isSilent, isExpired, inTurn, cutNext, isNext, openedHead, resetHead, wanted, copiedHead, allThere}
 use Rattle.session.specs.Counting.{expiredMark}
-use Rattle.session.proofs.Sound.{or-left, or-right}
 use Rattle.session.proofs.Cuts.{empty-bad}
 use Rattle.session.specs.inner.Plan.{idle, planOpen, planShort, planSized, planFirst, planCopy, planTurn, planNext, planIndex, planSent, planListed, planOf}
 

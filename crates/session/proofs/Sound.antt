@@ -1,13 +1,14 @@
 -- The numbers of a head in progress that is not impossible. Assumes nothing.
 use Prim.Native.Nat.{ℕ, suc, zero, _+_, _*_, _≤_, _<_}
-use mathlib.Core.Path.{_≡_, refl}
-use mathlib.Core.Bool.{Bool, true, false, not, _||_, _&&_, true≢false, false≢true}
+use mathlib.Core.Path.{_≡_}
+use mathlib.Core.Bool.{Bool, true, false, not, _&&_}
 use mathlib.Core.List.{List, [], _∷_}
 use lib.ListN.{length, getD}
 use lib.Dec.{eqb, ltb}
 use native.Mathlib.Omega.{arith}
 use borrow.Author.Tests.{ltb-true, ltb-false, eqb-true, not-false}
 use Rattle.base.specs.Lists.{any}
+use Rattle.base.proofs.Bools.{or-left, or-right, and-left}
 use Rattle.session.specs.declared.Head.{Head}
 use Rattle.session.specs.declared.Heard.{Heard}
 use Rattle.session.specs.Rules.{Rules}
@@ -19,22 +20,6 @@ pub record Sound (h : Head) : Type 0 where
   pub most : h .«expected_size» ≤ 223
   pub held : h .«current_size» ≡ 6 + 7 * h .«last_frame_index»
   pub below : h .«current_size» < h .«expected_size»
-
-pub or-right : (a b : Bool) → (a || b) ≡ false → b ≡ false
-or-right true b e = absurd (true≢false e)
-or-right false b e = e
-
-pub or-left : (a b : Bool) → (a || b) ≡ false → a ≡ false
-or-left true b e = e
-or-left false b e = refl
-
-pub and-left : (a b : Bool) → (a && b) ≡ true → a ≡ true
-and-left true b e = refl
-and-left false b e = e
-
-pub and-right : (a b : Bool) → (a && b) ≡ true → b ≡ true
-and-right true b e = e
-and-right false b e = absurd (false≢true e)
 
 pub none-at : {A : Type 0} (t : A → Bool) (l : List A) (i : ℕ) (e : A) → any t l ≡ false → i < length l → t (getD l i e) ≡ false
 unfolding any

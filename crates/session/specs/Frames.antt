@@ -44,7 +44,7 @@ sentBytes f = take (f .length) (f .«data»)
 unfoldable pub isEmpty : Heard → Bool
 isEmpty f = eqb (f .length) 0
 
--- "a first frame of length 1", which has no size; "a first frame with a good announced size n and a length below 2 + min(6, n)"
+-- its size was not sent, "a first frame of length 1", or a byte of the message that it announces, "a length below 2 + min(6, n)"
 unfoldable pub cutFirst : Heard → Bool
 cutFirst f = ltb (f .length) (2 + min 6 (sizeOf f))
 

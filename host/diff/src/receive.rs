@@ -327,20 +327,25 @@ pub fn every_first_byte() -> u64 {
     steps
 }
 
-/// Every valid expected size and last index of a slot, under every frame index, in time and late.
+/// A slot in progress of every valid expected size and last index, of source 9 and sequence 3, last heard at 1000.
+fn valid_slots() -> impl Iterator<Item = Slot> {
+    let bytes: [u8; 223] = std::array::from_fn(|i| i as u8 ^ 0xA5);
+    let slot = move |expected, last_index: u8| {
+        Slot { in_progress: true, source: 9, pgn: 127_489, sequence: 3, bytes, expected, current: 6 + 7 * last_index as usize, last_index, last_time: 1000 }
+    };
+    (7..=223).flat_map(move |expected| (0..32).map(move |last_index| slot(expected, last_index))).filter(|s| s.current < s.expected)
+}
+
+/// Every valid slot, under every frame index, in time and late.
 pub fn every_slot() -> u64 {
     let mut steps = 0;
     let mut p = Pair::fresh(1, &[127_489]);
-    let bytes: [u8; 223] = std::array::from_fn(|i| i as u8 ^ 0xA5);
-    for expected in 7..=223usize {
-        for last_index in (0..32u8).filter(|&i| 6 + 7 * (i as usize) < expected) {
-            let slot = Slot { in_progress: true, source: 9, pgn: 127_489, sequence: 3, bytes, expected, current: 6 + 7 * last_index as usize, last_index, last_time: 1000 };
-            for index in 0..32u8 {
-                let now = [1000, 1500, 1501, 0][(index as usize + expected) % 4];
-                p.set(&std::array::from_fn(|_| slot), [0; 5]);
-                p.hear(&Heard { now: if index == last_index + 1 { 1500 } else { now }, pgn: 127_489, source: 9, data: [3 << 5 | index, 20, 1, 2, 3, 4, 5, 6] }, None);
-                steps += 1;
-            }
+    for slot in valid_slots() {
+        for index in 0..32u8 {
+            let now = [1000, 1500, 1501, 0][(index as usize + slot.expected) % 4];
+            p.set(&std::array::from_fn(|_| slot), [0; 5]);
+            p.hear(&Heard { now: if index == slot.last_index + 1 { 1500 } else { now }, pgn: 127_489, source: 9, data: [3 << 5 | index, 20, 1, 2, 3, 4, 5, 6] }, None);
+            steps += 1;
         }
     }
     steps
@@ -364,21 +369,17 @@ pub fn every_cut_first_frame() -> u64 {
     steps
 }
 
-/// Every valid expected size and last index of a slot, under a continuation of every length: in turn, out of turn, of another key, and late.
+/// Every valid slot, under a continuation of every length: in turn, out of turn, of another key, and late.
 pub fn every_cut_continuation() -> u64 {
     let mut steps = 0;
     let mut p = Pair::fresh(1, &[127_489]);
-    let bytes: [u8; 223] = std::array::from_fn(|i| i as u8 ^ 0xA5);
-    for expected in 7..=223usize {
-        for last_index in (0..31u8).filter(|&i| 6 + 7 * (i as usize) < expected) {
-            let slot = Slot { in_progress: true, source: 9, pgn: 127_489, sequence: 3, bytes, expected, current: 6 + 7 * last_index as usize, last_index, last_time: 1000 };
-            for length in LENGTHS {
-                let next = last_index + 1;
-                for (now, sequence, index) in [(1500, 3, next), (0, 3, next), (1501, 3, next), (1000, 2, next), (1000, 3, next % 31 + 1)] {
-                    p.set(&std::array::from_fn(|_| slot), [7; 5]);
-                    p.hear(&Heard { now, pgn: 127_489, source: 9, data: [sequence << 5 | index, 20, 1, 2, 3, 4, 5, 6] }, Some(length));
-                    steps += 1;
-                }
+    for slot in valid_slots() {
+        let next = slot.last_index + 1;
+        for length in LENGTHS {
+            for (now, sequence, index) in [(1500, 3, next), (0, 3, next), (1501, 3, next), (1000, 2, next), (1000, 3, next % 31 + 1)] {
+                p.set(&std::array::from_fn(|_| slot), [7; 5]);
+                p.hear(&Heard { now, pgn: 127_489, source: 9, data: [sequence << 5 | index, 20, 1, 2, 3, 4, 5, 6] }, Some(length));
+                steps += 1;
             }
         }
     }
