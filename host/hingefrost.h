@@ -73,6 +73,7 @@ extern "C" {
 #define HF_REFUSED_INVALID_FOR_FOCUSED_MESSAGE 5
 #define HF_REFUSED_PS_MUST_BE_NULL 6
 #define HF_REFUSED_EMPTY_PAYLOAD 7
+#define HF_REFUSED_TOO_WIDE 8
 #define HF_REFUSED_FRAME_LENGTH 20
 #define HF_REFUSED_RESTARTED 21
 #define HF_REFUSED_ANNOUNCED 22
@@ -82,6 +83,7 @@ extern "C" {
 #define HF_REFUSED_INCOMPLETE 26
 #define HF_REFUSED_NO_ROOM 27
 #define HF_REFUSED_BAD_SPLIT 28
+#define HF_REFUSED_FRAME_TOO_WIDE 29
 #define HF_REFUSED_NO_COUNT 30
 #define HF_REFUSED_HOURS_OVER 31
 #define HF_REFUSED_NO_CLAIM 32
@@ -91,19 +93,16 @@ extern "C" {
 #define HF_REFUSED_PATTERN 36
 #define HF_REFUSED_SEQUENCE 37
 
-/* ---- identifiers: 29 bits; bits 29 to 31 are ignored where one is read */
+/* ---- identifiers: 29 bits. A number of 2^29 or more, as one with a driver's flags in bits 29 to 31, is none, and is refused wherever an
+ * identifier is read. */
 
 #define HF_NOBODY 256 /* in the place of a destination: none */
 #define HF_NOT_SET 256 /* in the place of a setter's priority: 6 stays */
 
 enum { HF_ID_PRIORITY, HF_ID_PGN, HF_ID_SOURCE, HF_ID_DESTINATION };
 
-uint8_t hf_can_id_priority(uint32_t id);
-uint32_t hf_can_id_pgn(uint32_t id);
-uint16_t hf_can_id_destination(uint32_t id); /* or HF_NOBODY */
-uint8_t hf_can_id_source_address(uint32_t id);
-/* All four in one call, the destination or HF_NOBODY. */
-void hf_can_id_parts(uint32_t id, uint32_t parts[HF_ID_PARTS]);
+/* HF_OK and the parts, the destination or HF_NOBODY; or 8 for a number of 2^29 or more, and the parts as they were. */
+uint32_t hf_can_id_read(uint32_t id, uint32_t parts[HF_ID_PARTS]);
 
 /* HF_OK and the identifier in *value; or 2, 4, 5, 6, and in *value the PF that 5 carries (0 for the others). A destination of
  * 256 or more is none. */
@@ -191,16 +190,16 @@ uint32_t hf_raw_process_frames(size_t size, uint64_t heads[HF_POOL_HEADS], uint8
 /* ---- the bench, over rows of identifiers, eight bytes a frame and lengths; the shortest row decides. `values` gets what is
  * given or what the refusal carries, and zeros. */
 
-/* HF_OK and in values[0] the number of messages, or 20 to 27. The list gets HF_LIST_ROW numbers of each message; the arena their
+/* HF_OK and in values[0] the number of messages, or 29, or 20 to 27. The list gets HF_LIST_ROW numbers of each message; the arena their
  * bytes, end to end. */
 uint32_t hf_reassemble(const uint32_t *ids, size_t ids_len, const uint8_t *bytes, size_t bytes_len, const size_t *lens, size_t lens_len, uint8_t source,
                        uint32_t pgn, size_t *list, size_t list_len, uint8_t *arena, size_t arena_len, uint64_t values[HF_VALUES]);
 /* How many frames rows of these lengths hold. */
 size_t hf_frame_count(size_t ids, size_t bytes, size_t lens);
-/* HF_OK and the number of frames laid into the rows, or 27 or 28 and 0. */
+/* HF_OK and the number of frames laid into the rows, or 28, 8 or 27 and 0. */
 uint32_t hf_fast_packet_frames(uint32_t id, uint8_t sequence, const uint8_t *payload, size_t payload_len, uint32_t *ids, size_t ids_len, uint8_t *bytes,
                                size_t bytes_len, size_t *lens, size_t lens_len, size_t *frames);
-/* HF_OK, or 20 to 26 or 30 to 37. */
+/* HF_OK, or, in this order, 30, 31, 29, 32, 20 to 26, 33, and of each message 34 to 37. */
 uint32_t hf_check_tx(const uint32_t *ids, size_t ids_len, const uint8_t *bytes, size_t bytes_len, const size_t *lens, size_t lens_len, uint8_t source,
                      size_t expected, uint32_t hours_base, uint64_t values[HF_VALUES]);
 

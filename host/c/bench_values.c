@@ -20,13 +20,14 @@ static void identifiers(void) {
     expect(hf_can_id_build(6, 127489, 35, HF_NOBODY, &v) == HF_OK && v == 0x19F20123, "P1");
     expect(hf_can_id_build(6, 60928, 35, 255, &v) == HF_OK && v == 0x18EEFF23, "P2");
     expect(hf_can_id_build(3, 126208, 35, 16, &v) == HF_OK && v == 0x0DED1023, "P3");
-    expect(hf_can_id_priority(v) == 3 && hf_can_id_pgn(v) == 126208 && hf_can_id_destination(v) == 16 && hf_can_id_source_address(v) == 35, "P3 read back");
-    expect(hf_can_id_destination(0x19F20123) == HF_NOBODY, "P1 has no destination");
     uint32_t parts[HF_ID_PARTS];
-    hf_can_id_parts(v, parts);
-    expect(parts[HF_ID_PRIORITY] == 3 && parts[HF_ID_PGN] == 126208 && parts[HF_ID_SOURCE] == 35 && parts[HF_ID_DESTINATION] == 16, "P3 read back in one call");
-    hf_can_id_parts(0x19F20123, parts);
-    expect(parts[HF_ID_PRIORITY] == 6 && parts[HF_ID_PGN] == 127489 && parts[HF_ID_SOURCE] == 35 && parts[HF_ID_DESTINATION] == HF_NOBODY, "P1 read back in one call");
+    expect(hf_can_id_read(v, parts) == HF_OK && parts[HF_ID_PRIORITY] == 3 && parts[HF_ID_PGN] == 126208 && parts[HF_ID_SOURCE] == 35 && parts[HF_ID_DESTINATION] == 16,
+           "P3 read back");
+    expect(hf_can_id_read(0x19F20123, parts) == HF_OK && parts[HF_ID_PRIORITY] == 6 && parts[HF_ID_PGN] == 127489 && parts[HF_ID_SOURCE] == 35
+               && parts[HF_ID_DESTINATION] == HF_NOBODY, "P1 read back");
+    expect(hf_can_id_read(0x20000000, parts) == HF_REFUSED_TOO_WIDE && hf_can_id_read(0x99F20123, parts) == HF_REFUSED_TOO_WIDE && parts[HF_ID_PGN] == 127489,
+           "2^29 and above: 8, and the parts as they were");
+    expect(hf_can_id_read(0x1FFFFFFF, parts) == HF_OK && parts[HF_ID_PRIORITY] == 7 && parts[HF_ID_PGN] == 0x3FFFF && parts[HF_ID_SOURCE] == 255, "the last of 29 bits");
     expect(hf_can_id_build(6, 127489, 35, 16, &v) == HF_REFUSED_INVALID_FOR_FOCUSED_MESSAGE && v == 242, "P4");
     expect(hf_can_id_build(6, 60928, 35, HF_NOBODY, &v) == HF_REFUSED_INVALID_FOR_BROADCAST && v == 0, "P5");
     expect(hf_can_id_build(6, 60929, 35, 255, &v) == HF_REFUSED_PS_MUST_BE_NULL && v == 0, "P6");
@@ -191,6 +192,17 @@ static void bench(void) {
     expect(hf_check_tx(ids, 5, bytes, 40, lens, 5, 35, 1, 6, values) == HF_REFUSED_HOURS && values[0] == 0, "other hours: 35");
     expect(hf_check_tx(ids, 5, bytes, 40, lens, 5, 35, 2, 5, values) == HF_REFUSED_COUNT && values[0] == 1, "another count: 33");
     expect(hf_check_tx(NULL, 0, NULL, 0, NULL, 0, 35, 1, 5, values) == HF_REFUSED_NO_CLAIM, "no rows at all, at NULL: 32");
+    ids[3] |= 0x80000000;
+    lens[1] = 7;
+    expect(hf_reassemble(ids, 5, bytes, 40, lens, 5, 35, 127489, list, 6, arena, 64, values) == HF_REFUSED_FRAME_TOO_WIDE && values[0] == 3
+               && hf_reassemble(ids, 5, bytes, 40, lens, 5, 36, 127489, NULL, 0, NULL, 0, values) == HF_REFUSED_FRAME_TOO_WIDE && values[0] == 3 && list[2] == 26,
+           "a flag at frame 3: 29, whatever else is wrong and whatever is lent");
+    expect(hf_reassemble(ids, 3, bytes, 40, lens, 5, 35, 127489, list, 6, arena, 64, values) == HF_REFUSED_FRAME_LENGTH && values[0] == 1, "past the shortest row it does not count");
+    expect(hf_check_tx(ids, 5, bytes, 40, lens, 5, 35, 0, 5, values) == HF_REFUSED_NO_COUNT
+               && hf_check_tx(ids, 5, bytes, 40, lens, 5, 35, 2, 0xFFFFFFFF, values) == HF_REFUSED_HOURS_OVER
+               && hf_check_tx(ids, 5, bytes, 40, lens, 5, 36, 1, 5, values) == HF_REFUSED_FRAME_TOO_WIDE && values[0] == 3, "the transmit check: 30, 31, 29, and then 32");
+    expect(hf_fast_packet_frames(0x20000000, 8, payload, 26, ids, 8, bytes, 64, lens, 8, &laid) == HF_REFUSED_BAD_SPLIT
+               && hf_fast_packet_frames(0x20000000, 3, payload, 26, ids, 1, bytes, 64, lens, 8, &laid) == HF_REFUSED_TOO_WIDE && laid == 0 && lens[1] == 7, "the splitter: 28, 8, and then 27");
 }
 
 static void batch_names(void) {

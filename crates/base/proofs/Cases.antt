@@ -3,8 +3,8 @@
 use Prim.Native.Nat.{ℕ, _<_, _≤_}
 use mathlib.Core.Bool.{Bool, true, false}
 use mathlib.Core.Path.{_≡_, refl, sym, ap, _∙_}
-use lib.Dec.{ltb, eqb}
-use borrow.Author.Tests.{ltb-true, ltb-false, eqb-true, eqb-false, lt-ltb, le-ltb, eq-eqb, ne-eqb}
+use lib.Dec.{ltb, leb, eqb}
+use borrow.Author.Tests.{ltb-true, ltb-false, eqb-true, eqb-false, lt-ltb, le-ltb, le-leb, lt-leb, eq-eqb, ne-eqb}
 use Rattle.base.specs.Pick.{pick}
 
 pub tested : {G : Type 0} (t : Bool) → (t ≡ true → G) → (t ≡ false → G) → G
@@ -54,6 +54,14 @@ module _ {A : Type 0} {x : A} (y z : A) where
   unfolding pick
   when-ge {a} {b} h e = simp (le-ltb a b h) e
 
+  pub when-le : {a b : ℕ} → a ≤ b → x ≡ y → x ≡ pick (leb a b) y z
+  unfolding pick
+  when-le {a} {b} h e = simp (le-leb a b h) e
+
+  pub when-gt : {a b : ℕ} → b < a → x ≡ z → x ≡ pick (leb a b) y z
+  unfolding pick
+  when-gt {a} {b} h e = simp (lt-leb a b h) e
+
   pub when-true : {t : Bool} → t ≡ true → x ≡ y → x ≡ pick t y z
   unfolding pick
   when-true h e = simp h e
@@ -77,4 +85,4 @@ module _ {A : Type 0} {x : A} (y z : A) where
 
 pub ruleset said = (said-eq, said-ne, said-true, said-false)
 
-pub ruleset cases = (when-eq, when-ne, when-lt, when-ge, when-true, when-false)
+pub ruleset cases = (when-eq, when-ne, when-lt, when-ge, when-le, when-gt, when-true, when-false)

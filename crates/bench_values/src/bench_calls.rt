@@ -1,4 +1,4 @@
-// The bench: refusals 20 to 28 of strict reassembly and the splitter, 30 to 37 of the transmit check. Each row is given twice, in separate slices and as frames,
+// The bench: refusals 20 to 28 of strict reassembly and the splitter, 30 to 37 of the transmit check; 8 and 29 are in wide.rt. Each row is given twice, in separate slices and as frames,
 // and what the second says follows on a line of its own.
 use crate::frame_rows::blank_row;
 use crate::frame_rows::laid_after;
@@ -16,9 +16,9 @@ use splitter::fast_packet_frames_into;
 use splitter::fast_packet_rows;
 
 // PGN 127489, and an address claim, both from source 35.
-const ENGINE: u32 = 0x19F2_0123;
+pub(crate) const ENGINE: u32 = 0x19F2_0123;
 
-const CLAIM: u32 = 0x18EE_FF23;
+pub(crate) const CLAIM: u32 = 0x18EE_FF23;
 
 fn show_fault(fault: Fault) {
     match fault {
@@ -35,10 +35,11 @@ fn show_fault(fault: Fault) {
             next as u64,
         ),
         Fault::Padding(n, byte) => say::refusal_with_two(25, n as u64, byte as u64),
+        Fault::TooWide(n) => say::refusal_with(29, n as u64),
     }
 }
 
-fn show_reassembled(r: Reassembled) {
+pub(crate) fn show_reassembled(r: Reassembled) {
     match r {
         Reassembled::Messages(n) => say::counted(b"messages ", n as u64),
         Reassembled::Refused(fault) => show_fault(fault),
@@ -47,7 +48,7 @@ fn show_reassembled(r: Reassembled) {
     }
 }
 
-fn as_frames() {
+pub(crate) fn as_frames() {
     say::text(b"  as frames: ");
 }
 
@@ -82,10 +83,11 @@ fn judge(words: &[u8], bytes: &[u8], lens: &[usize]) {
     judge_frames(bytes, lens);
 }
 
-fn show_split(s: Split) {
+pub(crate) fn show_split(s: Split) {
     match s {
         Split::Frames(n) => say::counted(b"frames ", n as u64),
         Split::BadSplit => say::refusal(28),
+        Split::TooWide => say::refusal(8),
         Split::Short => say::refusal(27),
     }
 }
@@ -169,7 +171,7 @@ pub(crate) fn refusals() {
     splits();
 }
 
-fn show_checked(c: Checked) {
+pub(crate) fn show_checked(c: Checked) {
     match c {
         Checked::Good => say::text(b"good\n"),
         Checked::NoCount => say::refusal(30),

@@ -1,7 +1,7 @@
 // Runs the values of document 01 that are not proved as theorems: one slot at 500 and 501 ms; the names that document 02's No. 2 gives to Ignored, at
-// their borders, each by the single call and in a batch; the frames cut short of its No. 5, with a length; and every refusal number that a call can give, with what it carries, those of the bench once in
-// separate slices and once over a row of frames. The file 'stdout' was written by hand from the text of both, the numbers of the kinds from
-// docs/REFUSALS.md. The builder's frames are in the program builder_values.
+// their borders, each by the single call and in a batch; the frames cut short of its No. 5, with a length; every refusal number that a call can give, with what
+// it carries, those of the bench once in separate slices and once over a row of frames; and the identifiers of its No. 4 that are too wide. The file 'stdout' was
+// written by hand from the text of both, the numbers of the kinds from docs/REFUSALS.md. The builder's frames are in the program builder_values.
 mod batching;
 mod bench_calls;
 mod building;
@@ -10,6 +10,7 @@ mod frame_rows;
 mod left;
 mod receiving;
 mod say;
+mod wide;
 
 fn main() {
     receiving::one_slot();
@@ -23,4 +24,5 @@ fn main() {
     building::refusals();
     bench_calls::refusals();
     bench_calls::transmit_refusals();
+    wide::refusals();
 }

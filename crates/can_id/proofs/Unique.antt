@@ -5,27 +5,28 @@ use mathlib.Core.Path.{_≡_, refl}
 use lib.ListN.{getD}
 use Rattle.base.proofs.Cases.{determined, determined-by}
 use Rattle.base.specs.Answer.{Answer, gives, refuses}
-use Rattle.can_id.specs.Layout.{priorityOf, pgnOf, destinationOf, sourceOf}
+use Rattle.can_id.specs.Read.{ofRead, readOf}
 use Rattle.can_id.specs.Build.{ofBuilt, buildOf, newIdBuilder, idWithPriority, idWithDestination}
-use Rattle.can_id.specs.declared.Destination.{Destination}
+use Rattle.can_id.specs.declared.CanIdParts.{CanIdParts}
+use Rattle.can_id.specs.declared.Read.{Read}
+use Rattle.can_id.specs.declared.Read.the-variants.{Parts, TooWide}
 use Rattle.can_id.specs.declared.CanIdBuilder.{CanIdBuilder}
 use Rattle.can_id.specs.declared.Built.{Built}
 use Rattle.can_id.specs.declared.Built.the-variants.{Id, Refused}
 use Rattle.can_id.specs.declared.CanIdBuildError.the-variants.{InvalidData, InvalidForBroadcast, InvalidForFocusedMessage, PsFocusMessageMustBeNull, EmptyPayload}
 
--- ---- reading
-module _ (id : ℕ) where
-  pub priority-unique : (r s : ℕ) → r ≡ priorityOf id → s ≡ priorityOf id → r ≡ s
-  priority-unique r s = determined
+-- ---- reading: the answer is given back by what it gives; of the refusals there is one
+backRead : Answer CanIdParts → Read
+backRead (gives parts) = Parts parts
+backRead (refuses n l) = TooWide
 
-  pub pgn-unique : (r s : ℕ) → r ≡ pgnOf id → s ≡ pgnOf id → r ≡ s
-  pgn-unique r s = determined
+kept-read : (r : Read) → backRead (ofRead r) ≡ r
+unfolding backRead
+kept-read (Parts parts) = refl
+kept-read TooWide = refl
 
-  pub destination-unique : (r s : Destination) → r ≡ destinationOf id → s ≡ destinationOf id → r ≡ s
-  destination-unique r s = determined
-
-  pub source-unique : (r s : ℕ) → r ≡ sourceOf id → s ≡ sourceOf id → r ≡ s
-  source-unique r s = determined
+pub read-unique : (id : ℕ) (r s : Read) → ofRead r ≡ readOf id → ofRead s ≡ readOf id → r ≡ s
+read-unique id r s = determined-by ofRead backRead kept-read
 
 -- ---- the builder and its setters
 pub fresh-unique : (pgn source : ℕ) (r s : CanIdBuilder) → r ≡ newIdBuilder pgn source → s ≡ newIdBuilder pgn source → r ≡ s

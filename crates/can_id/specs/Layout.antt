@@ -5,7 +5,7 @@ use Rattle.base.specs.Pick.{pick}
 use Rattle.can_id.specs.declared.Destination.{Destination}
 use Rattle.can_id.specs.declared.Destination.the-variants.{Nobody, To}
 
--- ---- the fields of any number: "Reading takes any 32-bit value and ignores bits 29 to 31"
+-- ---- the fields of any number; which numbers are read at all is said in Read.antt
 abbrev pub priorityOf : ℕ → ℕ
 priorityOf id = id / 0x400_0000 % 8
 

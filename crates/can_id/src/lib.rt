@@ -2,11 +2,12 @@
 ghost use mathlib.Core.Path.{_≡_};
 ghost use Prim.Native.Nat.{_<_};
 ghost use Rattle.can_id.specs.Layout.{priorityOf, pgnOf, destinationOf, sourceOf};
+ghost use Rattle.can_id.specs.Read.{ofRead, readOf};
 ghost use Rattle.can_id.specs.Build.{ofBuilt, buildOf, newIdBuilder, idWithPriority, idWithDestination, idWith};
 
 // ---- the identifier
 
-// An extended CAN identifier (29 bits). Bits 29 to 31 are ignored where it is read.
+// An extended CAN identifier: 29 bits. A driver may have left flags in the three above, so `read` refuses a number that has any of them.
 pub struct CanId(pub u32);
 
 // The address that a message is sent to. A PGN with PF 240 or above goes to nobody in particular.
@@ -14,6 +15,24 @@ pub enum Destination {
     Nobody,
     To(u8),
 }
+
+// What an identifier says.
+pub struct CanIdParts {
+    pub priority: u8,
+    pub pgn: u32,
+    pub source_address: u8,
+    pub destination: Destination,
+}
+
+// What reading gives.
+pub enum Read {
+    Parts(CanIdParts),
+    // The number is 2^29 or more: it is no identifier.
+    TooWide,
+}
+
+// The first number that 29 bits do not hold.
+const TOO_WIDE: u32 = 0x2000_0000;
 
 impl CanId {
     // The priority of a builder that is told none.
@@ -32,8 +51,29 @@ impl CanId {
         CanIdBuilder::new(pgn, source_address)
     }
 
+    // What the identifier says, or that it is too wide to say anything.
+    pub fn read(self) -> Read
+        ensures { λ r. ⌜ ofRead r ≡ readOf (self .0) ⌝ }
+    {
+        if TOO_WIDE <= self.0 {
+            return Read::TooWide;
+        }
+        let priority = self.priority();
+        let pgn = self.pgn();
+        let source_address = self.source_address();
+        let destination = self.destination();
+        Read::Parts(CanIdParts {
+            priority,
+            pgn,
+            source_address,
+            destination,
+        })
+    }
+
+    // ---- the fields of any number; only `read` asks, and of an identifier
+
     // The priority, 0 to 7.
-    pub fn priority(self) -> u8
+    fn priority(self) -> u8
         ensures { λ r. ⌜ r ≡ priorityOf (self .0) ⌝ }
     {
         let id = self.0;
@@ -42,7 +82,7 @@ impl CanId {
 
     // The 18-bit PGN. With PF below 240 its low byte is 0, since PS is then the destination. Its fields stand side by side in the identifier,
     // so they are read at once: ten bits down to PF, or eighteen down to PS.
-    pub fn pgn(self) -> u32
+    fn pgn(self) -> u32
         ensures { λ r. ⌜ r ≡ pgnOf (self .0) ⌝ }
     {
         let id = self.0;
@@ -53,7 +93,7 @@ impl CanId {
     }
 
     // The destination address, where the PGN has one.
-    pub fn destination(self) -> Destination
+    fn destination(self) -> Destination
         ensures { λ r. ⌜ r ≡ destinationOf (self .0) ⌝ }
     {
         let id = self.0;
@@ -66,7 +106,7 @@ impl CanId {
     }
 
     // The address of the sender.
-    pub fn source_address(self) -> u8
+    fn source_address(self) -> u8
         ensures { λ r. ⌜ r ≡ sourceOf (self .0) ⌝ }
     {
         let id = self.0;

@@ -4,7 +4,9 @@ use can_id::Built;
 use can_id::CanId;
 use can_id::CanIdBuildError;
 use can_id::CanIdBuilder;
+use can_id::CanIdParts;
 use can_id::Destination;
+use can_id::Read;
 
 fn show_destination(destination: Destination) {
     match destination {
@@ -13,14 +15,23 @@ fn show_destination(destination: Destination) {
     }
 }
 
-fn show_parts(id: CanId) {
+fn show_parts(parts: CanIdParts) {
+    say::told(b"priority ", parts.priority as u64);
+    say::told(b", PGN ", parts.pgn as u64);
+    say::told(b", from ", parts.source_address as u64);
+    say::text(b" ");
+    let destination = parts.destination;
+    show_destination(destination);
+}
+
+fn show_reading(id: CanId) {
     say::text(b"  ");
     say::identifier(id.0);
-    say::told(b"  priority ", id.priority() as u64);
-    say::told(b", PGN ", id.pgn() as u64);
-    say::told(b", from ", id.source_address() as u64);
-    say::text(b" ");
-    show_destination(id.destination());
+    say::text(b"  ");
+    match id.read() {
+        Read::Parts(parts) => show_parts(parts),
+        Read::TooWide => say::refusal(8),
+    }
     say::text(b"\n");
 }
 
@@ -57,9 +68,10 @@ fn show_built(builder: CanIdBuilder) {
 
 fn show_read() {
     say::text(b"Identifiers taken apart\n");
-    show_parts(CanId(0x19F2_0123));
-    show_parts(CanId(0x18EE_FF23));
-    show_parts(CanId(0x0DED_1023));
+    show_reading(CanId(0x19F2_0123));
+    show_reading(CanId(0x18EE_FF23));
+    show_reading(CanId(0x0DED_1023));
+    show_reading(CanId(0x99F2_0123));
 }
 
 pub(crate) fn show() {

@@ -5,6 +5,7 @@ use mathlib.Core.Path.{_≡_, refl, sym, ap, subst, _∙_}
 use Rattle.base.specs.Answer.{Answer, gives}
 use Rattle.can_id.specs.Build.{newIdBuilder, buildOf, idWithPriority, idWithDestination}
 use Rattle.can_id.specs.declared.CanIdBuilder.{CanIdBuilder}
+use Rattle.can_id.specs.declared.CanIdParts.{CanIdParts}
 use Rattle.can_id.specs.declared.Destination.{Destination}
 use Rattle.builder.specs.Builder.{newBuilder, withSequence, withPriority, withDestination}
 use Rattle.builder.specs.Next.{Step, nextOf}
@@ -27,7 +28,7 @@ use Rattle.assembler.specs.declared.Pool.{Pool}
 use Rattle.batch.specs.Rows.{Rows, batchOf, BatchLeft, takenIn, Batches}
 use Rattle.batch.proofs.Promised.{batched-by}
 use Rattle.batch.specs.declared.Batch.{Batch}
-use Rattle.numbers.specs.Numbers.{toAddress, Answered}
+use Rattle.numbers.specs.Numbers.{toAddress, ToldInFour, Answered}
 use Rattle.numbers.specs.Frames.{builderFrom, builderNumbers, BuilderLeft, iteratorFrom, placeNumbers, StepLeft, stepAfter, placeLaid}
 use Rattle.numbers.specs.Pool.{poolFrom, countersFrom, CallMemory, CallLeft, PoolMemory, PoolLeft}
 use Rattle.ffi.specs.Ids.{builderOfParts, setPriority, setDestination, setOf, bothOf}
@@ -88,6 +89,10 @@ pub turn-left : (n payload place : List ℕ) {t : FrameIterator} {u : Turn} {s :
 turn-left n payload place {code = code} {bytes} {numbers} e f g h k =
     let is = turn-by n place payload e f g in
     record { asked = subst (λ (x : Step). StepLeft x code bytes numbers) is h; goes-on = k ∙ ap (placeLaid place) is }
+
+-- ---- an identifier read
+pub read-by : {a b : Answer CanIdParts} {before after : List ℕ} {code : ℕ} → ToldInFour a before code after → a ≡ b → ToldInFour b before code after
+read-by {before = before} {after = after} {code = code} p e = subst (λ (x : Answer CanIdParts). ToldInFour x before code after) e p
 
 -- ---- an identifier built, by what its builder is
 pub answered-by : {a b : Answer ℕ} {r v : ℕ} → Answered a r v → a ≡ b → Answered b r v

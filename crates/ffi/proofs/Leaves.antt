@@ -10,6 +10,8 @@ use native.Mathlib.Omega.{arith}
 use Rattle.base.specs.Answer.{Answer, gives, refuses}
 use Rattle.base.specs.Pick.{pick}
 use Rattle.base.proofs.Cases.{when-eq, pick-all, same?}
+use Rattle.can_id.specs.Read.{readOf}
+use Rattle.can_id.specs.declared.CanIdParts.{CanIdParts}
 use Rattle.session.specs.Kinds.{kindNumber}
 use Rattle.session.specs.Rules.{Rules, poolLimit}
 use Rattle.session.specs.Heads.{freshHead}
@@ -30,9 +32,10 @@ use Rattle.assembler.specs.Promises.{rulesOf}
 use Rattle.assembler.specs.declared.Received.{Received}
 use Rattle.assembler.proofs.Views.{view-back}
 use Rattle.batch.specs.Rows.{Rows, Run, batchOf, leaves, refusedBy, takenIn, BatchLeft}
-use Rattle.numbers.specs.Numbers.{isSet, laidOn}
+use Rattle.numbers.specs.Numbers.{isSet, laidOn, partsWith, ToldInFour}
 use Rattle.numbers.specs.Pool.{headAt, headOver, headsTo, headsFrom, laidTo, laidOver, poolFrom, countersFrom, counterNumbers, CallMemory, CallLeft, PoolMemory, PoolLeft}
 use Rattle.numbers.proofs.Sets.{sets-same}
+use Rattle.ffi.specs.Ids.{IdRead}
 use Rattle.ffi.specs.Calls.{NewPoolLeft, poolIn, receivedIn, receivedWithLengthIn, FrameLeft, FrameWithLengthLeft}
 use Rattle.ffi.specs.Batches.{BatchMemory, BatchMemoryLeft, batchIn, FramesLeft}
 
@@ -216,3 +219,11 @@ refused-making-leaves wanted before code after = by-answer (sizeMade wanted)
     by-answer : (a : Answer ℕ) {p : Pool} → PoolLeft a p before code after → (code ≡ 0 → ⊥) → (after .heads ≡ before .heads) × (after .bytes ≡ before .bytes)
     by-answer (gives size) l h = absurd (h (l .told))
     by-answer (refuses n carried) l h = (l .kept, l .stored)
+
+-- ---- reading an identifier: `hf_can_id_read`
+pub refused-reading-leaves : (id : ℕ) (before : List ℕ) (code : ℕ) (after : List ℕ) → IdRead id before code after → (code ≡ 0 → ⊥) → after ≡ before
+refused-reading-leaves id before code after = by-answer (readOf id)
+  where
+    by-answer : (a : Answer CanIdParts) → ToldInFour a before code after → (code ≡ 0 → ⊥) → after ≡ before
+    by-answer (gives parts) l h = absurd (h (l .told))
+    by-answer (refuses n carried) l h = unfold partsWith in l .laid

@@ -4,7 +4,6 @@ use mathlib.Core.List.{List}
 use mathlib.Core.Path.{_≡_, ap, _∙_}
 use Rattle.base.specs.Answer.{Answer, counted}
 use Rattle.base.proofs.Cases.{determined}
-use Rattle.can_id.specs.Layout.{priorityOf, pgnOf, sourceOf}
 use Rattle.fast_packet.specs.FastPacket.{filledFrom}
 use Rattle.assembler.specs.declared.Arrival.{Arrival}
 use Rattle.assembler.specs.declared.ArrivalWithLength.{ArrivalWithLength}
@@ -17,7 +16,7 @@ use Rattle.numbers.specs.Fives.{ToldInFive}
 use Rattle.numbers.specs.Numbers.{Answered}
 use Rattle.numbers.specs.Pool.{CallMemory, PoolMemory}
 use Rattle.numbers.proofs.Unique.{leave-unique, pool-left-unique}
-use Rattle.ffi.specs.Ids.{readDestination, readParts, PartsBuilt, SetBuilt, BothBuilt}
+use Rattle.ffi.specs.Ids.{IdRead, PartsBuilt, SetBuilt, BothBuilt}
 use Rattle.ffi.specs.Frames.{NewBuilderLeft, sequenceSet, prioritySet, destinationSet, startedPlace, FrameMemory, NextFrameLeft, TurnLeft}
 use Rattle.ffi.specs.Calls.{NewPoolLeft, DefaultPoolLeft, FrameLeft, FrameWithLengthLeft}
 use Rattle.ffi.specs.Batches.{BatchMemory, FramesLeft}
@@ -28,21 +27,9 @@ both : {A B : Type 0} {x r s : A} {y v w : B} → (r ≡ x) × (v ≡ y) → (s 
 both p q = (determined (p .0) (q .0), determined (p .1) (q .1))
 
 -- ---- identifiers
-module _ (id r s : ℕ) where
-  pub hf-can-id-priority-unique : r ≡ priorityOf id → s ≡ priorityOf id → r ≡ s
-  hf-can-id-priority-unique = determined
-
-  pub hf-can-id-pgn-unique : r ≡ pgnOf id → s ≡ pgnOf id → r ≡ s
-  hf-can-id-pgn-unique = determined
-
-  pub hf-can-id-destination-unique : r ≡ readDestination id → s ≡ readDestination id → r ≡ s
-  hf-can-id-destination-unique = determined
-
-  pub hf-can-id-source-address-unique : r ≡ sourceOf id → s ≡ sourceOf id → r ≡ s
-  hf-can-id-source-address-unique = determined
-
-pub hf-can-id-parts-unique : (id : ℕ) (r s : List ℕ) → r ≡ readParts id → s ≡ readParts id → r ≡ s
-hf-can-id-parts-unique id r s = determined
+-- a refusal's number or 0, and what the four parts become
+pub hf-can-id-read-unique : (id : ℕ) (before : List ℕ) (r s : ℕ) (v w : List ℕ) → IdRead id before r v → IdRead id before s w → (r ≡ s) × (v ≡ w)
+hf-can-id-read-unique id before r s v w p q = (determined (p .told) (q .told), determined (p .laid) (q .laid))
 
 -- a refusal's number or 0, and what is given or carried
 answers : {a : Answer ℕ} {r s v w : ℕ} → Answered a r v → Answered a s w → (r ≡ s) × (v ≡ w)

@@ -1,21 +1,16 @@
 -- The parts of an identifier and its builder, as numbers.
 use Prim.Native.Nat.{ℕ}
-use mathlib.Core.List.{List, [], _∷_}
+use mathlib.Core.List.{List}
 use lib.Dec.{ltb}
 use Rattle.base.specs.Pick.{pick}
-use Rattle.can_id.specs.Layout.{priorityOf, pgnOf, sourceOf, destinationOf}
+use Rattle.can_id.specs.Read.{readOf}
 use Rattle.can_id.specs.Build.{buildOf, newIdBuilder, idWithPriority, idWithDestination}
 use Rattle.can_id.specs.declared.CanIdBuilder.{CanIdBuilder}
-use Rattle.numbers.specs.Numbers.{toAddress, addressOf, Answered}
+use Rattle.numbers.specs.Numbers.{toAddress, Answered, ToldInFour}
 
--- ---- read
--- the destination, or 256 where there is none
-abbrev pub readDestination : ℕ → ℕ
-readDestination id = addressOf (destinationOf id)
-
--- what an identifier reads as: priority, PGN, source, and destination or 256
-unfoldable pub readParts : ℕ → List ℕ
-readParts id = priorityOf id ∷ pgnOf id ∷ sourceOf id ∷ readDestination id ∷ []
+-- ---- read: `hf_can_id_read`
+abbrev pub IdRead : ℕ → List ℕ → ℕ → List ℕ → Type 0
+IdRead id before code after = ToldInFour (readOf id) before code after
 
 -- ---- built
 

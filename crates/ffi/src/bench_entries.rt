@@ -39,7 +39,7 @@ pub extern "C" fn hf_frame_count(ids: usize, bytes: usize, lens: usize) -> usize
     frame_count(ids, bytes, lens)
 }
 
-// 0 and the number of frames laid into the rows, or 27 or 28 and 0.
+// 0 and the number of frames laid into the rows, or 28, 8 or 27 and 0.
 #[no_mangle]
 pub extern "C" fn hf_fast_packet_frames(
     id: u32,

@@ -1,54 +1,18 @@
 // Identifiers, read and built.
 ghost use mathlib.Core.Path.{_≡_};
-ghost use Rattle.can_id.specs.Layout.{priorityOf, pgnOf, sourceOf};
-ghost use Rattle.ffi.specs.Ids.{readDestination, readParts, setPriority, setDestination, bothOf, PartsBuilt, SetBuilt, BothBuilt};
+ghost use Rattle.ffi.specs.Ids.{IdRead, setPriority, setDestination, bothOf, PartsBuilt, SetBuilt, BothBuilt};
 use can_id::CanId;
 use can_id::CanIdBuilder;
-use numbers::address_number;
 use numbers::answered;
 use numbers::destination_from;
+use numbers::told_read;
 
+// 0 and priority, PGN, source and destination, 256 where there is none; or 8, and the parts as they were.
 #[no_mangle]
-pub extern "C" fn hf_can_id_priority(id: u32) -> u8
-    ensures { λ r. ⌜ r ≡ priorityOf id ⌝ }
+pub extern "C" fn hf_can_id_read(id: u32, parts: &mut [u32; 4]) -> u32
+    ensures { λ r. ⌜ IdRead id (now (parts .entry)) r (now (parts .exit)) ⌝ }
 {
-    CanId(id).priority()
-}
-
-#[no_mangle]
-pub extern "C" fn hf_can_id_pgn(id: u32) -> u32
-    ensures { λ r. ⌜ r ≡ pgnOf id ⌝ }
-{
-    CanId(id).pgn()
-}
-
-// 256 where there is none.
-#[no_mangle]
-pub extern "C" fn hf_can_id_destination(id: u32) -> u16
-    ensures { λ r. ⌜ r ≡ readDestination id ⌝ }
-{
-    address_number(CanId(id).destination())
-}
-
-#[no_mangle]
-pub extern "C" fn hf_can_id_source_address(id: u32) -> u8
-    ensures { λ r. ⌜ r ≡ sourceOf id ⌝ }
-{
-    CanId(id).source_address()
-}
-
-// All four in one call: priority, PGN, source and destination, 256 where there is none.
-#[no_mangle]
-pub extern "C" fn hf_can_id_parts(id: u32, parts: &mut [u32; 4])
-    ensures { λ _. ⌜ now (parts .exit) ≡ readParts id ⌝ }
-{
-    let c = CanId(id);
-    *parts = [
-        c.priority() as u32,
-        c.pgn(),
-        c.source_address() as u32,
-        address_number(c.destination()) as u32,
-    ];
+    told_read(CanId(id).read(), parts)
 }
 
 // From these parts as they are.

@@ -1,7 +1,9 @@
 // Takes apart the identifiers of its standard input, eight hex digits a line, and writes of each its priority, PGN, destination ('-' for none)
 // and source. The file 'stdout' that this is held to was made by Wireshark's J1939 dissector: see tools/judge-identifiers.
 use can_id::CanId;
+use can_id::CanIdParts;
 use can_id::Destination;
+use can_id::Read;
 use libc::STDIN_FILENO;
 use libc::STDOUT_FILENO;
 ghost use Prim.Native.Nat.{_<_};
@@ -62,6 +64,24 @@ fn write_destination(destination: Destination) {
     }
 }
 
+fn write_parts(parts: CanIdParts) {
+    write_number(parts.priority as u32);
+    write_number(parts.pgn);
+    let destination = parts.destination;
+    write_destination(destination);
+    write_number(parts.source_address as u32);
+}
+
+// Every identifier of the list is below 2^29; one that is not would have no parts, and its line would differ.
+fn write_reading(read: Read) {
+    match read {
+        Read::Parts(parts) => write_parts(parts),
+        Read::TooWide => {
+            io::write_all(STDOUT_FILENO, b" too wide");
+        }
+    }
+}
+
 // Reads one line and writes another; false at the end.
 fn judge() -> bool {
     let mut line = [0u8; 9];
@@ -69,12 +89,8 @@ fn judge() -> bool {
     if got < 9 {
         return false;
     }
-    let id = identifier(line);
     write_digits(line);
-    write_number(id.priority() as u32);
-    write_number(id.pgn());
-    write_destination(id.destination());
-    write_number(id.source_address() as u32);
+    write_reading(identifier(line).read());
     io::write_all(STDOUT_FILENO, b"\n");
     true
 }

@@ -18,7 +18,7 @@ use Rattle.ffi.specs.Ids.{builderOfParts, setOf, bothOf}
 use Rattle.ffi.specs.Frames.{nextWith, turnWith}
 use Rattle.ffi.specs.Batches.{batchIn}
 use Rattle.no_three.specs.NoThree.{NotThree, NoneIsThree, NoThree}
-use Rattle.no_three.proofs.Sending.{Other, OtherStep, build-other, next-other, built-case-other, next-case-other}
+use Rattle.no_three.proofs.Sending.{Other, OtherStep, read-other, read-case-other, build-other, next-other, built-case-other, next-case-other}
 use Rattle.no_three.proofs.Receiving.{size-other, made-other, kind-other, step-other, batch-other}
 use Rattle.no_three.proofs.Bench.{counted-other, split-other, delivered-other, check-other, split-case-other, reassembled-case-other, checked-case-other}
 
@@ -48,6 +48,7 @@ pub no-three : NoThree
 unfolding nextWith turnWith batchIn
 no-three =
     record {
+      can-id-read = λ id r h. read-case-other r;
       can-id-builder-build = λ b r h. by-answer h (build-other b);
       fast-packet-builder-next-frame = λ b index sent payload r h. by-step h (next-other b index sent payload);
       frame-iterator-next = λ t payload r h. by-step (ap (λ (x : Turn). x .answer) h) (next-other (t .builder) (t .«frame_index») (t .«bytes_sent») payload);
@@ -72,6 +73,7 @@ no-three =
       check-tx = λ frames source expected hours r h. by-answer h (check-other frames source expected hours);
       check-tx-rows = λ ids bytes lens source expected hours r h. by-answer h (check-other _ source expected hours);
       check-tx-first = λ frames n source expected hours r h. by-answer h (check-other _ source expected hours);
+      hf-can-id-read = λ id code before after h. by (h .told) (read-other id);
       hf-can-id-build = λ priority pgn source destination code value h. by (h .told) (build-other (builderOfParts priority pgn source destination));
       hf-can-id-build-with = λ pgn source priority destination code value h. by (h .told) (build-other (setOf pgn source priority destination));
       hf-can-id-build-to = λ pgn source priority destination code value h. by (h .told) (build-other (bothOf pgn source priority destination));
@@ -87,6 +89,7 @@ no-three =
       hf-reassemble = λ ids bytes lens list arena list′ arena′ values source pgn code h. by (h .answer .told) (delivered-other list arena _ source pgn);
       hf-fast-packet-frames = λ id sequence code frames payload ids bytes lens ids′ bytes′ lens′ h. by (h .told) (counted-other _ (split-other id sequence payload _));
       hf-check-tx = λ ids bytes lens values source expected hours code h. by (h .told) (check-other _ source expected hours);
+      told-read = λ r code before after h. by (h .told) (read-case-other r);
       answered = λ b code value h. by (h .told) (built-case-other b);
       tell-next = λ next code bytes numbers h. by (h .told) (next-case-other (next .kind));
       told-reassembled = λ r code values h. by (h .told) (reassembled-case-other r);

@@ -1,15 +1,18 @@
--- No builder gets refusal 3, and no step of one gives it. A test that holds of every leaf of a definition by `pick` holds of what it gives. Assumes nothing.
+-- No identifier is refused by 3, read or built, and no step of a builder gives it. A test that holds of every leaf of a definition by `pick` holds of what it gives. Assumes nothing.
 use Prim.Native.Nat.{ℕ}
 use mathlib.Core.List.{List}
 use native.Mathlib.Omega.{arith}
 use Rattle.base.specs.Answer.{Answer, gives, refuses, codeOf}
 use Rattle.base.proofs.Cases.{pick-all}
+use Rattle.can_id.specs.Read.{ofRead, readOf}
 use Rattle.can_id.specs.Build.{errorNumber, ofBuilt, buildTo, buildOf}
 use Rattle.can_id.specs.declared.CanIdBuilder.{CanIdBuilder}
 use Rattle.can_id.specs.declared.Destination.{Destination}
 use Rattle.can_id.specs.declared.Destination.the-variants.{Nobody, To}
 use Rattle.can_id.specs.declared.CanIdBuildError.{CanIdBuildError}
 use Rattle.can_id.specs.declared.CanIdBuildError.the-variants.{InvalidData, InvalidForBroadcast, InvalidForFocusedMessage, PsFocusMessageMustBeNull, EmptyPayload}
+use Rattle.can_id.specs.declared.Read.{Read}
+use Rattle.can_id.specs.declared.Read.the-variants.{Parts, TooWide}
 use Rattle.can_id.specs.declared.Built.{Built}
 use Rattle.can_id.specs.declared.Built.the-variants.{Id, Refused as NotBuilt}
 use Rattle.builder.specs.Builder.{idBuilder}
@@ -24,6 +27,16 @@ use Rattle.no_three.specs.NoThree.{NotThree}
 abbrev pub Other : {A : Type 0} → Answer A → Type 0
 Other a = NotThree (codeOf a)
 
+-- ---- reading
+pub read-other : (id : ℕ) → Other (readOf id)
+unfolding readOf
+read-other id = pick-all Other _ (omega arith) (omega arith)
+
+pub read-case-other : (r : Read) → Other (ofRead r)
+read-case-other (Parts p) = omega arith
+read-case-other TooWide = omega arith
+
+-- ---- building
 to-other : (t : Destination) (b : CanIdBuilder) → Other (buildTo t b)
 to-other Nobody b = pick-all Other _ (omega arith) (omega arith)
 to-other (To d) b = pick-all Other _ (pick-all Other _ (omega arith) (omega arith)) (omega arith)

@@ -8,9 +8,11 @@ use mathlib.Core.Logic.{_≢_}
 use mathlib.Core.Path.{_≡_}
 use lib.ListN.{getD, take}
 use Rattle.base.specs.Answer.{codeOf}
+use Rattle.can_id.specs.Read.{ofRead, readOf}
 use Rattle.can_id.specs.Build.{ofBuilt, buildOf}
 use Rattle.can_id.specs.declared.CanIdBuilder.{CanIdBuilder}
 use Rattle.can_id.specs.declared.Built.{Built}
+use Rattle.can_id.specs.declared.Read.{Read}
 use Rattle.builder.specs.Next.{ofNextKind, ofNext, nextOf}
 use Rattle.builder.specs.Frames.{turnOf, nextTurn}
 use Rattle.builder.specs.declared.FastPacketBuilder.{FastPacketBuilder}
@@ -44,11 +46,11 @@ use Rattle.oracle.specs.Strict.{Reassembles}
 use Rattle.oracle.specs.Check.{ChecksTx}
 use Rattle.oracle.specs.declared.Reassembled.{Reassembled}
 use Rattle.oracle.specs.declared.Checked.{Checked}
-use Rattle.numbers.specs.Numbers.{BuiltLeft}
+use Rattle.numbers.specs.Numbers.{BuiltLeft, ReadLeft}
 use Rattle.numbers.specs.Fives.{ToldInFive}
 use Rattle.numbers.specs.Frames.{nextCode, NextLeft}
 use Rattle.numbers.specs.Pool.{CallMemory, CallLeft, PoolMemory, MadePoolLeft}
-use Rattle.ffi.specs.Ids.{PartsBuilt, SetBuilt, BothBuilt}
+use Rattle.ffi.specs.Ids.{IdRead, PartsBuilt, SetBuilt, BothBuilt}
 use Rattle.ffi.specs.Frames.{FrameMemory, NextFrameLeft, TurnLeft}
 use Rattle.ffi.specs.Calls.{NewPoolLeft, DefaultPoolLeft, FrameLeft, FrameWithLengthLeft}
 use Rattle.ffi.specs.Batches.{BatchMemory, FramesLeft}
@@ -63,7 +65,8 @@ abbrev pub NoneIsThree : ℕ → List ℕ → Type 0
 NoneIsThree n kinds = (i : ℕ) → i < n → NotThree (getD kinds i 0)
 
 pub record NoThree : Type 0 where
-  -- ---- identifiers and frames, by document 01's number of the refusal
+  -- ---- identifiers and frames, by the number of the refusal
+  pub can-id-read : (id : ℕ) (r : Read) → ofRead r ≡ readOf id → NotThree (codeOf (ofRead r))
   pub can-id-builder-build : (b : CanIdBuilder) (r : Built) → ofBuilt r ≡ buildOf b → NotThree (codeOf (ofBuilt r))
   pub fast-packet-builder-next-frame : (b : FastPacketBuilder) (index sent : ℕ) (payload : List ℕ) (r : Next)
       → ofNext r ≡ nextOf b index sent payload → NotThree (nextCode (ofNextKind (r .kind)))
@@ -106,6 +109,7 @@ pub record NoThree : Type 0 where
   pub check-tx-first : (frames : List Frame) (n source expected hours : ℕ) (r : Checked)
       → ChecksTx (take n frames) source expected hours r → NotThree (codeOf (ofChecked r))
   -- ---- the entries, by what each returns
+  pub hf-can-id-read : (id code : ℕ) (before after : List ℕ) → IdRead id before code after → NotThree code
   pub hf-can-id-build : (priority pgn source destination code value : ℕ) → PartsBuilt priority pgn source destination code value → NotThree code
   pub hf-can-id-build-with : (pgn source priority destination code value : ℕ) → SetBuilt pgn source priority destination code value → NotThree code
   pub hf-can-id-build-to : (pgn source priority destination code value : ℕ) → BothBuilt pgn source priority destination code value → NotThree code
@@ -127,6 +131,7 @@ pub record NoThree : Type 0 where
   pub hf-check-tx : (ids bytes lens values : List ℕ) (source expected hours code : ℕ)
       → ChecksTxInNumbers ids bytes lens source expected hours code values → NotThree code
   -- ---- the functions below the entries that turn any answer into its number: a caller can write none that has number 3
+  pub told-read : (r : Read) (code : ℕ) (before after : List ℕ) → ReadLeft r before code after → NotThree code
   pub answered : (b : Built) (code value : ℕ) → BuiltLeft b code value → NotThree code
   pub tell-next : (next : Next) (code : ℕ) (bytes numbers : List ℕ) → NextLeft next code bytes numbers → NotThree code
   pub told-reassembled : (r : Reassembled) (code : ℕ) (values : List ℕ) → ToldInFive (ofReassembled r) code values → NotThree code
@@ -137,11 +142,10 @@ pub record NoThree : Type 0 where
 
 -- No answer of these is told by a number, which is read off their types and not proved; a 3 that one of them gives is a priority, a count, an address or another
 -- part of what was asked for:
--- `CanId::builder`, `CanId::priority`, `CanId::pgn`, `CanId::destination`, `CanId::source_address`, `CanIdBuilder::new`, `CanIdBuilder::with_priority`,
--- `CanIdBuilder::to_destination`, `CanIdBuilder::priority`, `CanIdBuilder::destination`, `is_listed`, `fill_short`, `FastPacketBuilder::new`,
--- `FastPacketBuilder::with_sequence_id`, `FastPacketBuilder::with_priority`, `FastPacketBuilder::to_destination`, `FastPacketBuilder::build`, `count`,
--- `fresh_head`, `look`, `nothing_found`, `place_for`, `within_limit`, `Pool::default`, `frame_count`; the entries `hf_can_id_priority`, `hf_can_id_pgn`,
--- `hf_can_id_destination`, `hf_can_id_source_address`, `hf_can_id_parts`, `hf_fill_short`, `hf_raw_builder_new`, `hf_raw_builder_with_sequence_id`,
--- `hf_raw_builder_with_priority`, `hf_raw_builder_to_destination`, `hf_raw_builder_build`, `hf_frame_count`; and below them `split_count`, `builder_from`,
--- `builder_numbers`, `lay_made`, `after_numbers`, `iterator_from`, `place_numbers`, `go_on`, `destination_from`, `address_number`, `put_heads`, `pool_from`,
--- `counters_from`, `counter_numbers`.
+-- `CanId::builder`, `CanIdBuilder::new`, `CanIdBuilder::with_priority`, `CanIdBuilder::to_destination`, `CanIdBuilder::priority`, `CanIdBuilder::destination`,
+-- `is_listed`, `fill_short`, `FastPacketBuilder::new`, `FastPacketBuilder::with_sequence_id`, `FastPacketBuilder::with_priority`,
+-- `FastPacketBuilder::to_destination`, `FastPacketBuilder::build`, `count`, `fresh_head`, `look`, `nothing_found`, `place_for`, `within_limit`, `Pool::default`,
+-- `frame_count`; the entries `hf_fill_short`, `hf_raw_builder_new`, `hf_raw_builder_with_sequence_id`, `hf_raw_builder_with_priority`,
+-- `hf_raw_builder_to_destination`, `hf_raw_builder_build`, `hf_frame_count`; and below them `split_count`, `builder_from`, `builder_numbers`, `lay_made`,
+-- `after_numbers`, `iterator_from`, `place_numbers`, `go_on`, `destination_from`, `address_number`, `put_heads`, `pool_from`, `counters_from`,
+-- `counter_numbers`.

@@ -4,8 +4,9 @@ use mathlib.Core.Path.{_≡_, ap, _∙_}
 use Rattle.base.specs.Answer.{Answer, codeOf}
 use Rattle.base.proofs.Cases.{determined}
 use Rattle.can_id.specs.declared.Built.{Built}
+use Rattle.can_id.specs.declared.Read.{Read}
 use Rattle.can_id.specs.declared.Destination.{Destination}
-use Rattle.numbers.specs.Numbers.{toAddress, addressOf, valueOf, BuiltLeft}
+use Rattle.numbers.specs.Numbers.{toAddress, addressOf, valueOf, BuiltLeft, ReadLeft}
 use mathlib.Core.List.{List}
 use Rattle.builder.specs.declared.FastPacketBuilder.{FastPacketBuilder}
 use Rattle.builder.specs.declared.FrameIterator.{FrameIterator}
@@ -34,6 +35,10 @@ module _ (r s : ℕ) where
 
 pub destination-from-unique : (n : ℕ) (r s : Destination) → r ≡ toAddress n → s ≡ toAddress n → r ≡ s
 destination-from-unique n r s = determined
+
+-- what is returned, and what the four parts become
+pub told-read-unique : (x : Read) (before : List ℕ) (r s : ℕ) (v w : List ℕ) → ReadLeft x before r v → ReadLeft x before s w → (r ≡ s) × (v ≡ w)
+told-read-unique x before r s v w p q = (determined (p .told) (q .told), determined (p .laid) (q .laid))
 
 -- what is returned and what is lent out
 pub answered-unique : (b : Built) (r s v w : ℕ) → BuiltLeft b r v → BuiltLeft b s w → (r ≡ s) × (v ≡ w)

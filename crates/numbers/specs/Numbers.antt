@@ -6,7 +6,10 @@ use mathlib.Core.Path.{_≡_}
 use lib.Dec.{ltb, eqb}
 use Rattle.base.specs.Answer.{Answer, gives, refuses, codeOf}
 use Rattle.base.specs.Pick.{pick}
+use Rattle.can_id.specs.Read.{ofRead}
 use Rattle.can_id.specs.Build.{ofBuilt}
+use Rattle.can_id.specs.declared.CanIdParts.{CanIdParts}
+use Rattle.can_id.specs.declared.Read.{Read}
 use Rattle.can_id.specs.declared.Built.{Built}
 use Rattle.can_id.specs.declared.Destination.{Destination}
 use Rattle.can_id.specs.declared.Destination.the-variants.{Nobody, To}
@@ -27,6 +30,25 @@ abbrev pub addressOf : Destination → ℕ
 addressOf Nobody = 256
 addressOf (To d) = d
 
+-- ---- what an identifier says: priority, PGN, source, and destination or 256
+abbrev pub partNumbers : CanIdParts → List ℕ
+partNumbers p = p .priority ∷ p .pgn ∷ p .«source_address» ∷ addressOf (p .destination) ∷ []
+
+-- they stand in the place of four numbers; a refusal leaves those as they were
+unfoldable pub partsWith : Answer CanIdParts → List ℕ → List ℕ
+partsWith (gives p) numbers = partNumbers p
+partsWith (refuses n l) numbers = numbers
+
+-- an answer to reading as numbers: what is returned, and what the four become
+pub record ToldInFour (a : Answer CanIdParts) (before : List ℕ) (code : ℕ) (after : List ℕ) : Type 0 where
+  pub told : code ≡ codeOf a
+  pub laid : after ≡ partsWith a before
+
+-- of what reading an identifier gave
+abbrev pub ReadLeft : Read → List ℕ → ℕ → List ℕ → Type 0
+ReadLeft r before code after = ToldInFour (ofRead r) before code after
+
+-- ---- an answer that is one number
 -- the one number that a refusal carries, or 0
 abbrev pub carriesOf : List ℕ → ℕ
 carriesOf [] = 0

@@ -75,6 +75,10 @@ fn told_fault(fault: Fault, values: &mut [u64; 5]) -> u32
             *values = with_byte(n, byte);
             25
         }
+        Fault::TooWide(n) => {
+            *values = one(n);
+            29
+        }
     }
 }
 
@@ -104,6 +108,7 @@ pub fn split_number(s: Split) -> u32
     match s {
         Split::Frames(_) => 0,
         Split::BadSplit => 28,
+        Split::TooWide => 8,
         Split::Short => 27,
     }
 }
@@ -114,6 +119,7 @@ pub fn split_count(s: Split) -> usize
     match s {
         Split::Frames(n) => n,
         Split::BadSplit => 0,
+        Split::TooWide => 0,
         Split::Short => 0,
     }
 }

@@ -19,6 +19,7 @@ pub use frames::tell_next;
 pub use numbers::address_number;
 pub use numbers::answered;
 pub use numbers::destination_from;
+pub use numbers::told_read;
 pub use pools::HEAD_NUMBERS;
 pub use pools::counter_numbers;
 pub use pools::counters_from;

@@ -3,10 +3,11 @@ ghost use mathlib.Core.Path.{_≡_};
 ghost use Prim.Native.Nat.{_%_};
 ghost use Rattle.base.specs.Pick.{pick};
 ghost use Rattle.can_id.specs.Build.{errorNumber, errorCarries};
-ghost use Rattle.numbers.specs.Numbers.{isSet, laidOn, toAddress, addressOf, carriesOf, BuiltLeft};
+ghost use Rattle.numbers.specs.Numbers.{isSet, laidOn, toAddress, addressOf, carriesOf, BuiltLeft, ReadLeft};
 use can_id::Built;
 use can_id::CanIdBuildError;
 use can_id::Destination;
+use can_id::Read;
 
 pub(crate) fn flag(x: bool) -> u64
     ensures { λ r. ⌜ r ≡ pick x 1 0 ⌝ }
@@ -64,6 +65,25 @@ pub fn address_number(destination: Destination) -> u16
     match destination {
         Destination::Nobody => 256,
         Destination::To(address) => address as u16,
+    }
+}
+
+// 8, or 0 and the four parts in their place.
+pub fn told_read(read: Read, parts: &mut [u32; 4]) -> u32
+    ensures { λ r. ⌜ ReadLeft read (now (parts .entry)) r (now (parts .exit)) ⌝ }
+{
+    match read {
+        Read::Parts(p) => {
+            let destination = p.destination;
+            *parts = [
+                p.priority as u32,
+                p.pgn,
+                p.source_address as u32,
+                address_number(destination) as u32,
+            ];
+            0
+        }
+        Read::TooWide => 8,
     }
 }
 

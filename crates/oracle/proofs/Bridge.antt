@@ -17,19 +17,20 @@ use lib.Seq.{sets, length-take-le, take-all, drop-drop, take-append-add, drop-ap
 use Rattle.base.specs.Answer.{Answer, gives, refuses, counted}
 use Rattle.base.specs.Pick.{pick}
 use Rattle.base.proofs.Cases.{tested, less?, same?, when-eq, when-ne, when-lt, when-ge, when-true, when-false}
-use Rattle.splitter.specs.Frames.{frameBytes}
+use Rattle.splitter.specs.Frames.{isWide, frameBytes}
 use Rattle.oracle.specs.Ids.{isOther}
-use Rattle.oracle.specs.Strict.{benchIndex, benchSequence, oddOf, BenchMessage, OpenMessage, FrameOutcome, refused, waits, whole, collectedAt, firstFrame, laterFrame, outcomeOf, before, thenOf, endOf, messagesFrom, messagesOf, payloadsOf, listFrom, roomFor, deliveredTo, arenaWith, listWith, Reassembles}
+use Rattle.oracle.specs.Strict.{benchIndex, benchSequence, oddOf, BenchMessage, OpenMessage, FrameOutcome, refused, waits, whole, collectedAt, firstFrame, laterFrame, outcomeOf, before, thenOf, endOf, messagesFrom, messagesOf, payloadsOf, listFrom, firstWide, wideFirst, roomFor, deliveredTo, arenaWith, listWith, Reassembles}
 use Rattle.oracle.specs.inner.Frames.{paddingAt, firstThen, laterThen, messageEnd, faultAt}
-use Rattle.oracle.proofs.StrictLaws.{row-passed, row-refused}
+use Rattle.oracle.proofs.StrictLaws.{row-passed, row-refused, row-wide}
+use Rattle.oracle.proofs.FirstWide.{AllNarrow, all-narrow, wide-found}
 use Rattle.oracle.specs.Numbers.{faultNumber, faultValues, ofReassembled}
-use Rattle.oracle.specs.inner.Scan.{headerBytes, missingOf, faultOf, skipped, refusedAt, taken, isFaulty, stepOn, scanFrame, scanOf, startOf, Counted, addedOf, rowOf, bytesLaid, rowsLaid, verdictOf, isNone}
+use Rattle.oracle.specs.inner.Scan.{headerBytes, missingOf, faultOf, skipped, refusedAt, taken, isFaulty, isOver, stepOn, scanFrame, scanOf, startOf, Counted, addedOf, rowOf, bytesLaid, rowsLaid, verdictOf, isNone}
 use Rattle.splitter.specs.declared.Frame.{Frame}
 use Rattle.oracle.specs.declared.Scan.{Scan}
 use Rattle.oracle.specs.declared.Fault.{Fault}
-use Rattle.oracle.specs.declared.Fault.the-variants.{Length, Restarted, Announced, Stray, Order, Padding}
+use Rattle.oracle.specs.declared.Fault.the-variants.{Length, Restarted, Announced, Stray, Order, Padding, TooWide}
 use Rattle.oracle.specs.declared.faults.Standing.{Standing}
-use Rattle.oracle.specs.declared.faults.Standing.the-variants.{Clear, At}
+use Rattle.oracle.specs.declared.faults.Standing.the-variants.{Clear, At, WideAt}
 use Rattle.oracle.specs.declared.Reassembled.{Reassembled}
 use Rattle.oracle.specs.declared.Reassembled.the-variants.{Refused, Incomplete, NoRoom}
 use Rattle.splitter.proofs.FrameLaws.{eight-long}
@@ -354,31 +355,33 @@ module _ (s : Scan) (f : Frame) (fs : List Frame) {t : Scan} (et : scanFrame s f
       }
 
 -- a refusal stands
-still-refused : (s : Scan) (f : Frame) → isFaulty (s .fault) ≡ true → scanFrame s f ≡ s
+still-refused : (s : Scan) (f : Frame) {why : Fault} → isWide (f .id) ≡ false → s .fault ≡ At why → scanFrame s f ≡ skipped s
 unfolding stepOn
-still-refused s f e = sym (when-true _ _ e refl)
+still-refused s f narrow e = sym (when-false _ _ (ap isOver e) (when-false _ _ narrow (when-true _ _ (ap isFaulty e) refl)))
 
-stays : (fs : List Frame) (s : Scan) → isFaulty (s .fault) ≡ true → scanOf s fs ≡ s
-stays [] s e = refl
-stays (f ∷ fs) s e = ap (λ (t : Scan). scanOf t fs) (still-refused s f e) ∙ stays fs s e
+stays : (fs : List Frame) → AllNarrow fs → (s : Scan) {why : Fault} → s .fault ≡ At why → scanOf s fs .fault ≡ At why
+stays [] narrow s e = e
+stays (f ∷ fs) narrow s e = ap (λ (t : Scan). scanOf t fs .fault) (still-refused s f (narrow .0) e) ∙ stays fs (narrow .1) (skipped s) e
 
 -- ---- the row
-module _ (s : Scan) (f : Frame) (clear : s .fault ≡ Clear) where
+module _ (s : Scan) (f : Frame) (clear : s .fault ≡ Clear) (narrow : isWide (f .id) ≡ false) where
   abbrev bs : List ℕ
   bs = frameBytes f
 
-  pub skips : isOther (s .source) (s .pgn) (f .id) ≡ true → scanFrame s f ≡ skipped s
+  -- a frame is judged where no refusal stands and its identifier is not too wide
+  judged : {t : Scan} → t ≡ pick (isOther (s .source) (s .pgn) (f .id)) (skipped s) (pick (isFaulty (faultOf s (frameBytes f) (f .len))) (refusedAt s (faultOf s (frameBytes f) (f .len))) (taken s (frameBytes f))) → scanFrame s f ≡ t
   unfolding stepOn
-  skips e = sym (when-false _ _ (ap isFaulty clear) (when-true _ _ e refl))
+  judged e = sym (when-false _ _ (ap isOver clear) (when-false _ _ narrow (when-false _ _ (ap isFaulty clear) e)))
+
+  pub skips : isOther (s .source) (s .pgn) (f .id) ≡ true → scanFrame s f ≡ skipped s
+  skips e = judged (when-true _ _ e refl)
 
   module _ (own : isOther (s .source) (s .pgn) (f .id) ≡ false) where
     pub finds : {why : Fault} → faultOf s bs (f .len) ≡ At why → scanFrame s f ≡ refusedAt s (At why)
-    unfolding stepOn
-    finds {why} e = sym (when-false _ _ (ap isFaulty clear) (when-false _ _ own (when-true _ _ (ap isFaulty e) (ap (refusedAt s) (sym e)))))
+    finds {why} e = judged (when-false _ _ own (when-true _ _ (ap isFaulty e) (ap (refusedAt s) (sym e))))
 
     pub takes : faultOf s bs (f .len) ≡ Clear → scanFrame s f ≡ taken s bs
-    unfolding stepOn
-    takes e = sym (when-false _ _ (ap isFaulty clear) (when-false _ _ own (when-false _ _ (ap isFaulty e) refl)))
+    takes e = judged (when-false _ _ own (when-false _ _ (ap isFaulty e) refl))
 
   taken-clear : taken s bs .fault ≡ Clear
   unfolding taken
@@ -400,42 +403,42 @@ skip-knows s (some o) k = record { lacks = k .lacks; waiting = k .waiting; same-
 abbrev Rest : List Frame → Type 0
 Rest fs = (t : Scan) (o : Option OpenMessage) → t .fault ≡ Clear → Knows t o → Tells t (had o) fs (messagesFrom (t .source) (t .pgn) (t .n) o fs)
 
-module _ (s : Scan) (f : Frame) (fs : List Frame) (rest : Rest fs) (clear : s .fault ≡ Clear) where
+module _ (s : Scan) (f : Frame) (fs : List Frame) (rest : Rest fs) (clear : s .fault ≡ Clear) (narrow : AllNarrow (f ∷ fs)) where
   skip-tells : (q : List ℕ) → scanFrame s f ≡ skipped s → (x : Answer (List BenchMessage)) → Tells (skipped s) q fs x → Tells s q (f ∷ fs) x
   skip-tells q e (refuses k vs) d = stops-on s f fs e q d
-  skip-tells q e (gives ms) d = waits-on s f fs e q refl (ap (λ (l : List ℕ). q ++ l) (skip-adds s f clear e) ∙ append-nil q) d
+  skip-tells q e (gives ms) d = waits-on s f fs e q refl (ap (λ (l : List ℕ). q ++ l) (skip-adds s f clear (narrow .0) e) ∙ append-nil q) d
 
   module _ (own : isOther (s .source) (s .pgn) (f .id) ≡ false) (q : List ℕ) where
     wait-tells : (o : OpenMessage) → Waits s (frameBytes f) (f .len) q o → (x : Answer (List BenchMessage)) → Tells (taken s (frameBytes f)) (o .bytes) fs x → Tells s q (f ∷ fs) x
-    wait-tells o w (refuses k vs) d = stops-on s f fs (takes s f clear own (w .clear)) q d
+    wait-tells o w (refuses k vs) d = stops-on s f fs (takes s f clear (narrow .0) own (w .clear)) q d
     wait-tells o w (gives ms) d =
-        let e : scanFrame s f ≡ taken s (frameBytes f) = takes s f clear own (w .clear) in
-        waits-on s f fs e q (w .still) (ap (λ (l : List ℕ). q ++ l) (adds s f clear e) ∙ w .bytes) d
+        let e : scanFrame s f ≡ taken s (frameBytes f) = takes s f clear (narrow .0) own (w .clear) in
+        waits-on s f fs e q (w .still) (ap (λ (l : List ℕ). q ++ l) (adds s f clear (narrow .0) e) ∙ w .bytes) d
 
     whole-tells : (m : BenchMessage) → Whole s (frameBytes f) (f .len) q m → (x : Answer (List BenchMessage)) → Tells (taken s (frameBytes f)) [] fs x → Tells s q (f ∷ fs) (before m x)
     unfolding before
-    whole-tells m w (refuses k vs) d = stops-on s f fs (takes s f clear own (w .clear)) q d
+    whole-tells m w (refuses k vs) d = stops-on s f fs (takes s f clear (narrow .0) own (w .clear)) q d
     whole-tells m w (gives ms) d =
-        let e : scanFrame s f ≡ taken s (frameBytes f) = takes s f clear own (w .clear) in
-        gets-one s f fs e q (w .one-more) (w .same-sequence) (w .same-size) (ap (λ (l : List ℕ). q ++ l) (adds s f clear e) ∙ w .bytes) d
+        let e : scanFrame s f ≡ taken s (frameBytes f) = takes s f clear (narrow .0) own (w .clear) in
+        gets-one s f fs e q (w .one-more) (w .same-sequence) (w .same-size) (ap (λ (l : List ℕ). q ++ l) (adds s f clear (narrow .0) e) ∙ w .bytes) d
 
     outcome-tells : (x : FrameOutcome) → Does s (frameBytes f) (f .len) q x → Tells s q (f ∷ fs) (thenOf x (λ o′. messagesFrom (s .source) (s .pgn) (s .n + 1) o′ fs))
     unfolding thenOf taken
     outcome-tells (refused k vs) d =
-        let e : scanFrame s f ≡ refusedAt s (At (d .why)) = finds s f clear own (d .found) in
-        stops-on s f fs e q (subst (λ (u : Scan). Stops u k vs) (sym (stays fs (refusedAt s (At (d .why))) refl)) (by-fault (d .why) refl (d .number) (d .values)))
+        let e : scanFrame s f ≡ refusedAt s (At (d .why)) = finds s f clear (narrow .0) own (d .found) in
+        stops-on s f fs e q (by-fault (d .why) (stays fs (narrow .1) (refusedAt s (At (d .why))) refl) (d .number) (d .values))
     outcome-tells (waits o) d = wait-tells o d (messagesFrom (s .source) (s .pgn) (s .n + 1) (some o) fs) (rest (taken s (frameBytes f)) (some o) clear (d .shows))
     outcome-tells (whole m) d = whole-tells m d (messagesFrom (s .source) (s .pgn) (s .n + 1) none fs) (rest (taken s (frameBytes f)) none clear (d .shut))
 
-pub row-tells : (fs : List Frame) → Rest fs
+pub row-tells : (fs : List Frame) → AllNarrow fs → Rest fs
 unfolding messagesFrom endOf payloadsOf listFrom
-row-tells [] s none clear k = record { clear = clear; shut = k; many = omega arith; bytes = refl; rows = λ at h. refl }
-row-tells [] s (some o) clear k = by-end clear (k .waiting) refl (ap (λ (n : ℕ). n ∷ []) (k .same-size))
-row-tells (f ∷ fs) s o clear k =
+row-tells [] narrow s none clear k = record { clear = clear; shut = k; many = omega arith; bytes = refl; rows = λ at h. refl }
+row-tells [] narrow s (some o) clear k = by-end clear (k .waiting) refl (ap (λ (n : ℕ). n ∷ []) (k .same-size))
+row-tells (f ∷ fs) narrow s o clear k =
     let go : Tells s (had o) (f ∷ fs) (pick (isOther (s .source) (s .pgn) (f .id)) (messagesFrom (s .source) (s .pgn) (s .n + 1) o fs) (thenOf (outcomeOf (s .n) o (frameBytes f) (f .len)) (λ o′. messagesFrom (s .source) (s .pgn) (s .n + 1) o′ fs))) =
     tested (isOther (s .source) (s .pgn) (f .id))
-    (λ e. subst (Tells s (had o) (f ∷ fs)) (when-true _ _ e refl) (skip-tells s f fs (row-tells fs) clear (had o) (skips s f clear e) (messagesFrom (s .source) (s .pgn) (s .n + 1) o fs) (row-tells fs (skipped s) o clear (skip-knows s o k))))
-    (λ e. subst (Tells s (had o) (f ∷ fs)) (when-false _ _ e refl) (outcome-tells s f fs (row-tells fs) clear e (had o) (outcomeOf (s .n) o (frameBytes f) (f .len)) (frame-does s (frameBytes f) (f .len) (eight-long (f .«data»)) o k))) in
+    (λ e. subst (Tells s (had o) (f ∷ fs)) (when-true _ _ e refl) (skip-tells s f fs (row-tells fs (narrow .1)) clear narrow (had o) (skips s f clear (narrow .0) e) (messagesFrom (s .source) (s .pgn) (s .n + 1) o fs) (row-tells fs (narrow .1) (skipped s) o clear (skip-knows s o k))))
+    (λ e. subst (Tells s (had o) (f ∷ fs)) (when-false _ _ e refl) (outcome-tells s f fs (row-tells fs (narrow .1)) clear narrow e (had o) (outcomeOf (s .n) o (frameBytes f) (f .len)) (frame-does s (frameBytes f) (f .len) (eight-long (f .«data»)) o k))) in
     go
 
 -- ---- the answer, the list and the arena
@@ -504,9 +507,22 @@ module _ (s : Scan) (fs : List Frame) (l o : List ℕ) where
     kept-told (refuses k vs) d = stops-kept k vs d
     kept-told (gives ms) d = gives-kept ms d
 
-pub strict-tells : (fs : List Frame) (source pgn : ℕ) (l o : List ℕ) → Kept (startOf source pgn) fs l o (verdictOf (scanOf (startOf source pgn) fs) (length l) (length o)) (deliveredTo l o fs source pgn)
-unfolding deliveredTo
-strict-tells fs source pgn l o = kept-told (startOf source pgn) fs l o refl refl (messagesOf fs source pgn) (row-tells fs (startOf source pgn) none refl refl)
+  -- an identifier that is too wide stands before all
+  wide-kept : (n : ℕ) → scanOf s fs .fault ≡ WideAt n → Kept (verdictOf (scanOf s fs) (length l) (length o)) (refuses 29 (n ∷ []))
+  unfolding ofReassembled faultNumber faultValues
+  wide-kept n e =
+      subst (λ (r : Reassembled). Kept r (refuses 29 (n ∷ []))) (row-wide _ _ _ _ _ _ _ e) (refuses-kept (Refused (TooWide n)) 29 (n ∷ []) refl refl)
+
+module _ (fs : List Frame) (source pgn : ℕ) (l o : List ℕ) where
+  wide-tells : (x : Option ℕ) → firstWide 0 fs ≡ x
+      → Kept (startOf source pgn) fs l o (verdictOf (scanOf (startOf source pgn) fs) (length l) (length o)) (wideFirst x (roomFor (length l) (length o) (messagesOf fs source pgn)))
+  unfolding wideFirst
+  wide-tells none e = kept-told (startOf source pgn) fs l o refl refl (messagesOf fs source pgn) (row-tells fs (all-narrow fs 0 e) (startOf source pgn) none refl refl)
+  wide-tells (some n) e = wide-kept (startOf source pgn) fs l o n (wide-found fs (startOf source pgn) refl e)
+
+  pub strict-tells : Kept (startOf source pgn) fs l o (verdictOf (scanOf (startOf source pgn) fs) (length l) (length o)) (deliveredTo l o fs source pgn)
+  unfolding deliveredTo
+  strict-tells = wide-tells (firstWide 0 fs) refl
 
 -- ---- the two ways out of strict reassembly's code, whichever form its row has
 pub fresh-counts : {s : Scan} (source pgn : ℕ) → s ≡ startOf source pgn → Counted 0 s

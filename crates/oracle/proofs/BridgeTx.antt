@@ -16,29 +16,33 @@ use lib.Seq.{sets, sets-eq, length-sets, take-append-seam, getD-take}
 use Rattle.base.specs.Answer.{Answer, gives, refuses}
 use Rattle.base.specs.Pick.{pick}
 use Rattle.base.proofs.Cases.{tested, less?, same?, pick-all, when-ne, when-lt, when-ge, when-true, when-false}
-use Rattle.splitter.specs.Frames.{frameBytes}
+use Rattle.splitter.specs.Frames.{isWide, frameBytes}
 use Rattle.oracle.specs.Ids.{isOther}
 use Rattle.oracle.specs.inner.Tx.{claimAfter, messageOf, isBad, bufferOf, badOf, lastOf, isUnclaimed, txOf, txAll, txStart, overOf, faultyOf, ranOf, checkedOf}
 use Rattle.oracle.specs.declared.bench_ids.Claim.{Claim}
 use Rattle.oracle.specs.declared.bench_ids.Claim.the-variants.{Awaited, Made, Missed}
-use Rattle.oracle.specs.Strict.{benchSequence, BenchMessage, OpenMessage, FrameOutcome, refused, waits, whole, collectedAt, firstFrame, laterFrame, outcomeOf, before, thenOf, endOf, messagesFrom, messagesOf}
+use Rattle.oracle.specs.Strict.{benchSequence, BenchMessage, OpenMessage, FrameOutcome, refused, waits, whole, collectedAt, firstFrame, laterFrame, outcomeOf, before, thenOf, endOf, messagesFrom, messagesOf, firstWide, wideFirst}
 use Rattle.oracle.specs.Check.{follows, eachFrom, isClaimed, sentOf, checkTxOf, ChecksTx, hoursOf, offFrom}
-use Rattle.oracle.specs.Numbers.{ofChecked}
-use Rattle.oracle.specs.inner.Scan.{skipped, taken, isFaulty, stepOn, scanFrame, scanOf, startOf, Counted, addedOf}
+use Rattle.oracle.specs.Numbers.{faultNumber, faultValues, ofChecked}
+use Rattle.oracle.specs.inner.Scan.{skipped, taken, isFaulty, isOver, stepOn, scanFrame, scanOf, startOf, Counted, addedOf}
 use Rattle.splitter.specs.declared.Frame.{Frame}
 use Rattle.oracle.specs.declared.Scan.{Scan}
 use Rattle.oracle.specs.declared.Tx.{Tx}
-use Rattle.oracle.specs.declared.faults.Standing.the-variants.{Clear}
+use Rattle.oracle.specs.declared.faults.Standing.{Standing}
+use Rattle.oracle.specs.declared.faults.Standing.the-variants.{Clear, WideAt}
 use Rattle.oracle.specs.declared.Checked.{Checked}
 use Rattle.oracle.specs.declared.Checked.the-variants.{Good, NoCount, Over, NoClaim, Faulty, Open, Count, Size, Hours, Pattern, Sequence}
 use Rattle.splitter.proofs.FrameLaws.{eight-long}
 use Rattle.oracle.proofs.Grows.{added-end}
+use Rattle.oracle.proofs.FirstWide.{AllNarrow, all-narrow, wide-found, wide-none}
 use Rattle.oracle.proofs.Bridge.{Shows, Knows, had, Does, Waits, Whole, frame-does, Stops, by-fault, by-end, Tells, row-tells, skips, takes, adds, skip-adds, skip-knows}
 
 -- ---- what a frame does not change
 source-kept : (s : Scan) (f : Frame) → scanFrame s f .source ≡ s .source
 unfolding stepOn taken
-source-kept s f = pick-all (λ (t : Scan). t .source ≡ s .source) _ refl (pick-all (λ (t : Scan). t .source ≡ s .source) _ refl (pick-all (λ (t : Scan). t .source ≡ s .source) _ refl refl))
+source-kept s f =
+    let P : Scan → Type 0 = λ (t : Scan). t .source ≡ s .source in
+    pick-all P _ refl (pick-all P _ refl (pick-all P _ refl (pick-all P _ refl (pick-all P _ refl refl))))
 
 scan-kept : (fs : List Frame) (t : Tx) → txAll t fs .scan ≡ scanOf (t .scan) fs
 unfolding txOf
@@ -324,7 +328,7 @@ shows-at s o k =
 shows-fit : (s : Scan) (o : OpenMessage) → Shows s o → o .announced ≤ 223 → length (o .bytes) ≤ 223
 shows-fit s o k h = let l : s .missing + length (o .bytes) ≡ o .announced = k .lacks in omega arith
 
-module _ (t : Tx) (f : Frame) (fs : List Frame) (o : Option OpenMessage) (hold : Holds t o) (rest : RestBad fs) where
+module _ (t : Tx) (f : Frame) (fs : List Frame) (o : Option OpenMessage) (hold : Holds t o) (narrow : isWide (f .id) ≡ false) (rest : RestBad fs) where
   abbrev s : Scan
   s = t .scan
 
@@ -355,7 +359,7 @@ module _ (t : Tx) (f : Frame) (fs : List Frame) (o : Option OpenMessage) (hold :
 
   skip-bad : scanFrame (t .scan) f ≡ skipped (t .scan) → BadTells t (f ∷ fs) (messagesFrom (t .scan .source) (t .scan .pgn) (t .scan .n + 1) o fs)
   skip-bad e =
-      let b : take (length (had o)) (bufferOf t f) ≡ had o = ap (take (length (had o))) (buffer-kept (skip-adds (t .scan) f (hold .clear) e)) ∙ hold .starts in
+      let b : take (length (had o)) (bufferOf t f) ≡ had o = ap (take (length (had o))) (buffer-kept (skip-adds (t .scan) f (hold .clear) narrow e)) ∙ hold .starts in
       none-all e refl (messagesFrom (t .scan .source) (t .scan .pgn) (t .scan .n + 1) o fs)
       (rest-from e o (hold-next e o (hold .clear) (skip-knows (t .scan) o (hold .knows)) b (hold .fits)))
 
@@ -363,8 +367,8 @@ module _ (t : Tx) (f : Frame) (fs : List Frame) (o : Option OpenMessage) (hold :
     wait-bad : (p : OpenMessage) → Waits (t .scan) (frameBytes f) (f .len) (had o) p → p .announced ≤ 223 → BadTells t (f ∷ fs) (messagesFrom (t .scan .source) (t .scan .pgn) (t .scan .n + 1) (some p) fs)
     unfolding taken
     wait-bad p w g =
-        let e : scanFrame (t .scan) f ≡ taken (t .scan) (frameBytes f) = takes (t .scan) f (hold .clear) own (w .clear) in
-        let grows : had o ++ addedOf (t .scan) f ≡ p .bytes = ap (λ (l : List ℕ). had o ++ l) (adds (t .scan) f (hold .clear) e) ∙ w .bytes in
+        let e : scanFrame (t .scan) f ≡ taken (t .scan) (frameBytes f) = takes (t .scan) f (hold .clear) narrow own (w .clear) in
+        let grows : had o ++ addedOf (t .scan) f ≡ p .bytes = ap (λ (l : List ℕ). had o ++ l) (adds (t .scan) f (hold .clear) narrow e) ∙ w .bytes in
         let small : length (p .bytes) ≤ 223 = shows-fit (taken (t .scan) (frameBytes f)) p (w .shows) g in
         let long : length (t .buffer) ≡ 223 = hold .long in
         let b : take (length (p .bytes)) (bufferOf t f) ≡ p .bytes = buffer-starts t f e (had o) (p .bytes) (hold .starts) grows (shows-at (taken (t .scan) (frameBytes f)) p (w .shows)) (omega arith) in
@@ -374,13 +378,13 @@ module _ (t : Tx) (f : Frame) (fs : List Frame) (o : Option OpenMessage) (hold :
     one-all : (m : BenchMessage) → Whole (t .scan) (frameBytes f) (f .len) (had o) m → take (length (m .payload)) (bufferOf t f) ≡ m .payload → (x : Answer (List BenchMessage)) → BadTells (txOf t f) fs x → BadTells t (f ∷ fs) (before m x)
     unfolding before
     one-all m w b (refuses k vs) d = tt
-    one-all m w b (gives ms) d = one-tells t f fs (takes (t .scan) f (hold .clear) own (w .clear)) m (w .one-more) (w .same-sequence) (w .same-size) b ms d
+    one-all m w b (gives ms) d = one-tells t f fs (takes (t .scan) f (hold .clear) narrow own (w .clear)) m (w .one-more) (w .same-sequence) (w .same-size) b ms d
 
     whole-bad : (m : BenchMessage) → Whole (t .scan) (frameBytes f) (f .len) (had o) m → length (m .payload) ≤ 223 → BadTells t (f ∷ fs) (before m (messagesFrom (t .scan .source) (t .scan .pgn) (t .scan .n + 1) none fs))
     unfolding taken
     whole-bad m w g =
-        let e : scanFrame (t .scan) f ≡ taken (t .scan) (frameBytes f) = takes (t .scan) f (hold .clear) own (w .clear) in
-        let grows : had o ++ addedOf (t .scan) f ≡ m .payload = ap (λ (l : List ℕ). had o ++ l) (adds (t .scan) f (hold .clear) e) ∙ w .bytes in
+        let e : scanFrame (t .scan) f ≡ taken (t .scan) (frameBytes f) = takes (t .scan) f (hold .clear) narrow own (w .clear) in
+        let grows : had o ++ addedOf (t .scan) f ≡ m .payload = ap (λ (l : List ℕ). had o ++ l) (adds (t .scan) f (hold .clear) narrow e) ∙ w .bytes in
         let long : length (t .buffer) ≡ 223 = hold .long in
         let shut : taken (t .scan) (frameBytes f) .missing ≡ 0 = w .shut in
         let size : taken (t .scan) (frameBytes f) .announced ≡ length (m .payload) = w .same-size in
@@ -394,15 +398,15 @@ module _ (t : Tx) (f : Frame) (fs : List Frame) (o : Option OpenMessage) (hold :
     outcome-bad (waits p) d g = wait-bad p d g
     outcome-bad (whole m) d g = whole-bad m d g
 
-pub bad-tells : (fs : List Frame) → RestBad fs
+pub bad-tells : (fs : List Frame) → AllNarrow fs → RestBad fs
 unfolding messagesFrom endOf eachFrom
-bad-tells [] t none h = none-bad (t .bad)
-bad-tells [] t (some o) h = tt
-bad-tells (f ∷ fs) t o h =
+bad-tells [] narrow t none h = none-bad (t .bad)
+bad-tells [] narrow t (some o) h = tt
+bad-tells (f ∷ fs) narrow t o h =
     tested (isOther (t .scan .source) (t .scan .pgn) (f .id))
-    (λ e. subst (BadTells t (f ∷ fs)) (when-true _ _ e refl) (skip-bad t f fs o h (bad-tells fs) (skips (t .scan) f (h .clear) e)))
+    (λ e. subst (BadTells t (f ∷ fs)) (when-true _ _ e refl) (skip-bad t f fs o h (narrow .0) (bad-tells fs (narrow .1)) (skips (t .scan) f (h .clear) (narrow .0) e)))
     (λ e. subst (BadTells t (f ∷ fs)) (when-false _ _ e refl)
-    (outcome-bad t f fs o h (bad-tells fs) e (outcomeOf (t .scan .n) o (frameBytes f) (f .len))
+    (outcome-bad t f fs o h (narrow .0) (bad-tells fs (narrow .1)) e (outcomeOf (t .scan .n) o (frameBytes f) (f .len))
     (frame-does (t .scan) (frameBytes f) (f .len) (eight-long (f .«data»)) o (h .knows)) (outcome-fits (t .scan .n) o (frameBytes f) (f .len) (h .fits))))
 
 -- ---- the answer
@@ -451,21 +455,54 @@ module _ (fs : List Frame) (source expected base : ℕ) where
   abbrev last : Tx
   last = txAll t₀ fs
 
-  each-told : (ms : List BenchMessage) → messagesOf fs source 127489 ≡ gives ms → ofChecked (txAll (txStart source base) fs .bad) ≡ eachFrom base 0 none ms
-  unfolding pick
-  each-told ms e = subst (BadTells t₀ fs) e (bad-tells fs t₀ none (record { clear = refl; knows = refl; long = refl; starts = refl; fits = tt }))
+  -- the answers of the code and of the paper after 30 and 31, and after 29
+  abbrev told : Answer ℕ
+  told = ofChecked (pick (isOver (last .scan .fault)) (faultyOf (last .scan .fault)) (pick (isUnclaimed (last .claim)) NoClaim (ranOf last expected)))
+
+  abbrev asked : Answer ℕ
+  asked = pick (isClaimed source fs) (sentOf expected base (messagesOf fs source 127489)) (refuses 32 [])
+
+  module _ (narrow : AllNarrow fs) where
+    each-told : (ms : List BenchMessage) → messagesOf fs source 127489 ≡ gives ms → ofChecked (txAll (txStart source base) fs .bad) ≡ eachFrom base 0 none ms
+    unfolding pick
+    each-told ms e = subst (BadTells t₀ fs) e (bad-tells fs narrow t₀ none (record { clear = refl; knows = refl; long = refl; starts = refl; fits = tt }))
+
+    ran-told : ofChecked (ranOf last expected) ≡ sentOf expected base (messagesOf fs source 127489)
+    ran-told = ran-tells last expected base (startOf source 127489) fs (scan-kept fs t₀) refl (messagesOf fs source 127489) (row-tells fs narrow (startOf source 127489) none refl refl) each-told
+
+    claimed-told : ofChecked (pick (isUnclaimed (last .claim)) NoClaim (ranOf last expected)) ≡ asked
+    unfolding ofChecked
+    claimed-told =
+        pushed ofChecked (isUnclaimed (last .claim)) NoClaim (ranOf last expected)
+        ∙ ap (λ (u : Bool). pick u (refuses 32 []) (ofChecked (ranOf last expected))) (claims-tell fs t₀)
+        ∙ turned (isClaimed source fs) (refuses 32 []) (ofChecked (ranOf last expected))
+        ∙ ap (λ (x : Answer ℕ). pick (isClaimed source fs) x (refuses 32 [])) ran-told
+
+    narrow-told : told ≡ asked
+    narrow-told =
+        let over : isOver (last .scan .fault) ≡ false = ap (λ (s : Scan). isOver (s .fault)) (scan-kept fs t₀) ∙ wide-none fs (startOf source 127489) refl narrow in
+        sym (ap ofChecked (when-false _ _ over refl)) ∙ claimed-told
+
+  wide-told : (n : ℕ) → firstWide 0 fs ≡ some n → told ≡ refuses 29 (n ∷ [])
+  unfolding ofChecked faultNumber faultValues
+  wide-told n e =
+      let f : last .scan .fault ≡ WideAt n = ap (λ (s : Scan). s .fault) (scan-kept fs t₀) ∙ wide-found fs (startOf source 127489) refl e in
+      sym (ap ofChecked (when-true _ _ (ap isOver f) refl)) ∙ ap (λ (x : Standing). ofChecked (faultyOf x)) f
+
+  width-told : (x : Option ℕ) → firstWide 0 fs ≡ x → told ≡ wideFirst x asked
+  unfolding wideFirst
+  width-told none e = narrow-told (all-narrow fs 0 e)
+  width-told (some n) e = wide-told n e
 
   pub check-tells : ofChecked (checkedOf (txAll (txStart source base) fs) expected) ≡ checkTxOf fs source expected base
-  unfolding checkedOf checkTxOf overOf pick ofChecked
+  unfolding checkedOf checkTxOf overOf ofChecked
   check-tells =
-      let ran : ofChecked (ranOf last expected) ≡ sentOf expected base (messagesOf fs source 127489) = ran-tells last expected base (startOf source 127489) fs (scan-kept fs t₀) refl (messagesOf fs source 127489) (row-tells fs (startOf source 127489) none refl refl) each-told in
-      let claimed : pick (isUnclaimed (last .claim)) (refuses 32 []) (ofChecked (ranOf last expected)) ≡ pick (isClaimed source fs) (sentOf expected base (messagesOf fs source 127489)) (refuses 32 []) = ap (λ (u : Bool). pick u (refuses 32 []) (ofChecked (ranOf last expected))) (claims-tell fs t₀) ∙ turned (isClaimed source fs) (refuses 32 []) (ofChecked (ranOf last expected)) ∙ ap (λ (x : Answer ℕ). pick (isClaimed source fs) x (refuses 32 [])) ran in
-      pushed ofChecked (eqb expected 0) NoCount (pick (overOf (last .base) expected) Over (pick (isUnclaimed (last .claim)) NoClaim (ranOf last expected)))
+      let rest : Checked = pick (isOver (last .scan .fault)) (faultyOf (last .scan .fault)) (pick (isUnclaimed (last .claim)) NoClaim (ranOf last expected)) in
+      pushed ofChecked (eqb expected 0) NoCount (pick (overOf (last .base) expected) Over rest)
       ∙ ap (pick (eqb expected 0) (refuses 30 []))
-      (pushed ofChecked (overOf (last .base) expected) Over (pick (isUnclaimed (last .claim)) NoClaim (ranOf last expected))
-      ∙ ap (λ (b : ℕ). pick (overOf b expected) (refuses 31 []) (ofChecked (pick (isUnclaimed (last .claim)) NoClaim (ranOf last expected)))) (base-kept fs t₀)
-      ∙ ap (pick (ltb 4294967295 (base + (expected - 1))) (refuses 31 []))
-      (pushed ofChecked (isUnclaimed (last .claim)) NoClaim (ranOf last expected) ∙ claimed))
+      (pushed ofChecked (overOf (last .base) expected) Over rest
+      ∙ ap (λ (b : ℕ). pick (overOf b expected) (refuses 31 []) (ofChecked rest)) (base-kept fs t₀)
+      ∙ ap (pick (ltb 4294967295 (base + (expected - 1))) (refuses 31 [])) (width-told (firstWide 0 fs) refl))
 
 -- ---- the code's way, whichever form its row has
 pub fresh-tx : {t : Tx} (source base : ℕ) → t ≡ txStart source base → Counted 0 (t .scan)

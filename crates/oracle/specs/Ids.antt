@@ -1,4 +1,4 @@
--- What an identifier says, as document 01 has it under "Identifiers".
+-- What an identifier says, as document 01 has it under "Identifiers". Where one is too wide, no frame's answer rests on these: 29 comes first.
 use Prim.Native.Nat.{ℕ, _*_, _/_, _%_}
 use mathlib.Core.Bool.{Bool, true, false}
 use lib.Dec.{eqb, ltb}

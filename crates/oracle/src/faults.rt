@@ -9,10 +9,11 @@ use splitter::FRAME_BYTES;
 use splitter::INDICES;
 use splitter::MAX_FAST_PACKET_PAYLOAD;
 
-// Whether a row was refused so far.
+// Whether a row was refused so far: at a frame, or because a frame's identifier is too wide, which stands over all else.
 pub(crate) enum Standing {
     Clear,
     At(Fault),
+    WideAt(usize),
 }
 
 // The limit as the byte that announces a length.

@@ -1,6 +1,7 @@
 // A whole row of frames, judged by what is known after the last.
 ghost use mathlib.Core.Path.{_≡_};
 ghost use Rattle.oracle.specs.inner.Scan.{passedWith, verdictAt};
+use crate::Fault;
 use crate::Reassembled;
 use crate::faults::Standing;
 
@@ -46,5 +47,6 @@ pub(crate) fn row_verdict(
     match fault {
         Standing::Clear => passed(missing, announced, messages, total, numbers, room),
         Standing::At(why) => Reassembled::Refused(why),
+        Standing::WideAt(n) => Reassembled::Refused(Fault::TooWide(n)),
     }
 }

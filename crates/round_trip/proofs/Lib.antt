@@ -1,3 +1,4 @@
 pub mod Accepted
 pub mod RoundTrip
 pub mod Slices
+pub mod Wide

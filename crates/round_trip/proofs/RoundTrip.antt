@@ -1,7 +1,7 @@
 -- What the splitter lays out, strict reassembly reads back.
 --     returned     a row whose frames of one source and PGN are the splitter's frames of some messages gives those messages
 --     read-back    the splitter's frames of one payload of 1 to 223 bytes, with any identifier and a sequence up to 7, give that one message
---     delivered    and it is delivered where the list and the arena have room
+--     delivered    and it is delivered where the identifier is below 2^29 and the list and the arena have room
 -- Assumes nothing.
 use Prim.Native.Nat.{ℕ, zero, suc, _+_, _-_, _*_, _/_, _%_, _<_, _≤_}
 use mathlib.Core.Bool.{true, false}
@@ -17,10 +17,10 @@ use Rattle.base.specs.Answer.{gives}
 use Rattle.base.specs.Pick.{pick}
 use Rattle.base.specs.Lists.{fill}
 use Rattle.base.proofs.Fills.{length-fill, take-fill}
-use Rattle.base.proofs.Cases.{tested, less?, when-eq, when-ne, when-lt, when-ge, when-true, when-false}
-use Rattle.splitter.specs.Frames.{frameBytes}
+use Rattle.base.proofs.Cases.{tested, less?, when-eq, when-ne, when-lt, when-ge, when-gt, when-true, when-false}
+use Rattle.splitter.specs.Frames.{isWide, frameBytes}
 use Rattle.oracle.specs.Ids.{benchSource, benchPgn, isOther}
-use Rattle.oracle.specs.Strict.{oddOf, BenchMessage, OpenMessage, FrameOutcome, waits, whole, collectedAt, firstFrame, laterFrame, outcomeOf, before, thenOf, endOf, messagesFrom, messagesOf, payloadsOf, roomFor, deliveredTo}
+use Rattle.oracle.specs.Strict.{oddOf, BenchMessage, OpenMessage, FrameOutcome, waits, whole, collectedAt, firstFrame, laterFrame, outcomeOf, before, thenOf, endOf, messagesFrom, messagesOf, firstWide, wideFirst, payloadsOf, roomFor, deliveredTo}
 use Rattle.splitter.specs.Bytes.{splitBytes, splitFrame, countOf}
 use Rattle.splitter.specs.Split.{splitFramesFrom, splitFrames}
 use Rattle.round_trip.specs.Sent.{ownFrames, under, splitAll, AreSplit}
@@ -267,6 +267,12 @@ frames-under id q p (suc n) k =
     ∙ ap (λ (bs : List ℕ). record { id = id; «data» = bs; len = 8 } ∷ under id (ownFrames (benchSource id) (benchPgn id) (splitFramesFrom id q p (suc k) n))) (eight-same (splitBytes q p k) (bytes-eight q p k))
     ∙ ap (λ (l : List Frame). splitFrame id q p k ∷ l) (frames-under id q p n (suc k))
 
+-- none of them is too wide, where the identifier is not
+frames-narrow : (id q : ℕ) (p : List ℕ) → id < 0x2000_0000 → (n k i : ℕ) → firstWide i (splitFramesFrom id q p k n) ≡ none
+unfolding firstWide splitFrame isWide
+frames-narrow id q p h zero k i = refl
+frames-narrow id q p h (suc n) k i = sym (when-gt _ _ h (sym (frames-narrow id q p h n (suc k) (i + 1))))
+
 module _ (id sequence : ℕ) (p : List ℕ) (sq : sequence ≤ 7) (some-bytes : 1 ≤ length p) (most : length p ≤ 223) where
   abbrev pub sent : BenchMessage
   sent = record { sequence = sequence; payload = p }
@@ -275,8 +281,9 @@ module _ (id sequence : ℕ) (p : List ℕ) (sq : sequence ≤ 7) (some-bytes : 
   unfolding splitAll
   read-back = returned (splitFrames id sequence p) (benchSource id) (benchPgn id) (sent ∷ []) (sq, some-bytes, most, tt) id (frames-under id sequence p (countOf (length p)) 0 ∙ sym (append-nil (splitFrames id sequence p)))
 
-  pub delivered : (list arena : List ℕ) → 3 ≤ length list → length p ≤ length arena → deliveredTo list arena (splitFrames id sequence p) (benchSource id) (benchPgn id) ≡ gives (sent ∷ [])
-  unfolding deliveredTo roomFor payloadsOf
-  delivered list arena h k =
-      ap (roomFor (length list) (length arena)) read-back
+  pub delivered : id < 0x2000_0000 → (list arena : List ℕ) → 3 ≤ length list → length p ≤ length arena → deliveredTo list arena (splitFrames id sequence p) (benchSource id) (benchPgn id) ≡ gives (sent ∷ [])
+  unfolding deliveredTo wideFirst roomFor payloadsOf
+  delivered narrow list arena h k =
+      ap (λ (x : Option ℕ). wideFirst x (roomFor (length list) (length arena) (messagesOf (splitFrames id sequence p) (benchSource id) (benchPgn id)))) (frames-narrow id sequence p narrow (countOf (length p)) 0 0)
+      ∙ ap (roomFor (length list) (length arena)) read-back
       ∙ sym (when-ge _ _ {a = length list / 3} {b = 1} (omega arith) (when-ge _ _ {a = length arena} {b = length (p ++ [])} (rw append-nil k) refl))

@@ -11,12 +11,14 @@ use Rattle.base.specs.Pick.{pick}
 use Rattle.base.specs.Answer.{gives}
 use Rattle.base.proofs.Cases.{less?}
 use Rattle.can_id.specs.Layout.{pfOf, pgnOf}
+use Rattle.can_id.specs.Read.{readOf}
 use Rattle.can_id.specs.Build.{buildOf}
 use Rattle.can_id.proofs.LayoutLaws.{pgn-addressed, pgn-broadcast}
 use Rattle.fast_packet.specs.FastPacket.{maxPayload}
 use Rattle.builder.specs.Builder.{idBuilder}
 use Rattle.builder.specs.Next.{Step}
 use Rattle.builder.specs.declared.FastPacketBuilder.{FastPacketBuilder}
+use Rattle.splitter.specs.Frames.{isWide}
 use Rattle.splitter.specs.Bytes.{splitBytes, splitFrame, countOf}
 use Rattle.splitter.specs.Split.{splitFramesFrom, splitFrames}
 use Rattle.splitter.specs.declared.Frame.{Frame}
@@ -34,7 +36,8 @@ same-pgn id =
     (λ h. simp (le-ltb (pfOf id) 240 h) (pgn-broadcast id h))
 
 pub readings-agree : (id : ℕ) → ReadingsAgree id
-readings-agree id = record { source = refl; pgn = same-pgn id }
+unfolding readOf isWide
+readings-agree id = record { width = refl; source = refl; pgn = same-pgn id }
 
 -- ---- the two framings of a payload
 -- as many frames

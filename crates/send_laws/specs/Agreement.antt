@@ -5,21 +5,25 @@ use mathlib.Core.List.{List, [], _∷_, _++_}
 use mathlib.Core.Path.{_≡_}
 use mathlib.Core.Bool.{true}
 use lib.ListN.{length}
-use Rattle.base.specs.Answer.{gives}
+use Rattle.base.specs.Answer.{gives, refuses}
+use Rattle.base.specs.Pick.{pick}
 use Rattle.can_id.specs.Layout.{pgnOf, sourceOf}
+use Rattle.can_id.specs.Read.{partsOf, readOf}
 use Rattle.can_id.specs.Build.{buildOf}
 use Rattle.can_id.specs.declared.CanFrame.{CanFrame}
 use Rattle.fast_packet.specs.FastPacket.{maxPayload}
 use Rattle.builder.specs.Builder.{idBuilder}
 use Rattle.builder.specs.Next.{NextAnswer, frame, end, refusal}
 use Rattle.builder.specs.declared.FastPacketBuilder.{FastPacketBuilder}
+use Rattle.splitter.specs.Frames.{isWide}
 use Rattle.splitter.specs.Split.{splitFrames}
 use Rattle.splitter.specs.declared.Frame.{Frame}
 use Rattle.oracle.specs.Ids.{benchPgn, benchSource}
 use Rattle.send_laws.specs.Message.{answerAt, frameTotal}
 
--- ---- the two readings of an identifier
+-- ---- the two readings of an identifier: reading refuses exactly the numbers that the bench calls too wide, and of all numbers source and PGN are the same
 pub record ReadingsAgree (id : ℕ) : Type 0 where
+  pub width : readOf id ≡ pick (isWide id) (refuses 8 []) (gives (partsOf id))
   pub source : benchSource id ≡ sourceOf id
   pub pgn : benchPgn id ≡ pgnOf id
 

@@ -1,2 +1,3 @@
+pub mod Parts
 pub mod Message
 pub mod Agreement

@@ -13,11 +13,11 @@ use Rattle.base.proofs.Fills.{length-fill}
 use Rattle.base.proofs.Cases.{pick-all}
 use mathlib.Core.Bool.{Bool, true, false}
 use Rattle.base.specs.Answer.{Answer, gives, refuses, counted}
-use Rattle.splitter.specs.Frames.{frameBytes, countIn}
+use Rattle.splitter.specs.Frames.{isWide, frameBytes, countIn}
 use Rattle.splitter.specs.Bytes.{splitBytes, splitFrame, countOf}
 use Rattle.splitter.specs.inner.Job.{toldOf, jobFrame, isUnsplit, afterOne, jobFrames, IsJobOf}
 use Rattle.splitter.specs.Split.{splitFramesFrom, splitFrames, splitOf, ofSplit, rowWith, idsOf, bytesAll, lensOf, idsWith, bytesWith, lensWith, SplitsInto, splitIn, SplitsIntoSlices}
-use Rattle.splitter.specs.declared.Split.the-variants.{Frames, BadSplit, Short}
+use Rattle.splitter.specs.declared.Split.the-variants.{Frames, BadSplit, TooWide, Short}
 use Rattle.base.proofs.Laying.{sets-append}
 use Rattle.splitter.proofs.FrameLaws.{eight-same, eight-more}
 use Rattle.splitter.specs.declared.split_frame.Job.{Job}
@@ -42,62 +42,65 @@ frames-same (suc n) j h =
     (frames-same n (afterOne j) (omega arith)
     ∙ ap (λ (k : ℕ). splitFramesFrom (j .id) (j .sequence) (take (j .size) (j .payload)) k n) m)
 
--- ---- the answer, by its four tests
-module _ (a b c d : Bool) (n : ℕ) where
+-- ---- the answer, by its five tests
+module _ (a b c w d : Bool) (n : ℕ) where
   abbrev code : Split
-  code = pick a BadSplit (pick b BadSplit (pick c BadSplit (pick d Short (Frames n))))
+  code = pick a BadSplit (pick b BadSplit (pick c BadSplit (pick w TooWide (pick d Short (Frames n)))))
 
   abbrev paper : List Frame → Answer (List Frame)
-  paper fs = pick a (refuses 28 []) (pick b (refuses 28 []) (pick c (refuses 28 []) (pick d (refuses 27 []) (gives fs))))
+  paper fs = pick a (refuses 28 []) (pick b (refuses 28 []) (pick c (refuses 28 []) (pick w (refuses 8 []) (pick d (refuses 27 []) (gives fs)))))
 
-tests-told : (a b c d : Bool) (n : ℕ) (fs : List Frame) → length fs ≡ n → ofSplit (code a b c d n) ≡ counted (paper a b c d n fs)
+tests-told : (a b c w d : Bool) (n : ℕ) (fs : List Frame) → length fs ≡ n → ofSplit (code a b c w d n) ≡ counted (paper a b c w d n fs)
 unfolding pick ofSplit counted
-tests-told true b c d n fs e = refl
-tests-told false true c d n fs e = refl
-tests-told false false true d n fs e = refl
-tests-told false false false true n fs e = refl
-tests-told false false false false n fs e = ap gives (sym e)
+tests-told true b c w d n fs e = refl
+tests-told false true c w d n fs e = refl
+tests-told false false true w d n fs e = refl
+tests-told false false false true d n fs e = refl
+tests-told false false false false true n fs e = refl
+tests-told false false false false false n fs e = ap gives (sym e)
 
 tests-refuse : {A : Type 0} (W : Answer (List Frame) → List A → List A) (l : List A) → ((k : ℕ) (vs : List ℕ) → l ≡ W (refuses k vs) l)
-    → (a b c d : Bool) (n : ℕ) (fs : List Frame) → isUnsplit (code a b c d n) ≡ true → l ≡ W (paper a b c d n fs) l
+    → (a b c w d : Bool) (n : ℕ) (fs : List Frame) → isUnsplit (code a b c w d n) ≡ true → l ≡ W (paper a b c w d n fs) l
 unfolding pick
-tests-refuse W l still true b c d n fs e = still 28 []
-tests-refuse W l still false true c d n fs e = still 28 []
-tests-refuse W l still false false true d n fs e = still 28 []
-tests-refuse W l still false false false true n fs e = still 27 []
-tests-refuse W l still false false false false n fs e = let z : _≡_ {A = ℕ} 0 1 = cc in absurd (omega arith)
+tests-refuse W l still true b c w d n fs e = still 28 []
+tests-refuse W l still false true c w d n fs e = still 28 []
+tests-refuse W l still false false true w d n fs e = still 28 []
+tests-refuse W l still false false false true d n fs e = still 8 []
+tests-refuse W l still false false false false true n fs e = still 27 []
+tests-refuse W l still false false false false false n fs e = let z : _≡_ {A = ℕ} 0 1 = cc in absurd (omega arith)
 
-tests-give : (a b c d : Bool) (n : ℕ) (fs : List Frame) → isUnsplit (code a b c d n) ≡ false → (paper a b c d n fs ≡ gives fs) × (b ≡ false) × (d ≡ false)
+tests-give : (a b c w d : Bool) (n : ℕ) (fs : List Frame) → isUnsplit (code a b c w d n) ≡ false → (paper a b c w d n fs ≡ gives fs) × (b ≡ false) × (d ≡ false)
 unfolding pick
-tests-give true b c d n fs e = let z : _≡_ {A = ℕ} 0 1 = cc in absurd (omega arith)
-tests-give false true c d n fs e = let z : _≡_ {A = ℕ} 0 1 = cc in absurd (omega arith)
-tests-give false false true d n fs e = let z : _≡_ {A = ℕ} 0 1 = cc in absurd (omega arith)
-tests-give false false false true n fs e = let z : _≡_ {A = ℕ} 0 1 = cc in absurd (omega arith)
-tests-give false false false false n fs e = (refl, refl, refl)
+tests-give true b c w d n fs e = let z : _≡_ {A = ℕ} 0 1 = cc in absurd (omega arith)
+tests-give false true c w d n fs e = let z : _≡_ {A = ℕ} 0 1 = cc in absurd (omega arith)
+tests-give false false true w d n fs e = let z : _≡_ {A = ℕ} 0 1 = cc in absurd (omega arith)
+tests-give false false false true d n fs e = let z : _≡_ {A = ℕ} 0 1 = cc in absurd (omega arith)
+tests-give false false false false true n fs e = let z : _≡_ {A = ℕ} 0 1 = cc in absurd (omega arith)
+tests-give false false false false false n fs e = (refl, refl, refl)
 
 pub length-frames : (id sequence : ℕ) (p : List ℕ) (n k : ℕ) → length (splitFramesFrom id sequence p k n) ≡ n
 length-frames id sequence p zero k = refl
 length-frames id sequence p (suc n) k = ap suc (length-frames id sequence p n (suc k))
 
 -- ---- the splitter's two ways out, whatever it writes to
-module _ (id sequence : ℕ) (p : List ℕ) (space : ℕ) {s : Split} {b : Bool} (es : s ≡ toldOf sequence (length p) space) (eb : b ≡ isUnsplit s) where
+module _ (id sequence : ℕ) (p : List ℕ) (space : ℕ) {s : Split} {b : Bool} (es : s ≡ toldOf id sequence (length p) space) (eb : b ≡ isUnsplit s) where
   abbrev size : ℕ
   size = length p
 
-  told-flag : isUnsplit (toldOf sequence (length p) space) ≡ b
+  told-flag : isUnsplit (toldOf id sequence (length p) space) ≡ b
   told-flag = ap isUnsplit (sym es) ∙ sym eb
 
   pub split-told : ofSplit s ≡ counted (splitOf id sequence p space)
   unfolding toldOf splitOf
-  split-told = ap ofSplit es ∙ tests-told (eqb size 0) (ltb 223 size) (ltb 7 sequence) (ltb space (countOf size)) (countOf size) (splitFrames id sequence p) (length-frames id sequence p (countOf size) 0)
+  split-told = ap ofSplit es ∙ tests-told (eqb size 0) (ltb 223 size) (ltb 7 sequence) (isWide id) (ltb space (countOf size)) (countOf size) (splitFrames id sequence p) (length-frames id sequence p (countOf size) 0)
 
   split-keeps : {A : Type 0} (W : Answer (List Frame) → List A → List A) (l : List A) → ((k : ℕ) (vs : List ℕ) → l ≡ W (refuses k vs) l) → b ≡ true → l ≡ W (splitOf id sequence p space) l
   unfolding toldOf splitOf
-  split-keeps W l still e = tests-refuse W l still (eqb size 0) (ltb 223 size) (ltb 7 sequence) (ltb space (countOf size)) (countOf size) (splitFrames id sequence p) (told-flag ∙ e)
+  split-keeps W l still e = tests-refuse W l still (eqb size 0) (ltb 223 size) (ltb 7 sequence) (isWide id) (ltb space (countOf size)) (countOf size) (splitFrames id sequence p) (told-flag ∙ e)
 
   gave : b ≡ false → (splitOf id sequence p space ≡ gives (splitFrames id sequence p)) × (ltb 223 size ≡ false) × (ltb space (countOf size) ≡ false)
   unfolding toldOf splitOf
-  gave e = tests-give (eqb size 0) (ltb 223 size) (ltb 7 sequence) (ltb space (countOf size)) (countOf size) (splitFrames id sequence p) (told-flag ∙ e)
+  gave e = tests-give (eqb size 0) (ltb 223 size) (ltb 7 sequence) (isWide id) (ltb space (countOf size)) (countOf size) (splitFrames id sequence p) (told-flag ∙ e)
 
   pub split-small : b ≡ false → length p ≤ 223
   split-small e = ltb-false 223 size (gave e .1)
@@ -115,7 +118,7 @@ module _ (id sequence : ℕ) (p : List ℕ) (space : ℕ) {s : Split} {b : Bool}
       ap (λ (k : ℕ). jobFrames k j) en ∙ f ∙ g
 
 -- into a row of frames
-module _ (id sequence : ℕ) (p : List ℕ) (rows : List Frame) {s : Split} {b : Bool} (es : s ≡ toldOf sequence (length p) (length rows)) (eb : b ≡ isUnsplit s) where
+module _ (id sequence : ℕ) (p : List ℕ) (rows : List Frame) {s : Split} {b : Bool} (es : s ≡ toldOf id sequence (length p) (length rows)) (eb : b ≡ isUnsplit s) where
   abbrev told : Answer (List Frame)
   told = splitOf id sequence p (length rows)
 
@@ -133,15 +136,15 @@ module _ (id sequence : ℕ) (p : List ℕ) (rows : List Frame) {s : Split} {b :
       }
 
 -- into separate slices
-module _ (id sequence : ℕ) (p ids bytes lens : List ℕ) {m : ℕ} (em : m ≡ countIn (length ids) (length bytes) (length lens)) {s : Split} {b : Bool} (es : s ≡ toldOf sequence (length p) m) (eb : b ≡ isUnsplit s) where
+module _ (id sequence : ℕ) (p ids bytes lens : List ℕ) {m : ℕ} (em : m ≡ countIn (length ids) (length bytes) (length lens)) {s : Split} {b : Bool} (es : s ≡ toldOf id sequence (length p) m) (eb : b ≡ isUnsplit s) where
   abbrev space : ℕ
   space = countIn (length ids) (length bytes) (length lens)
 
   abbrev told′ : Answer (List Frame)
   told′ = splitIn id sequence p ids bytes lens
 
-  es′ : s ≡ toldOf sequence (length p) space
-  es′ = es ∙ ap (toldOf sequence (length p)) em
+  es′ : s ≡ toldOf id sequence (length p) space
+  es′ = es ∙ ap (toldOf id sequence (length p)) em
 
   pub rows-stop : b ≡ true → SplitsIntoSlices id sequence p ids bytes lens s ids bytes lens
   unfolding idsWith bytesWith lensWith

@@ -4,13 +4,15 @@ use mathlib.Core.Path.{_≡_, refl, ap, _∙_}
 use Rattle.base.proofs.Cases.{determined, determined-by}
 use Rattle.splitter.specs.Frames.{countIn}
 use mathlib.Core.List.{List, [], _∷_}
+use lib.Dec.{eqb}
 use lib.ListN.{getD}
 use Rattle.base.specs.Answer.{Answer, gives, refuses}
+use Rattle.base.specs.Pick.{pick}
 use Rattle.splitter.specs.Split.{ofSplit, SplitsInto, SplitsIntoSlices}
 use Rattle.splitter.specs.declared.Frame.{Frame}
 use Rattle.splitter.specs.declared.Split.{Split}
 use Rattle.splitter.specs.declared.SplitRow.{SplitRow}
-use Rattle.splitter.specs.declared.Split.the-variants.{Frames, BadSplit, Short}
+use Rattle.splitter.specs.declared.Split.the-variants.{Frames, BadSplit, TooWide, Short}
 
 -- ---- how many frames separate slices have
 
@@ -22,12 +24,13 @@ frame-count-unique ids bytes lens r s = determined
 -- the answer that has these numbers
 backSplit : Answer ℕ → Split
 backSplit (gives n) = Frames n
-backSplit (refuses k vs) = getD (Short ∷ BadSplit ∷ []) (k - 27) Short
+backSplit (refuses k vs) = pick (eqb k 8) TooWide (getD (Short ∷ BadSplit ∷ []) (k - 27) Short)
 
 split-back : (r : Split) → backSplit (ofSplit r) ≡ r
-unfolding ofSplit backSplit
+unfolding ofSplit backSplit pick
 split-back (Frames n) = refl
 split-back BadSplit = refl
+split-back TooWide = refl
 split-back Short = refl
 
 -- `fast_packet_frames`: an answer and a row

@@ -1,8 +1,14 @@
--- A frame's bytes, and how many frames separate number slices have.
+-- A frame's identifier and bytes, and how many frames separate number slices have.
 use Prim.Native.Nat.{ℕ, _/_, min}
 use mathlib.Core.List.{List, [], _∷_}
+use mathlib.Core.Bool.{Bool}
+use lib.Dec.{leb}
 use lib.ListN.{getD}
 use Rattle.splitter.specs.declared.Frame.{Frame}
+
+-- document 02, No. 4: "an identifier of 2^29 or more" is too wide
+unfoldable pub isWide : ℕ → Bool
+isWide id = leb 0x2000_0000 id
 
 -- the eight bytes of a frame
 unfoldable pub eight : List ℕ → List ℕ

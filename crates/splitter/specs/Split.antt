@@ -7,11 +7,11 @@ use lib.Seq.{sets}
 use lib.Dec.{eqb, ltb}
 use Rattle.base.specs.Answer.{Answer, gives, refuses, counted}
 use Rattle.base.specs.Pick.{pick}
-use Rattle.splitter.specs.Frames.{frameBytes, countIn}
+use Rattle.splitter.specs.Frames.{isWide, frameBytes, countIn}
 use Rattle.splitter.specs.declared.Frame.{Frame}
 use Rattle.splitter.specs.Bytes.{splitFrame, countOf}
 use Rattle.splitter.specs.declared.Split.{Split}
-use Rattle.splitter.specs.declared.Split.the-variants.{Frames, BadSplit, Short}
+use Rattle.splitter.specs.declared.Split.the-variants.{Frames, BadSplit, TooWide, Short}
 
 -- n frames from an index on
 abbrev pub splitFramesFrom : ℕ → ℕ → List ℕ → ℕ → ℕ → List Frame
@@ -22,19 +22,22 @@ splitFramesFrom id sequence payload index (suc n) = splitFrame id sequence paylo
 abbrev pub splitFrames : ℕ → ℕ → List ℕ → List Frame
 splitFrames id sequence payload = splitFramesFrom id sequence payload 0 (countOf (length payload))
 
--- "refusal 28 if the payload is not 1..223 bytes or the sequence is over 7; 27 if the row is too short"; else the frames
+-- "refusal 28 if the payload is not 1..223 bytes or the sequence is over 7; 27 if the row is too short"; else the frames. Document 02, No. 4, puts between them:
+-- "the splitter after 28 .. 8 too wide"
 unfoldable pub splitOf : ℕ → ℕ → List ℕ → ℕ → Answer (List Frame)
 splitOf id sequence payload room =
     pick (eqb (length payload) 0) (refuses 28 [])
     (pick (ltb 223 (length payload)) (refuses 28 [])
     (pick (ltb 7 sequence) (refuses 28 [])
+    (pick (isWide id) (refuses 8 [])
     (pick (ltb room (countOf (length payload))) (refuses 27 [])
-    (gives (splitFrames id sequence payload)))))
+    (gives (splitFrames id sequence payload))))))
 
--- this paper's number and values for each answer: "27, 28: no room; bad split: nothing"
+-- this paper's number and values for each answer: "27, 28: no room; bad split: nothing", and "8 too wide"
 unfoldable pub ofSplit : Split → Answer ℕ
 ofSplit (Frames n) = gives n
 ofSplit BadSplit = refuses 28 []
+ofSplit TooWide = refuses 8 []
 ofSplit Short = refuses 27 []
 
 -- "rows past them keep their contents"; a refusal writes nothing

@@ -12,6 +12,9 @@ pub const FILL: u8 = 0xFF;
 // A frame's bytes: all of them, or the frame is refused.
 pub const FRAME_BYTES: usize = 8;
 
+// The first number that is no identifier: 29 bits do not hold it.
+pub const TOO_WIDE: u32 = 0x2000_0000;
+
 // Byte 0 of a frame is the sequence times this, plus the index.
 pub const INDICES: u8 = 32;
 

@@ -21,6 +21,7 @@ pub use bench_frames::FRAME_BYTES;
 pub use bench_frames::INDICES;
 pub use bench_frames::MAX_FAST_PACKET_PAYLOAD;
 pub use bench_frames::SEQUENCES;
+pub use bench_frames::TOO_WIDE;
 pub use bench_frames::frame_count;
 pub use by_value::ROW_FRAMES;
 pub use by_value::fast_packet_frames_into;
@@ -36,6 +37,7 @@ pub struct Frame {
 pub enum Split {
     Frames(usize),
     BadSplit,
+    TooWide,
     Short,
 }
 
@@ -51,6 +53,7 @@ fn unsplit(s: Split) -> bool
     match s {
         Split::Frames(_) => false,
         Split::BadSplit => true,
+        Split::TooWide => true,
         Split::Short => true,
     }
 }
@@ -108,7 +111,7 @@ fn lay(row: &mut [Frame], start: Job, n: usize) -> Job
 pub fn fast_packet_frames(id: u32, sequence: u8, payload: &[u8], row: &mut [Frame]) -> Split
     ensures { λ r. ⌜ SplitsInto id sequence (now (payload .entry)) (now (row .entry)) r (now (row .exit)) ⌝ }
 {
-    let s = split_of(sequence, payload.len(), row.len());
+    let s = split_of(id, sequence, payload.len(), row.len());
     if unsplit(s) {
         return s;
     }
@@ -163,6 +166,7 @@ pub fn fast_packet_rows(
         r (now (ids .exit)) (now (bytes .exit)) (now (lens .exit)) ⌝ }
 {
     let s = split_of(
+        id,
         sequence,
         payload.len(),
         frame_count(ids.len(), bytes.len(), lens.len()),

@@ -12,6 +12,7 @@ use crate::bench_frames::FRAME_BYTES;
 use crate::bench_frames::INDICES;
 use crate::bench_frames::MAX_FAST_PACKET_PAYLOAD;
 use crate::bench_frames::SEQUENCES;
+use crate::bench_frames::TOO_WIDE;
 
 // The greatest sequence.
 const LAST_SEQUENCE: u8 = 7;
@@ -28,9 +29,9 @@ pub(crate) struct Job {
     pub payload: [u8; 256],
 }
 
-// What the splitter answers, from the sizes alone.
-pub(crate) fn split_of(sequence: u8, size: usize, room: usize) -> Split
-    ensures { λ r. ⌜ r ≡ toldOf sequence size room ⌝ }
+// What the splitter answers, from the identifier, the sequence and the sizes.
+pub(crate) fn split_of(id: u32, sequence: u8, size: usize, room: usize) -> Split
+    ensures { λ r. ⌜ r ≡ toldOf id sequence size room ⌝ }
 {
     if size == 0 {
         return Split::BadSplit;
@@ -41,10 +42,14 @@ pub(crate) fn split_of(sequence: u8, size: usize, room: usize) -> Split
     if LAST_SEQUENCE < sequence {
         return Split::BadSplit;
     }
-    if room < size / LATER_BYTES + 1 {
+    let count = size / LATER_BYTES + 1;
+    if TOO_WIDE <= id {
+        return Split::TooWide;
+    }
+    if room < count {
         return Split::Short;
     }
-    Split::Frames(size / LATER_BYTES + 1)
+    Split::Frames(count)
 }
 
 // The byte of a payload at `at`, or what fills its place.

@@ -138,23 +138,7 @@ fn receiving<const N: usize>(reps: usize, n: usize) {
     }
 }
 
-/// The original's accessors as calls, as the port's are: neither side is inlined into the loop.
-#[inline(never)]
-fn priority_one(id: u32) -> u8 {
-    CanId(id).priority()
-}
-#[inline(never)]
-fn destination_one(id: u32) -> Option<u8> {
-    CanId(id).destination()
-}
-#[inline(never)]
-fn source_one(id: u32) -> u8 {
-    CanId(id).source_address()
-}
-#[inline(never)]
-fn pgn_one(id: u32) -> u32 {
-    CanId(id).pgn()
-}
+/// The original's accessors, all four in one call, as the port's reading is: neither side is inlined into the loop.
 #[inline(never)]
 fn parts_one(id: u32) -> (u8, u32, Option<u8>, u8) {
     (CanId(id).priority(), CanId(id).pgn(), CanId(id).destination(), CanId(id).source_address())
@@ -168,21 +152,10 @@ fn identifiers(reps: usize, n: usize) {
     println!("\nIdentifiers, one:");
     head(&["port"]);
     let mut r = diff::rng::Rng::new(9);
-    let ids: Vec<u32> = (0..n).map(|_| r.next() as u32).collect();
-    compare("reading the PGN", n, reps, &mut [
-        ("original", &mut || { black_box(black_box(&ids).iter().fold(0, |s, &id| s ^ pgn_one(id))); }),
-        ("port", &mut || { black_box(black_box(&ids).iter().fold(0, |s, &id| s ^ port::can_id::CanId(id).pgn())); }),
-    ]);
-    compare("reading all four parts, one by one", n, reps, &mut [
-        ("original", &mut || for &id in black_box(&ids) { black_box((priority_one(id), pgn_one(id), destination_one(id), source_one(id))); }),
-        ("port", &mut || for &id in black_box(&ids) {
-            let id = port::can_id::CanId(id);
-            black_box((id.priority(), id.pgn(), id.destination(), id.source_address()));
-        }),
-    ]);
-    compare("reading all four parts in one call", n, reps, &mut [
+    let ids: Vec<u32> = (0..n).map(|_| r.next() as u32 >> 3).collect();
+    compare("reading all four parts", n, reps, &mut [
         ("original", &mut || for &id in black_box(&ids) { black_box(parts_one(id)); }),
-        ("port", &mut || for &id in black_box(&ids) { black_box(port::can_id::CanId(id).parts()); }),
+        ("port", &mut || for &id in black_box(&ids) { let _ = black_box(port::can_id::CanId(id).read()); }),
     ]);
     // priority and destination are numbers that neither compiler knows, since the archive cannot be made for one of them
     let (priority, nobody) = black_box((6, None));

@@ -1,4 +1,5 @@
 //! The bench: strict reassembly, the splitter, the transmit check. The original's texts are read back as document 01's numbers.
+use crate::ids::TOO_WIDE;
 use crate::rng::Rng;
 use crate::tally::answered;
 use port::oracle::{self as ours, Frames};
@@ -102,6 +103,16 @@ fn laid(id: u32, sequence: u8, payload: &[u8], row: &mut Frames) -> Result<usize
     }
 }
 
+/// The first frame whose identifier is too wide. A row without one is held to the original; with one, document 02's No. 4 decides.
+fn first_wide(row: &Row) -> Option<u32> {
+    row.iter().position(|&(id, ..)| id >= TOO_WIDE).map(|n| n as u32)
+}
+
+/// 29, and what it carries.
+fn wide_at(n: u32) -> Refused {
+    (29, [n as u64, 0, 0, 0, 0])
+}
+
 /// A row as it is lent.
 fn lent(n: usize) -> Frames {
     Frames { ids: vec![0xEEEE_EEEE; n], bytes: vec![0xEE; 8 * n], lens: vec![0xEE; n] }
@@ -110,14 +121,18 @@ fn lent(n: usize) -> Frames {
 /// Strict reassembly, with `short` numbers of the list and bytes of the arena missing from what is needed.
 pub fn judge(row: &Row, source: u8, pgn: u32, list_room: usize, arena_room: usize) -> u32 {
     let (o, p) = rows(row);
-    let want = reassemble(&o, source, pgn);
     let (mut list, mut arena) = (vec![0xEE; list_room], vec![0xEE; arena_room]);
     let (list0, arena0) = (list.clone(), arena.clone());
     let got = reassembled(&p, source, pgn, &mut list, &mut arena);
     let mut safe = (list0.clone(), arena0.clone());
     assert_eq!(ours::reassemble(&p, source, pgn, &mut safe.0, &mut safe.1).map_err(|e| (e.number(), e.carried())), got);
     assert_eq!((&safe.0, &safe.1), (&list, &arena), "the safe call");
-    match want {
+    if let Some(n) = first_wide(row) {
+        assert_eq!(got, Err(wide_at(n)), "before every other test");
+        assert_eq!((list, arena), (list0, arena0), "a refusal changes no lent memory");
+        return 29;
+    }
+    match reassemble(&o, source, pgn) {
         Err(text) => {
             let want = numbered(&text);
             assert_eq!(got, Err(want), "{text}");
@@ -145,7 +160,7 @@ pub fn judge(row: &Row, source: u8, pgn: u32, list_room: usize, arena_room: usiz
     }
 }
 
-/// The transmit check. Document 01 gives 31, before 32 to 37, where the original would trap or give those.
+/// The transmit check. Document 01 gives 31, before 32 to 37, where the original would trap or give those; 29 stands between them.
 pub fn transmit(row: &Row, source: u8, expected: usize, base: u32) -> u32 {
     let (o, p) = rows(row);
     let got = checked(&p, source, expected, base);
@@ -153,6 +168,10 @@ pub fn transmit(row: &Row, source: u8, expected: usize, base: u32) -> u32 {
     if expected > 0 && base as u128 + expected as u128 - 1 > u32::MAX as u128 {
         assert_eq!(got, Err((31, [0; 5])));
         return 31;
+    }
+    if let (Some(n), 1..) = (first_wide(row), expected) {
+        assert_eq!(got, Err(wide_at(n)), "after 30 and 31, before 32");
+        return 29;
     }
     let want = check_tx(&o, source, expected, base).map_err(|t| numbered(&t));
     assert_eq!(got, want, "source {source}, {expected} messages from {base}");
@@ -170,6 +189,10 @@ pub fn split(id: u32, sequence: u8, payload: &[u8], room: usize) -> u32 {
     if payload.is_empty() || payload.len() > 223 || sequence > 7 {
         assert_eq!((got, row), (Err(28), before), "28 where the original traps");
         return 28;
+    }
+    if id >= TOO_WIDE {
+        assert_eq!((got, row), (Err(8), before), "8 after 28, before 27");
+        return 8;
     }
     let want = fast_packet_frames(id, sequence, payload);
     if room < want.len() {
@@ -231,7 +254,10 @@ pub fn every_message() -> u64 {
     steps
 }
 
-const IDS: [u32; 5] = [0x19F2_0123, 0x39F2_0123, 0x19F2_0124, 0x18EE_FF23, 0x0DED_1023];
+const IDS: [u32; 5] = [0x19F2_0123, 0x05F2_0123, 0x19F2_0124, 0x18EE_FF23, 0x0DED_1023];
+
+/// A driver's flags, one of them or more.
+const FLAGS: [u32; 4] = [0x2000_0000, 0x4000_0000, 0x8000_0000, 0xE000_0000];
 
 /// A capture: messages of one source and PGN, and other frames between them; `spoil` bends some frames.
 fn capture(r: &mut Rng, spoil: u64) -> (Row, u8, u32) {
@@ -266,7 +292,7 @@ fn capture(r: &mut Rng, spoil: u64) -> (Row, u8, u32) {
                     }
                 }
                 5 => row.insert(k, row[k]),
-                _ => row[k].0 = r.next() as u32,
+                _ => row[k].0 = if r.one_in(3) { row[k].0 | r.pick(&FLAGS) } else { r.next() as u32 >> 3 },
             }
         }
     }
@@ -311,9 +337,10 @@ fn transmission(r: &mut Rng) -> (Row, u8, usize, u32) {
     }
     if r.one_in(6) && !row.is_empty() {
         let k = r.below(row.len() as u64) as usize;
-        match r.below(3) {
+        match r.below(4) {
             0 => row[k].1[r.below(8) as usize] = r.byte(),
             1 => row[k].2 = r.below(17) as usize,
+            2 => row[k].0 |= r.pick(&FLAGS),
             _ => {
                 row.remove(k);
             }
@@ -328,12 +355,48 @@ fn transmission(r: &mut Rng) -> (Row, u8, usize, u32) {
     (row, 35, expected, base)
 }
 
+/// A flag at every frame of a transmission, in turn and at two frames at once, with every frame spoiled or none, and with too little room: the first flag is
+/// told whatever else is wrong, and 30, 31 and 28 before it.
+pub fn every_wide() -> u64 {
+    let mut good: Row = vec![(0x18EE_FF23, [0xFF; 8], 8), (0x19F2_0124, [0; 8], 3)];
+    for (sequence, hours) in [(3, 1000), (4, 1001)] {
+        good.extend(fast_packet_frames(0x19F2_0123, sequence, &engine(hours)).into_iter().map(|f| (f.id, f.data.try_into().unwrap(), 8)));
+    }
+    let mut steps = 0;
+    for (wide, flag) in (0..good.len()).flat_map(|k| FLAGS.map(|flag| (k, flag))) {
+        for (spoiled, second) in (0..=good.len()).flat_map(|j| (0..good.len()).map(move |k| (j, k))) {
+            let mut row = good.clone();
+            if let Some(frame) = row.get_mut(spoiled) {
+                frame.2 = 7;
+            }
+            row[wide].0 |= flag;
+            row[second].0 |= 0x4000_0000;
+            for (list, arena) in [(6, 52), (5, 52), (6, 51), (0, 0)] {
+                assert_eq!(judge(&row, 35, 127_489, list, arena), 29);
+            }
+            for (source, pgn) in [(36, 127_489), (35, 60_928), (255, 0)] {
+                assert_eq!(judge(&row, source, pgn, 6, 52), 29);
+            }
+            for (source, expected, base, want) in [(35, 2, 1000, 29), (36, 2, 1000, 29), (35, 3, 7, 29), (35, 0, 1000, 30), (35, 2, u32::MAX, 31)] {
+                assert_eq!(transmit(&row, source, expected, base), want);
+            }
+            steps += 12;
+        }
+        let id = good[wide].0 | flag;
+        for (sequence, len, room, want) in [(0, 26, 4, 8), (0, 26, 3, 8), (7, 1, 0, 8), (8, 26, 4, 28), (0, 0, 4, 28), (0, 224, 40, 28)] {
+            assert_eq!(split(id, sequence, &[7; 224][..len], room), want);
+            steps += 1;
+        }
+    }
+    steps
+}
+
 /// Rows of unequal lengths: the same answers and the same lent memory as the rows cut to the shortest, which are held to the original.
 fn unequal(r: &mut Rng, row: &Row, source: u8, pgn: u32) {
     let (_, p) = rows(row);
     let mut long = p.clone();
     for _ in 0..r.below(3) {
-        long.ids.push(0x19F2_0123);
+        long.ids.push(r.pick(&[0x19F2_0123, 0x99F2_0123]));
     }
     let more = r.below(20) as usize;
     long.bytes.extend(r.vec(more));
@@ -387,7 +450,7 @@ pub fn random(seed: u64, steps: u64) -> u64 {
             _ => {
                 let len = if r.one_in(4) { r.pick(&[0, 1, 6, 7, 222, 223, 224, 300]) } else { r.below(240) as usize };
                 let payload = r.vec(len);
-                split(r.next() as u32, r.below(9) as u8, &payload, r.below(40) as usize)
+                split(r.next() as u32 >> r.pick(&[0, 3, 3, 3]), r.below(9) as u8, &payload, r.below(40) as usize)
             }
         };
     }

@@ -2,7 +2,7 @@
 use crate::rng::Rng;
 use crate::tally::answered;
 use port::can_id as ours;
-use port::error::CanIdBuildError as OurError;
+use port::error::{CanIdBuildError as OurError, TooWide};
 use port::raw;
 use reference::error::CanIdBuildError;
 use reference::protocol::transport::can_id::{CanId, CanIdBuilder};
@@ -54,15 +54,25 @@ fn as_ours(r: Result<CanId, CanIdBuildError>) -> Result<ours::CanId, OurError> {
     r.map(|id| ours::CanId(id.0)).map_err(|e| named(&e))
 }
 
+/// The first number that is no identifier. Below it the original is asked; from it on document 02's No. 4 decides.
+pub const TOO_WIDE: u32 = 1 << 29;
+
+/// The entry that reads, and the port's own type over it.
 pub fn read(id: u32) {
-    let (o, p) = (CanId(id), ours::CanId(id));
-    assert_eq!(
-        (p.priority(), p.pgn(), p.destination(), p.source_address()),
-        (o.priority(), o.pgn(), o.destination(), o.source_address()),
-        "reading {id:#010X}"
-    );
+    let lent = [0xEEEE_EEEE; 4];
+    let mut parts = lent;
+    let number = raw::hf_can_id_read(id, &mut parts);
+    answered("reading", number);
+    if id >= TOO_WIDE {
+        assert_eq!((number, parts), (8, lent), "reading {id:#010X}: 8, and the parts as they were");
+        assert_eq!(ours::CanId(id).read(), Err(TooWide), "reading {id:#010X}");
+        return;
+    }
+    let o = CanId(id);
+    let want = [o.priority() as u32, o.pgn(), o.source_address() as u32, raw::address(o.destination()) as u32];
+    assert_eq!((number, parts), (0, want), "reading {id:#010X}");
     let parts = ours::Parts { priority: o.priority(), pgn: o.pgn(), source_address: o.source_address(), destination: o.destination() };
-    assert_eq!(p.parts(), parts, "reading {id:#010X} in one call");
+    assert_eq!(ours::CanId(id).read(), Ok(parts), "reading {id:#010X}");
 }
 
 /// From public fields, which the original lets a caller set to anything.
@@ -93,18 +103,26 @@ pub fn build_with(pgn: u32, source: u8, priority: Option<u8>, destination: Optio
     }
 }
 
-/// Every PF with every reserved bit, data page and flag bit above, at the edges of the other fields.
-pub fn every_pf() -> u64 {
+/// Every PF with these bits above it, at these values of PS and source.
+fn with_every_pf(high: std::ops::Range<u32>, ends: &[u32]) -> u64 {
     let mut steps = 0;
-    for high in 0..256u32 {
-        for pf in 0..256u32 {
-            for (ps, source) in [(0, 0), (1, 254), (255, 255), (16, 35)] {
-                read(high << 24 | pf << 16 | ps << 8 | source);
-                steps += 1;
-            }
+    for top in high.flat_map(|high| (0..256).map(move |pf| high << 24 | pf << 16)) {
+        for (ps, source) in ends.iter().flat_map(|&ps| ends.iter().map(move |&source| (ps, source))) {
+            read(top | ps << 8 | source);
+            steps += 1;
         }
     }
     steps
+}
+
+/// Every PF with every priority, reserved bit and data page, at the edges of the other fields.
+pub fn every_pf() -> u64 {
+    with_every_pf(0..32, &[0, 1, 35, 254, 255])
+}
+
+/// Every PF with every flag above the 29 bits, and every bit between.
+pub fn every_flag() -> u64 {
+    with_every_pf(32..256, &[0, 255])
 }
 
 /// Every PGN of 18 bits and some above, to nobody and to an address, at the bounds of the priority.
@@ -126,7 +144,7 @@ pub fn random(seed: u64, steps: u64) -> u64 {
     let mut r = Rng::new(seed);
     for _ in 0..steps {
         match r.below(3) {
-            0 => read(r.next() as u32),
+            0 => read(r.next() as u32 >> r.pick(&[0, 3, 3, 3])),
             1 => {
                 let pgn = if r.one_in(4) { r.next() as u32 } else { r.below(0x4_0000) as u32 & r.pick(&[!0, !0xFF]) };
                 let destination = if r.one_in(2) { None } else { Some(r.byte()) };

@@ -11,6 +11,11 @@ fn every_message_is_judged_as_the_original_does() {
 }
 
 #[test]
+fn a_flag_at_every_frame_is_told_first() {
+    run("the bench, a flag at every frame, against the paper's words", bench::every_wide);
+}
+
+#[test]
 fn random_captures_are_judged_as_the_original_does() {
     run("the bench, random", || bench::random(6, 300_000));
 }

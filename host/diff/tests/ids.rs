@@ -6,6 +6,11 @@ fn every_pf_is_read_as_the_original_reads_it() {
 }
 
 #[test]
+fn every_flag_is_refused() {
+    run("identifiers too wide, against the paper's words", ids::every_flag);
+}
+
+#[test]
 fn every_pgn_is_built_as_the_original_builds_it() {
     run("identifiers built, every PGN", ids::every_pgn);
 }

@@ -13,7 +13,8 @@ fn main() -> Result<(), Box<dyn std::error::Error>> {
     for frame in builder.build() {
         let frame = frame?;
         print!("{:08X} {:02X?}: ", frame.id.0, frame.data);
-        match pool.process_frame(&[ENGINE], now_ms, ENGINE, 35, &frame.data) {
+        let said = frame.id.read()?; // refused from 2^29 on: a driver may leave its flags in the bits above
+        match pool.process_frame(&[ENGINE], now_ms, said.pgn, said.source_address, &frame.data) {
             ProcessResult::NotListed => println!("NotListed"),
             ProcessResult::Rejected => println!("Rejected"),
             ProcessResult::PoolFull => println!("PoolFull"),

@@ -1,12 +1,12 @@
 //! Identifiers: the original's `CanId` and `CanIdBuilder`.
-use crate::error::CanIdBuildError;
+use crate::error::{CanIdBuildError, TooWide, never_given};
 use crate::raw;
 
-/// A 29-bit identifier; bits 29 to 31 are ignored where it is read.
+/// A 29-bit identifier. A driver may have left flags in bits 29 to 31: `read` refuses a number that has any of them.
 #[derive(Clone, Copy, Debug, PartialEq, Eq)]
 pub struct CanId(pub u32);
 
-/// What an identifier reads as.
+/// What an identifier says.
 #[derive(Clone, Copy, Debug, PartialEq, Eq)]
 pub struct Parts {
     pub priority: u8,
@@ -22,28 +22,15 @@ impl CanId {
     pub fn builder(pgn: u32, source_address: u8) -> CanIdBuilder {
         CanIdBuilder::new(pgn, source_address)
     }
+    /// What the identifier says, all four parts by one call of the archive.
     #[inline]
-    pub fn priority(&self) -> u8 {
-        raw::hf_can_id_priority(self.0)
-    }
-    #[inline]
-    pub fn pgn(&self) -> u32 {
-        raw::hf_can_id_pgn(self.0)
-    }
-    #[inline]
-    pub fn destination(&self) -> Option<u8> {
-        u8::try_from(raw::hf_can_id_destination(self.0)).ok()
-    }
-    #[inline]
-    pub fn source_address(&self) -> u8 {
-        raw::hf_can_id_source_address(self.0)
-    }
-    /// All four by one call of the archive.
-    #[inline]
-    pub fn parts(&self) -> Parts {
+    pub fn read(&self) -> Result<Parts, TooWide> {
         let mut p = [0; 4];
-        raw::hf_can_id_parts(self.0, &mut p);
-        Parts { priority: p[0] as u8, pgn: p[1], source_address: p[2] as u8, destination: u8::try_from(p[3]).ok() }
+        match raw::hf_can_id_read(self.0, &mut p) {
+            0 => Ok(Parts { priority: p[0] as u8, pgn: p[1], source_address: p[2] as u8, destination: u8::try_from(p[3]).ok() }),
+            TooWide::NUMBER => Err(TooWide),
+            other => never_given(other),
+        }
     }
 }
 

@@ -5,11 +5,7 @@ use crate::raw::{POOL_BYTES, POOL_HEADS};
 
 unsafe extern "C" {
     // ---- crates/ffi/src/ids.rt
-    pub safe fn hf_can_id_priority(id: u32) -> u8;
-    pub safe fn hf_can_id_pgn(id: u32) -> u32;
-    pub safe fn hf_can_id_destination(id: u32) -> u16;
-    pub safe fn hf_can_id_source_address(id: u32) -> u8;
-    pub safe fn hf_can_id_parts(id: u32, parts: &mut [u32; 4]);
+    pub safe fn hf_can_id_read(id: u32, parts: &mut [u32; 4]) -> u32;
     pub safe fn hf_can_id_build(priority: u8, pgn: u32, source_address: u8, destination: u16, value: &mut u32) -> u32;
     pub safe fn hf_can_id_build_with(pgn: u32, source_address: u8, priority: u16, destination: u16, value: &mut u32) -> u32;
     pub safe fn hf_can_id_build_to(pgn: u32, source_address: u8, priority: u8, destination: u8, value: &mut u32) -> u32;

@@ -54,6 +54,27 @@ impl fmt::Display for CanIdBuildError {
 
 impl std::error::Error for CanIdBuildError {}
 
+/// Why an identifier is not read: it is 2^29 or more.
+#[derive(Clone, Copy, Debug, PartialEq, Eq)]
+pub struct TooWide;
+
+impl TooWide {
+    pub(crate) const NUMBER: u32 = 8;
+
+    /// Document 02's number.
+    pub fn number(self) -> u32 {
+        Self::NUMBER
+    }
+}
+
+impl fmt::Display for TooWide {
+    fn fmt(&self, f: &mut fmt::Formatter) -> fmt::Result {
+        f.write_str("an identifier has 29 bits")
+    }
+}
+
+impl std::error::Error for TooWide {}
+
 /// Why a pool was not made: more than 8 slots were asked for.
 #[derive(Clone, Copy, Debug, PartialEq, Eq)]
 pub struct ImpossiblePool;

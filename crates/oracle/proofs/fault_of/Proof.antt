@@ -12,4 +12,6 @@ fault-of-spec =
     (λ c. search needs)
     (λ c. search needs)
     (λ c. search needs)
-    (λ c. sym (ap faultyOf (c .before .f .given .1))))
+    (λ c. search needs)
+    (λ c. sym (ap faultyOf (c .before .f .given .1)))
+    (λ c. sym (ap faultyOf (c .before .f2 .given .1))))

@@ -5,7 +5,7 @@ use mathlib.Core.List.{List, [], _∷_, _++_}
 use lib.ListN.{getD, take, drop}
 use lib.Dec.{eqb, ltb}
 use Rattle.base.specs.Pick.{pick}
-use Rattle.splitter.specs.Frames.{frameBytes}
+use Rattle.splitter.specs.Frames.{isWide, frameBytes}
 use Rattle.oracle.specs.Ids.{isOther}
 use Rattle.oracle.specs.Strict.{benchIndex, benchSequence}
 use Rattle.oracle.specs.inner.Frames.{faultAt}
@@ -13,8 +13,9 @@ use Rattle.splitter.specs.declared.Frame.{Frame}
 use Rattle.oracle.specs.declared.Scan.{Scan}
 use Rattle.oracle.specs.declared.Reassembled.{Reassembled}
 use Rattle.oracle.specs.declared.Reassembled.the-variants.{Messages, Refused, Incomplete, NoRoom}
+use Rattle.oracle.specs.declared.Fault.the-variants.{TooWide}
 use Rattle.oracle.specs.declared.faults.Standing.{Standing}
-use Rattle.oracle.specs.declared.faults.Standing.the-variants.{Clear, At}
+use Rattle.oracle.specs.declared.faults.Standing.the-variants.{Clear, At, WideAt}
 
 -- how many of its bytes stand before the message's
 unfoldable pub headerBytes : List ℕ → ℕ
@@ -29,13 +30,13 @@ abbrev pub faultOf : Scan → List ℕ → ℕ → Standing
 faultOf s bs len = faultAt (s .n) (s .missing) (s .sequence) (s .index) bs len
 
 -- ---- what is known after a frame
--- of another source or PGN: n counts it
+-- of another source or PGN, or after a refusal: n counts it
 abbrev pub skipped : Scan → Scan
 skipped s = record { source = s .source; pgn = s .pgn; n = s .n + 1; fault = s .fault; sequence = s .sequence; announced = s .announced; index = s .index; missing = s .missing; messages = s .messages; total = s .total }
 
--- refused
+-- refused: n counts it too
 abbrev pub refusedAt : Scan → Standing → Scan
-refusedAt s f = record { source = s .source; pgn = s .pgn; n = s .n; fault = f; sequence = s .sequence; announced = s .announced; index = s .index; missing = s .missing; messages = s .messages; total = s .total }
+refusedAt s f = record { source = s .source; pgn = s .pgn; n = s .n + 1; fault = f; sequence = s .sequence; announced = s .announced; index = s .index; missing = s .missing; messages = s .messages; total = s .total }
 
 -- taken, with what is known of the message from it on
 abbrev pub leftWith : Scan → List ℕ → ℕ → ℕ → ℕ → ℕ → Scan
@@ -51,14 +52,23 @@ taken s bs =
 abbrev pub isFaulty : Standing → Bool
 isFaulty Clear = false
 isFaulty (At f) = true
+isFaulty (WideAt n) = true
 
--- the first refusal stands
+-- a frame's identifier was too wide
+abbrev pub isOver : Standing → Bool
+isOver Clear = false
+isOver (At f) = false
+isOver (WideAt n) = true
+
+-- the first identifier that is too wide stands over all others, and else the first refusal stands
 unfoldable pub stepOn : Scan → ℕ → List ℕ → ℕ → Scan
 stepOn s id bs len =
-    pick (isFaulty (s .fault)) s
+    pick (isOver (s .fault)) s
+    (pick (isWide id) (refusedAt s (WideAt (s .n)))
+    (pick (isFaulty (s .fault)) (skipped s)
     (pick (isOther (s .source) (s .pgn) id) (skipped s)
     (pick (isFaulty (faultOf s bs len)) (refusedAt s (faultOf s bs len))
-    (taken s bs)))
+    (taken s bs)))))
 
 abbrev pub scanFrame : Scan → Frame → Scan
 scanFrame s f = stepOn s (f .id) (frameBytes f) (f .len)
@@ -111,6 +121,7 @@ passedWith missing announced messages total numbers space =
 
 -- a refusal of a frame stands
 unfoldable pub verdictAt : Standing → ℕ → ℕ → ℕ → ℕ → ℕ → ℕ → Reassembled
+verdictAt (WideAt n) missing announced messages total numbers space = Refused (TooWide n)
 verdictAt (At why) missing announced messages total numbers space = Refused why
 verdictAt Clear missing announced messages total numbers space = passedWith missing announced messages total numbers space
 

@@ -10,14 +10,15 @@ use Rattle.oracle.specs.Ids.{isOther}
 use Rattle.oracle.specs.Check.{hoursOf, offFrom}
 use Rattle.oracle.specs.declared.bench_ids.Claim.{Claim}
 use Rattle.oracle.specs.declared.bench_ids.Claim.the-variants.{Awaited, Made, Missed}
-use Rattle.oracle.specs.inner.Scan.{scanFrame, addedOf, startOf, isFaulty}
+use Rattle.oracle.specs.inner.Scan.{scanFrame, addedOf, startOf, isFaulty, isOver}
 use Rattle.splitter.specs.declared.Frame.{Frame}
 use Rattle.oracle.specs.declared.Scan.{Scan}
 use Rattle.oracle.specs.declared.Tx.{Tx}
 use Rattle.oracle.specs.declared.Checked.{Checked}
 use Rattle.oracle.specs.declared.Checked.the-variants.{Good, NoCount, Over, NoClaim, Faulty, Open, Count, Size, Hours, Pattern, Sequence}
+use Rattle.oracle.specs.declared.Fault.the-variants.{TooWide}
 use Rattle.oracle.specs.declared.faults.Standing.{Standing}
-use Rattle.oracle.specs.declared.faults.Standing.the-variants.{Clear, At}
+use Rattle.oracle.specs.declared.faults.Standing.the-variants.{Clear, At, WideAt}
 
 abbrev pub isBad : Checked → Bool
 isBad Good = false
@@ -102,6 +103,7 @@ overOf base expected = ltb 4294967295 (base + (expected - 1))
 abbrev pub faultyOf : Standing → Checked
 faultyOf Clear = Good
 faultyOf (At f) = Faulty f
+faultyOf (WideAt n) = Faulty (TooWide n)
 
 unfoldable pub ranOf : Tx → ℕ → Checked
 ranOf t expected =
@@ -114,5 +116,6 @@ unfoldable pub checkedOf : Tx → ℕ → Checked
 checkedOf t expected =
     pick (eqb expected 0) NoCount
     (pick (overOf (t .base) expected) Over
+    (pick (isOver (t .scan .fault)) (faultyOf (t .scan .fault))
     (pick (isUnclaimed (t .claim)) NoClaim
-    (ranOf t expected)))
+    (ranOf t expected))))

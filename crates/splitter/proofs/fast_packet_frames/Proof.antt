@@ -92,11 +92,11 @@ abbrev Γ₁ : (κs : Lfts 2) → Shares 2 → Cx
 abbrev derives : (w : World) → walk.Walks 2 ps r xs 1 Mir.t-1 w code.env
 derives w κs qs bs =
     let K : Bench = bench w code.env (tyR r ∷ tysP ps xs) bs in
-    -- s = split_of(sequence, payload.len(), row.len())
+    -- s = split_of(id, sequence, payload.len(), row.len())
     next (assigns (oFld 3 (field 1 ∷ []) word 8 lenV) 9 (sInt w64) (reads-sslice-len (K .𝓤) (K .H) (K .A) (K .W) u8 τ 0 8 refl, refl) (empty K word) refl (λ u. refl) (λ u. tt)) ∵
     next (assigns (oFld 4 (field 1 ∷ []) word 8 lenV) 10 (sInt w64) (reads-mslice-len (K .𝓤) (K .H) (K .A) (K .W) (ty frame) τr 1 8 refl, refl) (empty K word) refl (λ u. refl) (λ u. tt)) ∵
     next (calls split-kinds.ps split-kinds.r split-reads.Asked split-reads.Learnt split-def.name (split-reads.known w code.env split-def.name split-def.routine code.calls-splitter·split-frame·split-of (split-thm.met (w .𝓤) (w .H) (w .𝓜) (w .𝓖) (w .𝓡)))
-    (vAt 2 (λ x. x), (vAt 9 (λ x. x), (vAt 10 (λ x. x), tt))) 5 [] ((number K w8, refl), ((number K w64, refl), ((number K w64, refl), tt))) (empty K (mirOf split)) tt refl) ∵
+    (vAt 1 (λ x. x), (vAt 2 (λ x. x), (vAt 9 (λ x. x), (vAt 10 (λ x. x), tt)))) 5 [] ((number K w32, refl), ((number K w8, refl), ((number K w64, refl), ((number K w64, refl), tt)))) (empty K (mirOf split)) tt refl) ∵
     gone 9 word (scalar K (sInt w64)) ∵
     gone 10 word (scalar K (sInt w64)) ∵
     -- if unsplit(s) { return s; }

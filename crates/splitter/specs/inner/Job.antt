@@ -1,4 +1,4 @@
--- The splitter's answer from sizes, and what its code is laying out, with the index of the next frame. Nobody needs to believe these: `proofs/SplitLaws` shows that
+-- The splitter's answer, and what its code is laying out, with the index of the next frame. Nobody needs to believe these: `proofs/SplitLaws` shows that
 -- they tell what specs/Split says.
 use Prim.Native.Nat.{ℕ, zero, suc, _+_, _%_}
 use mathlib.Core.Bool.{Bool, true, false}
@@ -7,24 +7,27 @@ use mathlib.Core.Path.{_≡_}
 use lib.ListN.{take}
 use lib.Dec.{eqb, ltb}
 use Rattle.base.specs.Pick.{pick}
+use Rattle.splitter.specs.Frames.{isWide}
 use Rattle.splitter.specs.Bytes.{splitFrame, countOf}
 use Rattle.splitter.specs.declared.Frame.{Frame}
 use Rattle.splitter.specs.declared.split_frame.Job.{Job}
 use Rattle.splitter.specs.declared.Split.{Split}
-use Rattle.splitter.specs.declared.Split.the-variants.{Frames, BadSplit, Short}
+use Rattle.splitter.specs.declared.Split.the-variants.{Frames, BadSplit, TooWide, Short}
 
--- the answer, from the sizes alone
-unfoldable pub toldOf : ℕ → ℕ → ℕ → Split
-toldOf sequence size room =
+-- the answer, from the identifier, the sequence and the sizes
+unfoldable pub toldOf : ℕ → ℕ → ℕ → ℕ → Split
+toldOf id sequence size room =
     pick (eqb size 0) BadSplit
     (pick (ltb 223 size) BadSplit
     (pick (ltb 7 sequence) BadSplit
+    (pick (isWide id) TooWide
     (pick (ltb room (countOf size)) Short
-    (Frames (countOf size)))))
+    (Frames (countOf size))))))
 
 abbrev pub isUnsplit : Split → Bool
 isUnsplit (Frames n) = false
 isUnsplit BadSplit = true
+isUnsplit TooWide = true
 isUnsplit Short = true
 
 -- ---- a job's frames

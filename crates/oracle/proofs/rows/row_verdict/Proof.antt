@@ -11,5 +11,7 @@ row-verdict-spec =
     (λ c. search needs)
     (λ c κs. search needs)
     (λ c. search needs)
+    (λ c. search needs)
+    (λ c. search (needs, standing))
     (λ c. search (needs, standing))
     (λ c. search (needs, standing)))
