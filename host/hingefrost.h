@@ -94,7 +94,7 @@ extern "C" {
 #define HF_REFUSED_SEQUENCE 37
 
 /* ---- identifiers: 29 bits. A number of 2^29 or more, as one with a driver's flags in bits 29 to 31, is none, and is refused wherever an
- * identifier is read. */
+ * identifier is read: take the flags off first, once they have said what kind of frame it is (of SocketCAN's can_id by CAN_EFF_MASK). */
 
 #define HF_NOBODY 256 /* in the place of a destination: none */
 #define HF_NOT_SET 256 /* in the place of a setter's priority: 6 stays */

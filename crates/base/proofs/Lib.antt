@@ -1,5 +1,6 @@
 pub mod Bools
 pub mod Cases
+pub mod Answers
 pub mod First
 pub mod Paired
 pub mod Totals

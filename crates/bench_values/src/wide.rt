@@ -122,11 +122,13 @@ fn room() {
         &mut two,
         &mut arena,
     );
+    left(two[0], arena[0]);
     short(
         b"frame 5 too wide, and an arena of four bytes: ",
         &mut list,
         &mut four,
     );
+    left(list[0], four[0]);
 }
 
 fn check(words: &[u8], ids: &[u32], expected: usize, base: u32) {
@@ -149,17 +151,18 @@ fn checks() {
     check(b"a claim that is too wide: ", &[WIDE_CLAIM, ENGINE], 1, 0);
 }
 
-// Into room for nine frames.
+// Into room for nine frames, where 9 stands at every place of the slices.
 fn split(words: &[u8], sequence: u8, payload: &[u8]) {
-    let mut ids = [0u32; 9];
-    let mut bytes = [0u8; 72];
-    let mut lens = [0usize; 9];
+    let mut ids = [9u32; 9];
+    let mut bytes = [9u8; 72];
+    let mut lens = [9usize; 9];
     say::text(words);
     show_split(fast_packet_rows(WIDE, sequence, payload, &mut ids, &mut bytes, &mut lens));
     as_frames();
-    let left = fast_packet_frames_into(WIDE, sequence, payload, blank_row());
-    let s = left.split;
+    let after = fast_packet_frames_into(WIDE, sequence, payload, blank_row());
+    let s = after.split;
     show_split(s);
+    left(lens[0], bytes[0]);
 }
 
 fn splits() {

@@ -92,6 +92,10 @@ pub fn step(parts: Parts, index: u8, sent: usize, payload: &[u8]) {
         (item, [it.progress().0 as u64, it.progress().1 as u64])
     };
     assert_eq!((got, after), want, "{parts:?}, index {index}, sent {sent}, {} bytes", payload.len());
+    if answer == 0 {
+        let said = can_id::Parts { priority: parts.priority % 8, pgn: parts.pgn, source_address: parts.source, destination: parts.destination };
+        assert_eq!(can_id::CanId(frame[0] as u32).read(), Ok(said), "a frame's identifier is read as what was asked for");
+    }
 }
 
 /// Where the original would copy over 8 bytes into a raw frame.

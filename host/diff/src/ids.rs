@@ -80,7 +80,11 @@ pub fn build(priority: u8, pgn: u32, source_address: u8, destination: Option<u8>
     let want = CanIdBuilder { priority, pgn, source_address, destination }.build();
     let got = entry(|value| raw::hf_can_id_build(priority, pgn, source_address, raw::address(destination), value));
     assert_eq!(got, told(&want), "building {priority} {pgn:#X} {source_address} {destination:?}");
-    assert_eq!(ours::CanIdBuilder { priority, pgn, source_address, destination }.build(), as_ours(want), "building {priority} {pgn:#X} {source_address} {destination:?}");
+    let built = ours::CanIdBuilder { priority, pgn, source_address, destination }.build();
+    assert_eq!(built, as_ours(want), "building {priority} {pgn:#X} {source_address} {destination:?}");
+    if let Ok(id) = built {
+        assert_eq!(id.read(), Ok(ours::Parts { priority, pgn, source_address, destination }), "what was built is read back");
+    }
 }
 
 /// By the setters, under both of their names.
