@@ -1,6 +1,6 @@
 -- What strict reassembly takes, all of its tests together: the splitter's frames, none of the row too wide, and room for what they say.
---     accepts          what it gives
---     gives-back       and every such row
+--     gives-back       every such row
+--     accepts          and no other
 --     split-accepted   so what the splitter gives is read back as that one message
 -- Assumes nothing.
 use Prim.Native.Nat.{ℕ, _≤_, _<_, _/_}
@@ -49,6 +49,13 @@ module _ (numbers space : ℕ) (ms : List BenchMessage) where
 
 -- ---- strict reassembly
 module _ (fs : List Frame) (source pgn : ℕ) (list arena : List ℕ) (ms : List BenchMessage) where
+  pub gives-back : Accepts fs source pgn list arena ms → deliveredTo list arena fs source pgn ≡ gives ms
+  unfolding roomFor
+  gives-back a =
+      reassembly-still fs list arena source pgn (a .narrow)
+      ∙ ap (roomFor (length list) (length arena)) (returned fs source pgn ms (a .messages) 0 (a .frames 0))
+      ∙ sym (when-ge _ _ {a = length list / 3} {b = length ms} (a .listed) (when-ge _ _ {a = length arena} {b = length (payloadsOf ms)} (a .stored) refl))
+
   pub accepts : AreBytes fs → deliveredTo list arena fs source pgn ≡ gives ms → Accepts fs source pgn list arena ms
   unfolding deliveredTo
   accepts bytes e =
@@ -56,13 +63,6 @@ module _ (fs : List Frame) (source pgn : ℕ) (list arena : List ℕ) (ms : List
       let r : HasRoom (length list) (length arena) ms (messagesOf fs source pgn) = has-room (length list) (length arena) ms (messagesOf fs source pgn) (w .1) in
       let s : AreSplit ms × ((id : ℕ) → under id (ownFrames source pgn fs) ≡ splitAll id ms) = accepted fs source pgn bytes ms (r .0) in
       record { narrow = is-none fs (w .0); messages = s .0; frames = s .1; listed = r .1; stored = r .2 }
-
-  pub gives-back : Accepts fs source pgn list arena ms → deliveredTo list arena fs source pgn ≡ gives ms
-  unfolding roomFor
-  gives-back a =
-      reassembly-still fs list arena source pgn (a .narrow)
-      ∙ ap (roomFor (length list) (length arena)) (returned fs source pgn ms (a .messages) 0 (a .frames 0))
-      ∙ sym (when-ge _ _ {a = length list / 3} {b = length ms} (a .listed) (when-ge _ _ {a = length arena} {b = length (payloadsOf ms)} (a .stored) refl))
 
 -- ---- what the splitter gives
 module _ (id sequence : ℕ) (p : List ℕ) (room : ℕ) (fs : List Frame) (e : splitOf id sequence p room ≡ gives fs) where
