@@ -1,5 +1,5 @@
-// The bench: refusals 20 to 28 of strict reassembly and the splitter, 30 to 37 of the transmit check; 8 and 29 are in wide.rt. Each row is given twice, in separate slices and as frames,
-// and what the second says follows on a line of its own.
+// The bench: refusals 20 to 28 of strict reassembly and the splitter, 30 to 37 of the transmit check; 8 and 29 are in wide.rt. Each row is given twice, in
+// separate slices and as frames, and what the second says follows on a line of its own.
 use crate::frame_rows::blank_row;
 use crate::frame_rows::laid_after;
 use crate::frame_rows::row_of;

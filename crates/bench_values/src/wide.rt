@@ -131,12 +131,13 @@ fn room() {
     left(list[0], four[0]);
 }
 
+// A claim's bytes, and then a message of one byte.
 fn check(words: &[u8], ids: &[u32], expected: usize, base: u32) {
-    let claim = b"\xFF\xFF\xFF\xFF\xFF\xFF\xFF\xFF\x00\x01\x00\xFF\xFF\xFF\xFF\xFF";
+    let bytes = b"\xFF\xFF\xFF\xFF\xFF\xFF\xFF\xFF\x00\x01\x00\xFF\xFF\xFF\xFF\xFF";
     say::text(words);
-    show_checked(check_tx_rows(ids, claim, &[8, 8], 35, expected, base));
+    show_checked(check_tx_rows(ids, bytes, &[8, 8], 35, expected, base));
     as_frames();
-    show_checked(check_tx_first(row_of(ids, claim, &[8, 8]), 2, 35, expected, base));
+    show_checked(check_tx_first(row_of(ids, bytes, &[8, 8]), 2, 35, expected, base));
 }
 
 fn checks() {

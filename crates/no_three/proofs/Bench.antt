@@ -12,7 +12,7 @@ use Rattle.splitter.specs.declared.Split.the-variants.{Frames, BadSplit, TooWid
 use Rattle.oracle.specs.Numbers.{faultNumber, ofReassembled, ofChecked}
 use Rattle.oracle.specs.Strict.{wideFirst, deliveredTo}
 use Rattle.oracle.specs.Check.{checkTxOf}
-use Rattle.oracle.proofs.Codes.{messages-coded, room-coded, sent-coded}
+use Rattle.oracle.proofs.Codes.{messages-coded, room-coded, transmission-coded}
 use Rattle.oracle.specs.declared.Fault.{Fault}
 use Rattle.oracle.specs.declared.Fault.the-variants.{Length, Restarted, Announced, Stray, Order, Padding, TooWide as WideFrame}
 use Rattle.oracle.specs.declared.Reassembled.{Reassembled}
@@ -30,7 +30,12 @@ counted-other (refuses k vs) h = h
 -- ---- the splitter
 pub split-other : (id sequence : ℕ) (payload : List ℕ) (room : ℕ) → Other (splitOf id sequence payload room)
 unfolding splitOf
-split-other id sequence payload room = pick-all Other _ (omega arith) (pick-all Other _ (omega arith) (pick-all Other _ (omega arith) (pick-all Other _ (omega arith) (pick-all Other _ (omega arith) (omega arith)))))
+split-other id sequence payload room =
+    pick-all Other _ (omega arith)
+    (pick-all Other _ (omega arith)
+    (pick-all Other _ (omega arith)
+    (pick-all Other _ (omega arith)
+    (pick-all Other _ (omega arith) (omega arith)))))
 
 -- ---- strict reassembly: 29, and else 20 to 27
 frame-other : (k : ℕ) → 20 ≤ k → k ≤ 26 → NotThree k
@@ -52,9 +57,7 @@ unfolding checkTxOf
 check-other frames source expected hours =
     pick-all Other _ (omega arith)
     (pick-all Other _ (omega arith)
-    (wide-other _ _
-    (pick-all Other _ (sent-coded NotThree (omega arith) (λ k lo hi. omega arith) expected hours _ (messages-coded NotThree (omega arith) frame-other source 127489 0 none frames))
-    (omega arith))))
+    (wide-other _ _ (transmission-coded NotThree (omega arith) frame-other (omega arith) (λ k lo hi. omega arith) frames source expected hours)))
 
 -- ---- any answer of the code
 pub split-case-other : (s : Split) → Other (ofSplit s)

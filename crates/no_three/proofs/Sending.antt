@@ -1,4 +1,5 @@
--- No identifier is refused by 3, read or built, and no step of a builder gives it. A test that holds of every leaf of a definition by `pick` holds of what it gives. Assumes nothing.
+-- No identifier is refused by 3, read or built, and no step of a builder gives it. A test that holds of every leaf of a definition by `pick` holds of what it gives.
+-- Assumes nothing.
 use Prim.Native.Nat.{ℕ}
 use mathlib.Core.List.{List}
 use native.Mathlib.Omega.{arith}

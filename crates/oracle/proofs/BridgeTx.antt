@@ -22,7 +22,7 @@ use Rattle.oracle.specs.inner.Tx.{claimAfter, messageOf, isBad, bufferOf
 use Rattle.oracle.specs.declared.bench_ids.Claim.{Claim}
 use Rattle.oracle.specs.declared.bench_ids.Claim.the-variants.{Awaited, Made, Missed}
 use Rattle.oracle.specs.Strict.{benchSequence, BenchMessage, OpenMessage, FrameOutcome, refused, waits, whole, collectedAt, firstFrame, laterFrame, outcomeOf, before, thenOf, endOf, messagesFrom, messagesOf, firstWide, wideFirst}
-use Rattle.oracle.specs.Check.{follows, eachFrom, isClaimed, sentOf, checkTxOf, ChecksTx, hoursOf, offFrom}
+use Rattle.oracle.specs.Check.{follows, eachFrom, isClaimed, sentOf, transmissionOf, checkTxOf, ChecksTx, hoursOf, offFrom}
 use Rattle.oracle.specs.Numbers.{faultNumber, faultValues, ofChecked}
 use Rattle.oracle.specs.inner.Scan.{skipped, taken, isFaulty, isOver, stepOn, scanFrame, scanOf, startOf, Counted, addedOf}
 use Rattle.splitter.specs.declared.Frame.{Frame}
@@ -455,12 +455,9 @@ module _ (fs : List Frame) (source expected base : ℕ) where
   abbrev last : Tx
   last = txAll t₀ fs
 
-  -- the answers of the code and of the paper after 30 and 31, and after 29
+  -- the code's answer after 30 and 31
   abbrev told : Answer ℕ
   told = ofChecked (pick (isOver (last .scan .fault)) (faultyOf (last .scan .fault)) (pick (isUnclaimed (last .claim)) NoClaim (ranOf last expected)))
-
-  abbrev asked : Answer ℕ
-  asked = pick (isClaimed source fs) (sentOf expected base (messagesOf fs source 127489)) (refuses 32 [])
 
   module _ (narrow : AllNarrow fs) where
     each-told : (ms : List BenchMessage) → messagesOf fs source 127489 ≡ gives ms → ofChecked (txAll (txStart source base) fs .bad) ≡ eachFrom base 0 none ms
@@ -470,15 +467,15 @@ module _ (fs : List Frame) (source expected base : ℕ) where
     ran-told : ofChecked (ranOf last expected) ≡ sentOf expected base (messagesOf fs source 127489)
     ran-told = ran-tells last expected base (startOf source 127489) fs (scan-kept fs t₀) refl (messagesOf fs source 127489) (row-tells fs narrow (startOf source 127489) none refl refl) each-told
 
-    claimed-told : ofChecked (pick (isUnclaimed (last .claim)) NoClaim (ranOf last expected)) ≡ asked
-    unfolding ofChecked
+    claimed-told : ofChecked (pick (isUnclaimed (last .claim)) NoClaim (ranOf last expected)) ≡ transmissionOf fs source expected base
+    unfolding ofChecked transmissionOf
     claimed-told =
         pushed ofChecked (isUnclaimed (last .claim)) NoClaim (ranOf last expected)
         ∙ ap (λ (u : Bool). pick u (refuses 32 []) (ofChecked (ranOf last expected))) (claims-tell fs t₀)
         ∙ turned (isClaimed source fs) (refuses 32 []) (ofChecked (ranOf last expected))
         ∙ ap (λ (x : Answer ℕ). pick (isClaimed source fs) x (refuses 32 [])) ran-told
 
-    narrow-told : told ≡ asked
+    narrow-told : told ≡ transmissionOf fs source expected base
     narrow-told =
         let over : isOver (last .scan .fault) ≡ false = ap (λ (s : Scan). isOver (s .fault)) (scan-kept fs t₀) ∙ wide-none fs (startOf source 127489) refl narrow in
         sym (ap ofChecked (when-false _ _ over refl)) ∙ claimed-told
@@ -489,7 +486,7 @@ module _ (fs : List Frame) (source expected base : ℕ) where
       let f : last .scan .fault ≡ WideAt n = ap (λ (s : Scan). s .fault) (scan-kept fs t₀) ∙ wide-found fs (startOf source 127489) refl e in
       sym (ap ofChecked (when-true _ _ (ap isOver f) refl)) ∙ ap (λ (x : Standing). ofChecked (faultyOf x)) f
 
-  width-told : (x : Option ℕ) → firstWide 0 fs ≡ x → told ≡ wideFirst x asked
+  width-told : (x : Option ℕ) → firstWide 0 fs ≡ x → told ≡ wideFirst x (transmissionOf fs source expected base)
   unfolding wideFirst
   width-told none e = narrow-told (all-narrow fs 0 e)
   width-told (some n) e = wide-told n e

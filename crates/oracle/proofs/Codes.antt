@@ -1,6 +1,6 @@
--- The numbers by which document 01's own tests of a row answer: 0, or 20 to 26 of its frames, 27 where there is no room, and 33 to 37 of its messages. What holds
+-- The numbers by which document 01's own tests of a row answer: 0, or 20 to 26 of its frames, 27 where there is no room, 32 without a claim, and 33 to 37 of its messages. What holds
 -- of these numbers holds of each answer.
---     messages-coded   the row        room-coded   what is lent        sent-coded   the messages of a transmit test
+--     messages-coded   the row        room-coded   what is lent        transmission-coded   what a transmit test asks of it
 -- Assumes nothing.
 use Prim.Native.Nat.{ℕ, _+_, _≤_}
 use mathlib.Core.List.{List, [], _∷_}
@@ -9,7 +9,7 @@ use native.Mathlib.Omega.{arith}
 use Rattle.base.specs.Answer.{Answer, gives, refuses, codeOf}
 use Rattle.base.proofs.Cases.{pick-all}
 use Rattle.oracle.specs.Strict.{BenchMessage, OpenMessage, FrameOutcome, refused, waits, whole, collectedAt, firstFrame, laterFrame, outcomeOf, before, thenOf, endOf, messagesFrom, roomFor}
-use Rattle.oracle.specs.Check.{eachFrom, sentOf}
+use Rattle.oracle.specs.Check.{eachFrom, sentOf, transmissionOf}
 use Rattle.splitter.specs.declared.Frame.{Frame}
 
 module _ (P : ℕ → Type 0) (zeroth : P 0) where
@@ -90,7 +90,12 @@ module _ (P : ℕ → Type 0) (zeroth : P 0) where
         (messages 35 (omega arith) (omega arith)))
         (messages 34 (omega arith) (omega arith))
 
-    pub sent-coded : (expected base : ℕ) (a : Answer (List BenchMessage)) → P (codeOf a) → P (codeOf (sentOf expected base a))
+    sent-coded : (expected base : ℕ) (a : Answer (List BenchMessage)) → P (codeOf a) → P (codeOf (sentOf expected base a))
     unfolding sentOf
     sent-coded expected base (refuses k vs) h = h
     sent-coded expected base (gives ms) h = pick-all Coded _ (each-coded base 0 none ms) (messages 33 (omega arith) (omega arith))
+
+  pub transmission-coded : ((k : ℕ) → 20 ≤ k → k ≤ 26 → P k) → P 32 → ((k : ℕ) → 33 ≤ k → k ≤ 37 → P k) → (fs : List Frame) (source expected base : ℕ) → P (codeOf (transmissionOf fs source expected base))
+  unfolding transmissionOf
+  transmission-coded frames unclaimed messages fs source expected base =
+      pick-all Coded _ (sent-coded messages expected base _ (messages-coded frames source 127489 0 none fs)) unclaimed

@@ -12,14 +12,13 @@ use mathlib.Core.Path.{_≡_, refl, sym, ap, _∙_, subst}
 use native.Mathlib.Omega.{arith}
 use lib.ListN.{length}
 use Rattle.base.specs.Answer.{Answer, refuses, codeOf}
-use Rattle.base.specs.Pick.{pick}
-use Rattle.base.proofs.Cases.{less?, same?, when-eq, when-ne, when-lt, when-ge, when-le, when-gt, pick-all}
+use Rattle.base.proofs.Cases.{less?, same?, when-eq, when-ne, when-lt, when-ge, when-le, when-gt}
 use Rattle.splitter.specs.Frames.{isWide}
 use Rattle.splitter.specs.Split.{idsOf}
 use Rattle.splitter.specs.declared.Frame.{Frame}
 use Rattle.oracle.specs.Strict.{messagesOf, firstWide, wideFirst, roomFor, deliveredTo}
-use Rattle.oracle.specs.Check.{isClaimed, sentOf, checkTxOf}
-use Rattle.oracle.proofs.Codes.{messages-coded, room-coded, sent-coded}
+use Rattle.oracle.specs.Check.{transmissionOf, checkTxOf}
+use Rattle.oracle.proofs.Codes.{messages-coded, room-coded, transmission-coded}
 use Rattle.round_trip.specs.Wide.{idAt, IsFirstWide, NoneWide}
 
 -- ---- the search along a row whose first frame is frame i
@@ -127,15 +126,11 @@ module _ (fs : List Frame) where
     reassembly-still w = ap (λ (x : Option ℕ). wideFirst x (roomFor (length list) (length arena) (messagesOf fs source pgn))) (none-wide fs w)
 
   module _ (source expected base : ℕ) where
-    -- document 01's answer after 30 and 31
     abbrev asked : Answer ℕ
-    asked = pick (isClaimed source fs) (sentOf expected base (messagesOf fs source 127489)) (refuses 32 [])
+    asked = transmissionOf fs source expected base
 
-    not-asked : codeOf asked ≢ 29
-    not-asked =
-        pick-all (λ (x : Answer ℕ). codeOf x ≢ 29) _
-        (sent-coded (λ (k : ℕ). k ≢ 29) (omega arith) (λ k lo hi. omega arith) expected base _ (messages-coded (λ (k : ℕ). k ≢ 29) (omega arith) not-29 source 127489 0 none fs))
-        (omega arith)
+    not-asked : codeOf (transmissionOf fs source expected base) ≢ 29
+    not-asked = transmission-coded (λ (k : ℕ). k ≢ 29) (omega arith) not-29 (omega arith) (λ k lo hi. omega arith) fs source expected base
 
     module _ (some-count : 1 ≤ expected) (fits : base + (expected - 1) ≤ 4294967295) where
       after-31 : checkTxOf fs source expected base ≡ wideFirst (firstWide 0 fs) asked
@@ -146,7 +141,7 @@ module _ (fs : List Frame) where
       unfolding wideFirst
       check-29 n w = after-31 ∙ ap (λ (x : Option ℕ). wideFirst x asked) (first-wide fs n w)
 
-      pub check-still : NoneWide fs → checkTxOf fs source expected base ≡ pick (isClaimed source fs) (sentOf expected base (messagesOf fs source 127489)) (refuses 32 [])
+      pub check-still : NoneWide fs → checkTxOf fs source expected base ≡ transmissionOf fs source expected base
       unfolding wideFirst
       check-still w = after-31 ∙ ap (λ (x : Option ℕ). wideFirst x asked) (none-wide fs w)
 

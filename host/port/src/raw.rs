@@ -8,7 +8,8 @@ use crate::fast_packet::MAX_FAST_PACKET_PAYLOAD;
 use crate::oracle::Frames;
 
 pub use crate::entries::{
-    hf_can_id_build, hf_can_id_build_to, hf_can_id_build_with, hf_can_id_read, hf_fill_short, hf_frame_count, hf_raw_builder_build, hf_raw_builder_to_destination, hf_raw_builder_with_priority, hf_raw_builder_with_sequence_id,
+    hf_can_id_build, hf_can_id_build_to, hf_can_id_build_with, hf_can_id_read, hf_fill_short, hf_frame_count, hf_raw_builder_build, hf_raw_builder_to_destination,
+    hf_raw_builder_with_priority, hf_raw_builder_with_sequence_id,
 };
 #[cfg(feature = "piped")]
 pub use crate::entries::calls;
