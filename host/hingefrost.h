@@ -13,6 +13,8 @@
  *
  * Pointers. A slice is a pointer and a length, in elements. A name with a number in brackets points to exactly that many
  * elements. All of it is the caller's, aligned as its type is.
+ * - The numbers in brackets are those of the archive that comes with this header: compile with the header of the archive that you
+ *   link. Before document 02's No. 7 a pool had 8 slots at most, and lent less.
  * - A slice of length 0 may have any pointer, NULL too. No other pointer may be NULL.
  * - What a call writes through must not overlap anything else that the same call is given, read or written. What it only reads
  *   may overlap.
@@ -29,13 +31,13 @@
 extern "C" {
 #endif
 
-#define HF_STACK_BYTES 16384
+#define HF_STACK_BYTES 65536
 
 /* ---- the sizes of what is lent */
 
 #define HF_FRAME_BYTES 8               /* a CAN frame's bytes */
 #define HF_MAX_FAST_PACKET_PAYLOAD 223 /* a message's bytes, at most */
-#define HF_POOL_SLOTS 8                /* a pool's slots, at most */
+#define HF_POOL_SLOTS 32               /* a pool's slots, at most */
 #define HF_DEFAULT_SLOTS 4             /* those of hf_pool_default */
 #define HF_SLOT_NUMBERS 8              /* the numbers of a slot, HF_SLOT_.. */
 #define HF_POOL_HEADS (HF_POOL_SLOTS * HF_SLOT_NUMBERS)

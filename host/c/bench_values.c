@@ -129,7 +129,7 @@ static void cut_frames(void) {
 
 static void messages(void) {
     hf_counters_new(&counters);
-    expect(hf_pool_new(&pool, HF_POOL_SLOTS + 1) == HF_REFUSED_IMPOSSIBLE_POOL && pool.size == 0, "a pool of nine: 1");
+    expect(hf_pool_new(&pool, HF_POOL_SLOTS + 1) == HF_REFUSED_IMPOSSIBLE_POOL && pool.size == 0, "a pool of 33: 1");
     hf_pool_default(&pool);
     expect(pool.size == HF_DEFAULT_SLOTS, "four slots by default");
     expect(hf_pool_new(&pool, 1) == HF_OK && pool.size == 1, "one slot");
@@ -161,10 +161,10 @@ static void messages(void) {
     expect(hear(0, "\x00\x06......") == HF_REFUSED_IMPOSSIBLE_POOL && message.length == 0 && message.payload[0] == 0xEE, "an impossible pool: 1, and the payload as it was");
     expect(hf_process_frame(&pool, &counters, NULL, 0, 0, 127489, 35, (const uint8_t *)"\x00\x06......", &message) == HF_REFUSED_IMPOSSIBLE_POOL
                && counters.counts[HF_UNKNOWN_PGN] == 3, "an impossible pool: 1, also where the PGN is not listed");
-    expect(hf_pool_new(&pool, 9) == HF_REFUSED_IMPOSSIBLE_POOL && pool.size == 0 && pool.heads[HF_SLOT_SEQUENCE] == 8, "a pool of nine leaves the heads as they were");
+    expect(hf_pool_new(&pool, 33) == HF_REFUSED_IMPOSSIBLE_POOL && pool.size == 0 && pool.heads[HF_SLOT_SEQUENCE] == 8, "a pool of 33 leaves the heads as they were");
     pool.heads[HF_SLOT_IN_PROGRESS] = 2;
     pool.heads[HF_SLOT_SOURCE] = 300;
-    pool.size = 9;
+    pool.size = HF_POOL_SLOTS + 1;
     expect(hear(0, "\x00\x06......") == HF_REFUSED_IMPOSSIBLE_POOL && pool.heads[HF_SLOT_IN_PROGRESS] == 2 && pool.heads[HF_SLOT_SOURCE] == 300,
            "a refusal leaves numbers wider than their fields");
 }

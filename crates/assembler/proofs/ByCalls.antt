@@ -25,7 +25,7 @@ use Rattle.assembler.specs.declared.ArrivalWithLength.{ArrivalWithLength
 use Rattle.assembler.specs.Call.{CallOk}
 use Rattle.assembler.specs.Slots.{within, onHead, impossible}
 use Rattle.assembler.specs.Step.{eventOf, saidOf, outcome, stepIf, step}
-use Rattle.assembler.specs.Making.{freshPool, sizeMade, poolMade}
+use Rattle.assembler.specs.Making.{poolBytes, freshPool, sizeMade, poolMade}
 use Rattle.assembler.specs.View.{slotsFrom, slotsOf, shown, replyOf, receiveOf}
 use Rattle.assembler.specs.Arrivals.{heardOf, heardWithLength}
 use Rattle.assembler.specs.Promises.{rulesOf}
@@ -50,8 +50,8 @@ fresh-good : (n : ℕ) → n ≤ poolLimit → Good (freshPool n)
 unfolding freshPool slotsOf
 fresh-good n small =
     record {
-      possible = unfold impossible base in rw (le-ltb poolLimit n small) (idle-fine n poolLimit (replicate 1784 0));
-      sized = sized-view (replicate poolLimit freshHead) (replicate 1784 0) refl;
+      possible = unfold impossible base in rw (le-ltb poolLimit n small) (idle-fine n poolLimit (replicate poolBytes 0));
+      sized = sized-view (replicate poolLimit freshHead) (replicate poolBytes 0) refl;
     }
 
 made-good : (b : Bool) (n : ℕ) → ltb poolLimit n ≡ b → Good (poolMade (pick b (refuses 1 []) (gives n)))

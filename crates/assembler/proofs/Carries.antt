@@ -37,6 +37,7 @@ use Rattle.assembler.specs.Call.{Call}
 use Rattle.assembler.specs.Slots.{Slot, Slots, freshSlot, onHead, impossible, chosen, live, openedSlot, resetSlot, copiedSlot}
 use Rattle.assembler.specs.Step.{Event, notListed, rejected, shortMessage, poolFull, opened, stray, broken, copied, completed, opensAt, continuesAt, eventOf, slotsAfter, markOf, Why, unlisted, badFrame, noSlot, lost, ignored, padded, message, saidOf, outcome, stepIf, step}
 use Rattle.assembler.proofs.Events.{firstShort, firstSized, copyAt, turnAt, byIndex, bySent, byList}
+use Rattle.assembler.specs.Making.{poolBytes}
 use Rattle.assembler.specs.View.{slotsFrom, slotsOf, poolOf, zeros, whyKind, replyKind, replyPayload, replyLength, shown, receiveOf}
 use Rattle.assembler.proofs.Copies.{copy-none, paste-over}
 use Rattle.assembler.proofs.Views.{Whole, slots-long, slot-at, view-back, view-same, view-set, read-back, first-view, any-view}
@@ -161,7 +162,7 @@ module _ (R : Rules) (f : Heard) (p : Pool) (k : Counters) (w : Whole p) (eight 
       does-copy s true =
           let bytes : List ℕ = paste (p .bytes) (i * 223 + head .«current_size») (drop 1 (f .«data»)) (wanted head) in
           let buffer : List ℕ = paste (take 223 (drop (i * 223) (p .bytes))) (head .«current_size») (drop 1 (f .«data»)) (wanted head) in
-          let long : length bytes ≡ 1784 = length-paste (p .bytes) (i * 223 + head .«current_size») (drop 1 (f .«data»)) (wanted head) (omega (arith, w .bytes, fit s)) enough ∙ w .bytes in
+          let long : length bytes ≡ poolBytes = length-paste (p .bytes) (i * 223 + head .«current_size») (drop 1 (f .«data»)) (wanted head) (omega (arith, w .bytes, fit s)) enough ∙ w .bytes in
           let reach : head .«expected_size» ≤ length (drop (i * 223) bytes) = simp length-drop (omega (arith, long, s .most)) in
           let same : take (head .«expected_size») (drop (i * 223) bytes) ≡ take (head .«expected_size») buffer =
           read-back (p .bytes) (i * 223) (head .«current_size») (drop 1 (f .«data»)) (wanted head) (omega (arith, w .bytes)) (fit s) enough (head .«expected_size») (s .most) in
@@ -305,12 +306,12 @@ module _ (R : Rules) (limit : R .limit ≡ poolLimit) (l : List ℕ) (f : Heard)
 
 -- the lengths of what the calls left
 pub slot-long : (b : List ℕ) (f : Heard) (p : Pool) → Whole p → length (f .«data») ≡ 8 → (g : ℕ) (d : Plan) → g < poolLimit → Fits d
-    → b ≡ paste (p .bytes) (g * 223 + d .at) (drop (d .from) (f .«data»)) (d .count) → length b ≡ 1784
+    → b ≡ paste (p .bytes) (g * 223 + d .at) (drop (d .from) (f .«data»)) (d .count) → length b ≡ poolBytes
 slot-long b f p w eight g d low fits e =
     ap length e
     ∙ length-paste (p .bytes) (g * 223 + d .at) (drop (d .from) (f .«data»)) (d .count) (omega (arith, w .bytes, fits .room)) (simp length-drop (omega (arith, eight, fits .there)))
     ∙ w .bytes
 
-pub payload-long : (m b : List ℕ) (g : ℕ) (d : Plan) → g < poolLimit → Fits d → length b ≡ 1784 → m ≡ paste (replicate 223 0) 0 (drop (g * 223) b) (d .whole) → length m ≡ 223
+pub payload-long : (m b : List ℕ) (g : ℕ) (d : Plan) → g < poolLimit → Fits d → length b ≡ poolBytes → m ≡ paste (replicate 223 0) 0 (drop (g * 223) b) (d .whole) → length m ≡ 223
 payload-long m b g d low fits long e =
     ap length e ∙ length-paste (replicate 223 0) 0 (drop (g * 223) b) (d .whole) (omega (arith, fits .whole)) (simp length-drop (omega (arith, long, fits .whole)))

@@ -8,8 +8,10 @@ use lib.Seq.{paste, length-paste, take-take, take-add, drop-drop, drop-append-le
 use native.Mathlib.Omega.{arith}
 use Rattle.base.specs.Lists.{here, firstAt, any}
 use Rattle.session.specs.declared.Head.{Head}
+use Rattle.session.specs.Rules.{poolLimit}
 use Rattle.assembler.specs.declared.Pool.{Pool}
 use Rattle.assembler.specs.Slots.{Slot, Slots, onHead}
+use Rattle.assembler.specs.Making.{poolBytes}
 use Rattle.assembler.specs.View.{slotsFrom, headOf, flat, slotsOf, poolOf}
 
 heads-set : (ss : List Slot) (i : ℕ) (s : Slot) → map headOf (set ss i s) ≡ set (map headOf ss) i (s .head)
@@ -84,11 +86,11 @@ module _ (bs : List ℕ) (b at : ℕ) (src : List ℕ) (n : ℕ) (long : b + 223
       ap (λ (r : List ℕ). drop b r) (sym stored ∙ append-assoc (take b bs) _ (drop (b + 223) bs)) ∙ drop-at (take b bs) _ b (length-take-le b bs (omega arith)) in
       ap (λ (r : List ℕ). take m r) front ∙ take-append-le m (paste (take 223 (drop b bs)) at src n) (drop (b + 223) bs) (omega (arith, room))
 
--- ---- a pool of eight slots
+-- ---- a pool: all its heads and all its buffers
 
 pub record Whole (p : Pool) : Type 0 where
-  pub heads : length (p .heads) ≡ 8
-  pub bytes : length (p .bytes) ≡ 1784
+  pub heads : length (p .heads) ≡ poolLimit
+  pub bytes : length (p .bytes) ≡ poolBytes
 
 -- back from the slots is the pool itself
 pub view-back : (p : Pool) → Whole p → poolOf (slotsOf p) ≡ p
@@ -102,7 +104,7 @@ set-within : {A : Type 0} (n : ℕ) (l : List A) (i : ℕ) (a : A) → i < n →
 set-within n l i a h = rw (← take-set-lt n l i a h, ← drop-set-lt n l i a h) (take-append-drop n (set l i a))
 
 -- a slot within the size, changed
-pub view-set : (p : Pool) → Whole p → (i : ℕ) (h : Head) (at : ℕ) (src : List ℕ) (n : ℕ) → i < p .size → p .size ≤ 8 → at + n ≤ 223 → n ≤ length src
+pub view-set : (p : Pool) → Whole p → (i : ℕ) (h : Head) (at : ℕ) (src : List ℕ) (n : ℕ) → i < p .size → p .size ≤ poolLimit → at + n ≤ 223 → n ≤ length src
     → poolOf (record { slots = set (take (p .size) (slotsFrom (p .heads) (p .bytes))) i (record { head = h; buffer = paste (take 223 (drop (i * 223) (p .bytes))) at src n }) ++ drop (p .size) (slotsFrom (p .heads) (p .bytes)); size = p .size })
     ≡ record { size = p .size; heads = set (p .heads) i h; bytes = paste (p .bytes) (i * 223 + at) src n }
 unfolding poolOf slotsOf

@@ -1,11 +1,12 @@
 -- A fresh pool, and what making one gives.
 use mathlib.Core.List.{[]}
 use mathlib.Core.Path.{_≡_}
-use Prim.Native.Nat.{ℕ}
+use Prim.Native.Nat.{ℕ, _*_}
 use lib.ListN.{replicate}
 use lib.Dec.{ltb}
 use Rattle.base.specs.Answer.{Answer, gives, refuses}
 use Rattle.base.specs.Pick.{pick}
+use Rattle.fast_packet.specs.FastPacket.{maxPayload}
 use Rattle.session.specs.Rules.{poolLimit}
 use Rattle.session.specs.Heads.{freshHead}
 use Rattle.assembler.specs.declared.Pool.{Pool}
@@ -13,15 +14,15 @@ use Rattle.assembler.specs.declared.MadePool.{MadePool}
 use Rattle.assembler.specs.declared.Made.{Made}
 use Rattle.assembler.specs.declared.Made.the-variants.{Fresh, ImpossiblePool}
 
--- eight buffers of 223 bytes
+-- a buffer of 223 bytes for each slot
 abbrev pub poolBytes : ℕ
-poolBytes = 1784
+poolBytes = poolLimit * maxPayload
 
 -- "A fresh slot is idle with zeros.": all heads, and all buffers end to end
 unfoldable pub freshPool : ℕ → Pool
 freshPool n = record { size = n; heads = replicate poolLimit freshHead; bytes = replicate poolBytes 0 }
 
--- "A pool has 0 to 8 slots .. Asked for more, making one gives refusal 1": the size given, or the refusal
+-- "A pool has 0 to 8 slots", by No. 7 to 32. "Asked for more, making one gives refusal 1": the size given, or the refusal
 unfoldable pub sizeMade : ℕ → Answer ℕ
 sizeMade n = pick (ltb poolLimit n) (refuses 1 []) (gives n)
 

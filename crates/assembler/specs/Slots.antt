@@ -19,7 +19,7 @@ pub record Slot : Type 0 where
   pub head : Head
   pub buffer : List ℕ
 
--- "A pool has 0 to 8 slots": a size, and the slots; "Slots past the size are ignored and kept."
+-- "A pool has 0 to 8 slots", by No. 7 to 32: a size, and the slots; "Slots past the size are ignored and kept."
 pub record Slots : Type 0 where
   pub slots : List Slot
   pub size : ℕ
@@ -42,7 +42,7 @@ slotAt ss i = getD ss i freshSlot
 abbrev pub onHead : (Head → Bool) → Slot → Bool
 onHead t = λ (s : Slot). t (s .head)
 
--- step 1: "the pool size is over 8, or an in-progress slot within it has .."
+-- step 1: "the pool size is over 8", by No. 7 over 32, "or an in-progress slot within it has .."
 unfoldable pub impossible : Rules → Slots → Bool
 impossible R p = ltb (R .limit) (p .size) || any (onHead impossibleHead) (within p)
 

@@ -30,6 +30,7 @@ use Rattle.session.proofs.Seen.{seen-bad}
 use Rattle.base.proofs.Bools.{or-left, or-right}
 use Rattle.assembler.specs.declared.Pool.{Pool}
 use Rattle.assembler.specs.Slots.{onHead, impossible}
+use Rattle.assembler.specs.Making.{poolBytes}
 use Rattle.assembler.specs.View.{slotsFrom, slotsOf, receiveOf}
 use Rattle.assembler.proofs.Views.{Whole, any-view}
 use Rattle.assembler.proofs.Carries.{carried, Does, slot-long}
@@ -218,7 +219,7 @@ module _ (R : Rules) (l : List ℕ) (w : Rows) (p : Pool) (k : Counters) (ks₀ 
 
       module _ (y : b ≡ false) (low : g < poolLimit) (eight : length (f .«data») ≡ 8) (alone : Apart d) (bs : List ℕ) (ebs : bs ≡ paste (q .bytes) (g * 223 + d .at) (drop (d .from) (f .«data»)) (d .count))
           (ar′ : List ℕ) (ear : ar′ ≡ paste (paste ar used (drop (g * 223) bs) (d .whole)) used (drop 2 (f .«data»)) (d .short)) (m : Counters) (em : m ≡ raised (d .mark) c) (v : ℕ) (ev : v ≡ kindNumber (d .kind)) where
-        buffer-long : length bs ≡ 1784
+        buffer-long : length bs ≡ poolBytes
         buffer-long = slot-long bs f q (h .whole) eight g d low (does .fits) ebs
 
         -- the pool after the frame

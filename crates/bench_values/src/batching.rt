@@ -75,6 +75,6 @@ fn without_kinds(words: &[u8], pool: Pool) {
 pub(crate) fn refusals() {
     let mut pool = Pool::default();
     without_kinds(b"a batch with no row for its kinds: ", pool);
-    pool.size = 9;
-    without_kinds(b"  and for a pool of size nine: ", pool);
+    pool.size = 33;
+    without_kinds(b"  and for a pool of size 33: ", pool);
 }

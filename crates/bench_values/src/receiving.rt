@@ -103,14 +103,14 @@ fn show_made(words: &[u8], size: usize) {
 }
 
 pub(crate) fn made() {
-    show_made(b"a pool of eight: ", 8);
-    show_made(b"a pool of nine: ", 9);
+    show_made(b"a pool of 32: ", 32);
+    show_made(b"a pool of 33: ", 33);
 }
 
-fn heard_by_nine(words: &[u8], arrival: Arrival) {
+fn heard_by_33(words: &[u8], arrival: Arrival) {
     say::text(words);
     let mut pool = Pool::default();
-    pool.size = 9;
+    pool.size = 33;
     show(pool, left::no_counts(), arrival);
 }
 
@@ -125,15 +125,9 @@ fn heard_by_sequence_eight(words: &[u8], arrival: Arrival) {
 
 // An impossible pool is refused before the frame is looked at.
 pub(crate) fn refusals() {
-    heard_by_nine(
-        b"a first frame for a pool of size nine: ",
-        frame(0, 35, 0, 7),
-    );
-    heard_by_nine(
-        b"an unlisted PGN for a pool of size nine: ",
-        unlisted_frame(),
-    );
-    heard_by_nine(b"six bytes for a pool of size nine: ", frame(0, 35, 0, 6));
+    heard_by_33(b"a first frame for a pool of size 33: ", frame(0, 35, 0, 7));
+    heard_by_33(b"an unlisted PGN for a pool of size 33: ", unlisted_frame());
+    heard_by_33(b"six bytes for a pool of size 33: ", frame(0, 35, 0, 6));
     heard_by_sequence_eight(
         b"an unlisted PGN for a slot with sequence 8: ",
         unlisted_frame(),

@@ -1,6 +1,6 @@
 // Replays what the original answered, with no Rust at hand. Standard input is a list of calls, a line of 44 characters each, numbers in upper-case hex:
-//   a digit 0 to 8: a fresh pool of that size and zero counters, and then this frame; a dot: a frame on the pool that the last call left. Then
-//     time (16), PGN (8), source (2), eight bytes (16);
+//   a digit, 0 to 9 and a to w for 10 to 32: a fresh pool of that size and zero counters, and then this frame; a dot: a frame on the pool that the
+//     last call left. Then time (16), PGN (8), source (2), eight bytes (16);
 //   B: the next frame of a builder: PGN (8), source (2), destination (4, 0100 for none), priority (2), sequence (2), fast (2), frame index (2), bytes
 //     sent (4), payload length (4), dots; byte i of the payload is (7 i + 1) modulo 256.
 // The file stdout that this is held to was written by the original, its Ignored under the name of the counter that it raised:
@@ -183,6 +183,15 @@ fn fresh(size: usize) -> State {
     }
 }
 
+// The value of a digit that goes on after 9 with a.
+fn size_of(digit: u8) -> usize {
+    if digit < b'a' {
+        (digit % 16) as usize
+    } else {
+        (digit - b'a') as usize + 10
+    }
+}
+
 fn arrival_in(line: &[u8; 44]) -> Arrival {
     let data = [
         byte(line, 27),
@@ -318,7 +327,7 @@ fn turn(s: State) -> State {
     if line[0] == b'.' {
         return hear(s, &line);
     }
-    hear(fresh((line[0] % 16) as usize), &line)
+    hear(fresh(size_of(line[0])), &line)
 }
 
 fn main() {

@@ -16,9 +16,9 @@ pub record Rules : Type 0 where
   pub silent : ℕ → ℕ → Bool
   pub sameKey : Key → Key → Bool
 
--- "A pool has 0 to 8 slots"
+-- "A pool has 0 to 8 slots", and document 02's No. 7: "Raise the pool limit to 32"
 abbrev pub poolLimit : ℕ
-poolLimit = 8
+poolLimit = 32
 
 -- "Silence is now minus last time, or 0 if now is earlier." Silent is "silent over 500". (Here a - b is 0 where b is larger.)
 unfoldable pub silence : ℕ → ℕ → Bool

@@ -18,7 +18,7 @@ pub use places::within_limit;
 pub use plans::decide;
 
 // The most sessions that a pool may have.
-pub const POOL_LIMIT: usize = 8;
+pub const POOL_LIMIT: usize = 32;
 
 // Maximum time without addressed message for a fast packet session.
 pub const SESSION_TIMEOUT_MS: u64 = 500;

@@ -262,6 +262,7 @@ fn main() {
     if wanted("receiving") {
         receiving::<4>(reps, n);
         receiving::<8>(reps, n);
+        receiving::<32>(reps, n);
     }
     if wanted("building") {
         building(reps, n);

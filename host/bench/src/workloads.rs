@@ -1,4 +1,4 @@
-//! Eight receive workloads: rows of frames for a pool of some size.
+//! Eight receive workloads, and one more for a large pool: rows of frames for a pool of some size.
 use diff::receive::frames;
 use diff::rng::Rng;
 use port::assembler::Rows;
@@ -91,7 +91,7 @@ pub fn mixed(n: usize, size: usize, seed: u64) -> Rows {
 }
 
 pub fn all(n: usize, size: usize) -> Vec<(&'static str, Vec<u32>, Rows)> {
-    vec![
+    let mut all = vec![
         ("single frames, list of 6", list(6), single(n)),
         ("one source, 223 bytes, list of 6", list(6), interleaved(n, 1, 223)),
         ("8 sources, 26 bytes, list of 6", list(6), interleaved(n, 8, 26)),
@@ -100,5 +100,9 @@ pub fn all(n: usize, size: usize) -> Vec<(&'static str, Vec<u32>, Rows)> {
         ("mixed and damaged, list of 6", list(6), mixed(n, size, 1)),
         ("mixed and damaged, list of 184", list(184), mixed(n, size, 2)),
         ("one source, 223 bytes, list of 184", list(184), interleaved(n, 1, 223)),
-    ]
+    ];
+    if size > 8 {
+        all.push(("a source for each slot, 26 bytes, list of 6", list(6), interleaved(n, size, 26)));
+    }
+    all
 }

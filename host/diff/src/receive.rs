@@ -7,10 +7,10 @@ use crate::tally::answered;
 use port::assembler::{self as ours, Rows};
 use port::error::{ImpossiblePool, NoRoom};
 use port::fast_packet;
-use port::raw::{self, Counters, Pool, Told};
+use port::raw::{self, Counters, Pool, Told, POOL_BYTES, POOL_HEADS};
 use reference::hooks::{PoolState, Slot};
 use reference::protocol::transport::fast_packet::assembler::{CompletedMessage, FastPacketAssembler, ProcessResult};
-use std::collections::BTreeMap;
+use std::collections::{BTreeMap, BTreeSet};
 
 /// A frame as it is heard.
 #[derive(Clone, Copy, Debug)]
@@ -19,6 +19,21 @@ pub struct Heard {
     pub pgn: u32,
     pub source: u8,
     pub data: [u8; 8],
+}
+
+/// The most slots of a pool: "Raise the pool limit to 32" (document 02, No. 7). In the paper's own words, and not by the port's name for it.
+pub const LIMIT: usize = 32;
+
+/// Sizes where a pool of up to 8 and one of up to 32 could part, and a table of 16 or 32 could end.
+pub const LARGE: [usize; 4] = [9, 17, 31, 32];
+
+/// A size: one in two up to 8, and of the others every second one of `LARGE`.
+fn any_size(r: &mut Rng) -> usize {
+    match r.below(4) {
+        0 | 1 => r.below(9) as usize,
+        2 => r.pick(&LARGE),
+        _ => 9 + r.below(LIMIT as u64 - 8) as usize,
+    }
 }
 
 /// The original, whatever its number of sessions is.
@@ -60,12 +75,27 @@ pub fn asked(o: &mut dyn Original, h: &Heard) -> (ProcessResult, Said) {
     (result, said)
 }
 
+/// A function for each number of sessions, in a row by that number: the original has it as a constant of its type.
+macro_rules! by_size {
+    ($one:ident) => {
+        by_size!($one: 0 1 2 3 4 5 6 7 8 9 10 11 12 13 14 15 16 17 18 19 20 21 22 23 24 25 26 27 28 29 30 31 32)
+    };
+    ($one:ident: $($size:literal)*) => {
+        [$($one::<$size>),*]
+    };
+}
+
 fn original(size: usize, list: &'static [u32]) -> Box<dyn Original> {
     fn with<const N: usize>(list: &'static [u32]) -> Box<dyn Original> {
         Box::new(FastPacketAssembler::<N>::with_pool(list))
     }
-    [with::<0>, with::<1>, with::<2>, with::<3>, with::<4>, with::<5>, with::<6>, with::<7>, with::<8>][size](list)
+    type With = fn(&'static [u32]) -> Box<dyn Original>;
+    const WITH: [With; LIMIT + 1] = by_size!(with);
+    WITH[size](list)
 }
+
+/// Every slot that a pool has memory for, within its size and past it.
+type Slots = [Slot; LIMIT];
 
 /// What a call leaves: a refusal's number or a kind, and the message's bytes and length.
 #[derive(Clone, Debug, PartialEq, Eq)]
@@ -108,7 +138,7 @@ pub fn lay(p: &mut Pool, k: usize, s: &Slot) {
     p.bytes[223 * k..223 * k + 223].copy_from_slice(&s.bytes);
 }
 
-fn pool_of(size: usize, slots: &[Slot; 8]) -> Pool {
+fn pool_of(size: usize, slots: &Slots) -> Pool {
     let mut p = Pool { size, ..Pool::ZEROS };
     slots.iter().enumerate().for_each(|(k, s)| lay(&mut p, k, s));
     p
@@ -121,7 +151,7 @@ fn stands(p: &Pool, k: usize, s: &Slot) -> bool {
 
 /// Step 1 of document 01, in its own words, over slots.
 pub fn impossible(size: usize, slots: &[Slot]) -> bool {
-    size > 8
+    size > LIMIT
         || slots[..size].iter().any(|s| {
             s.in_progress && (s.sequence > 7 || !(7..=223).contains(&s.expected) || s.current != 6 + 7 * s.last_index as usize || s.current >= s.expected)
         })
@@ -229,19 +259,19 @@ fn sorted(list: &[u32]) -> &'static [u32] {
 impl Pair {
     /// Fresh pools.
     pub fn fresh(size: usize, list: &[u32]) -> Pair {
-        let mut p = Pool { size: 0xEE, heads: [0xEE << 32; 64], bytes: [0xEE; 1784] };
+        let mut p = Pool { size: 0xEE, heads: [0xEE << 32; POOL_HEADS], bytes: [0xEE; POOL_BYTES] };
         assert_eq!((made(&mut p, size), p.size), (0, size));
-        for k in 0..8 {
+        for k in 0..LIMIT {
             assert!(stands(&p, k, &Slot::FRESH), "a fresh slot");
         }
         if size == 4 {
-            let mut by_default = Pool { size: 0xEE, heads: [0xEE << 32; 64], bytes: [0xEE; 1784] };
+            let mut by_default = Pool { size: 0xEE, heads: [0xEE << 32; POOL_HEADS], bytes: [0xEE; POOL_BYTES] };
             assert_eq!((by_default.made_by_default(), &by_default), (0, &p));
         }
-        Pair { size, list: list.to_vec(), o: original(size, sorted(list)), p, counters: [0; 5], past: vec![Slot::FRESH; 8 - size] }
+        Pair { size, list: list.to_vec(), o: original(size, sorted(list)), p, counters: [0; 5], past: vec![Slot::FRESH; LIMIT - size] }
     }
     /// Sets every slot, within the size and past it, and the counters.
-    pub fn set(&mut self, slots: &[Slot; 8], counters: Counters) {
+    pub fn set(&mut self, slots: &Slots, counters: Counters) {
         for (k, s) in slots.iter().enumerate() {
             lay(&mut self.p, k, s);
             if k < self.size {
@@ -252,11 +282,15 @@ impl Pair {
         self.counters = counters;
         self.past = slots[self.size..].to_vec();
     }
-    pub fn slots(&self) -> [Slot; 8] {
+    pub fn slots(&self) -> Slots {
         std::array::from_fn(|k| if k < self.size { self.o.slot(k) } else { self.past[k - self.size] })
     }
     pub fn counters(&self) -> Counters {
         self.counters
+    }
+    /// How many slots within the size are in progress.
+    fn in_use(&self) -> usize {
+        (0..self.size).filter(|k| self.p.heads[8 * k] != 0).count()
     }
     /// One call, and all that it leaves. `length` is that of the entry with a length.
     pub fn hear(&mut self, h: &Heard, length: Option<usize>) -> Answer {
@@ -286,7 +320,7 @@ impl Pair {
             assert_eq!((got.payload, got.length), message_left(&result), "{h:?}, length {length:?}, size {}", self.size);
         }
         assert_eq!(self.counters, self.o.counters(), "counters after {h:?}");
-        for k in 0..8 {
+        for k in 0..LIMIT {
             let s = if k < self.size { self.o.slot(k) } else { self.past[k - self.size] };
             assert!(stands(&self.p, k, &s), "slot {k} after {h:?}: {s:?}, {:?}", &self.p.heads[8 * k..8 * k + 8]);
         }
@@ -295,7 +329,7 @@ impl Pair {
 }
 
 /// A call on a pool that document 01 calls impossible: refusal 1, whatever the PGN, and nothing changed.
-pub fn refused(size: usize, slots: &[Slot; 8], counters: Counters, list: &[u32], h: &Heard, length: Option<usize>, by_value: bool) {
+pub fn refused(size: usize, slots: &Slots, counters: Counters, list: &[u32], h: &Heard, length: Option<usize>, by_value: bool) {
     let mut p = pool_of(size, slots);
     let before = p.clone();
     let mut c = counters;
@@ -412,7 +446,7 @@ pub fn two_slots() -> u64 {
                 for source in [1, 2] {
                     for pgn in [127_489, 129_029] {
                         for (b0, b1) in [(0x00, 6), (0x00, 7), (0x20, 14), (0x01, 9), (0x22, 9)] {
-                            let mut slots = [Slot::FRESH; 8];
+                            let mut slots = [Slot::FRESH; LIMIT];
                             (slots[0], slots[1], slots[5]) = (*a, *b, *a);
                             p.set(&slots, [0; 5]);
                             p.hear(&Heard { now, pgn, source, data: [b0, b1, 11, 12, 13, 14, 15, 16] }, None);
@@ -429,22 +463,22 @@ pub fn two_slots() -> u64 {
 /// Making pools of every size, and above.
 pub fn making() -> u64 {
     let mut steps = 0;
-    for size in (0..1000).chain([usize::MAX, 1 << 32, 8 | 1 << 40]) {
+    for size in (0..1000).chain([usize::MAX, 1 << 32, LIMIT | 1 << 40]) {
         let mut p = Pool::ZEROS;
         let number = made(&mut p, size);
-        assert_eq!((number, p.size), if size > 8 { (1, 0) } else { (0, size) });
-        assert_eq!((p.heads, p.bytes), ([0; 64], [0; 1784]));
+        assert_eq!((number, p.size), if size > LIMIT { (1, 0) } else { (0, size) });
+        assert_eq!((p.heads, p.bytes), ([0; POOL_HEADS], [0; POOL_BYTES]));
         let ours = ours::Pool::new(size);
-        assert_eq!(ours.as_ref().map(|p| p.size()), if size > 8 { Err(&ImpossiblePool) } else { Ok(size) });
+        assert_eq!(ours.as_ref().map(|p| p.size()), if size > LIMIT { Err(&ImpossiblePool) } else { Ok(size) });
         assert_eq!(ours.as_ref().map_or_else(|e| e.number(), |_| 0), number);
         if size == 4 {
             assert_eq!(ours, Ok(ours::Pool::default()));
         }
         // over a pool that was in use: every number and byte, or with a refusal none
-        let lent = Pool { size: 3, heads: [300 << 32; 64], bytes: [0xEE; 1784] };
+        let lent = Pool { size: 3, heads: [300 << 32; POOL_HEADS], bytes: [0xEE; POOL_BYTES] };
         let mut q = lent.clone();
         assert_eq!(made(&mut q, size), number);
-        assert_eq!(q, if size > 8 { Pool { size: 0, ..lent } } else { p });
+        assert_eq!(q, if size > LIMIT { Pool { size: 0, ..lent } } else { p });
         steps += 2;
     }
     steps
@@ -454,7 +488,7 @@ pub fn making() -> u64 {
 
 /// The original over rows, as document 01's steps and the batch's promise have it: it stops before the first frame whose
 /// message has no room in the arena.
-fn originally<const N: usize>(slots: &[Slot; 8], counters: Counters, list: &'static [u32], rows: &Rows, told: &mut Told) -> Left {
+fn originally<const N: usize>(slots: &Slots, counters: Counters, list: &'static [u32], rows: &Rows, told: &mut Told) -> Left {
     let mut a = FastPacketAssembler::<N>::with_pool(list);
     for (k, s) in slots.iter().enumerate().take(N) {
         PoolState::set_slot(&mut a, k, s);
@@ -482,7 +516,7 @@ fn originally<const N: usize>(slots: &[Slot; 8], counters: Counters, list: &'sta
 pub struct Left {
     said: Vec<Said>,
     used: usize,
-    slots: [Slot; 8],
+    slots: Slots,
     counters: Counters,
 }
 
@@ -496,12 +530,11 @@ fn heard_in(rows: &Rows, i: usize) -> Heard {
     Heard { now: rows.times[i], pgn: rows.pgns[i], source: rows.sources[i], data: rows.data[8 * i..8 * i + 8].try_into().unwrap() }
 }
 
-type Originally = fn(&[Slot; 8], Counters, &'static [u32], &Rows, &mut Told) -> Left;
-const ORIGINALLY: [Originally; 9] =
-    [originally::<0>, originally::<1>, originally::<2>, originally::<3>, originally::<4>, originally::<5>, originally::<6>, originally::<7>, originally::<8>];
+type Originally = fn(&Slots, Counters, &'static [u32], &Rows, &mut Told) -> Left;
+const ORIGINALLY: [Originally; LIMIT + 1] = by_size!(originally);
 
 /// One batch on any possible pool, and all that it leaves: answers, messages, the rest of the lent rows, counters, slots.
-pub fn batch(size: usize, slots: &[Slot; 8], counters: Counters, list: &[u32], sorted: &'static [u32], rows: &Rows, room: usize, spare: usize) -> Left {
+pub fn batch(size: usize, slots: &Slots, counters: Counters, list: &[u32], sorted: &'static [u32], rows: &Rows, room: usize, spare: usize) -> Left {
     let n = rows.len();
     let (mut got, mut want) = (lent(n + spare, room), lent(n + spare, room));
     let mut p = pool_of(size, slots);
@@ -525,7 +558,7 @@ pub fn batch(size: usize, slots: &[Slot; 8], counters: Counters, list: &[u32], s
 const NO_CUT: usize = 5;
 
 /// A batch that is refused changes nothing: 1 for an impossible pool, 27 for a row that is too short, 1 before 27.
-pub fn batch_refused(size: usize, slots: &[Slot; 8], counters: Counters, list: &[u32], rows: &Rows, cut: usize) -> u32 {
+pub fn batch_refused(size: usize, slots: &Slots, counters: Counters, list: &[u32], rows: &Rows, cut: usize) -> u32 {
     let n = rows.len();
     let mut p = pool_of(size, slots);
     let before = p.clone();
@@ -550,10 +583,10 @@ pub fn batches(seed: u64, steps: u64) -> u64 {
     let sorted_lists = LISTS.map(sorted);
     let mut done = 0;
     while done < steps {
-        let size = r.below(9) as usize;
+        let size = any_size(&mut r);
         let which = r.below(6) as usize;
         let mut now = r.pick(&[1000, 100_000]);
-        let mut slots: [Slot; 8] = if r.one_in(2) { [Slot::FRESH; 8] } else { std::array::from_fn(|_| possible(&mut r, now)) };
+        let mut slots: Slots = if r.one_in(2) { [Slot::FRESH; LIMIT] } else { std::array::from_fn(|_| possible(&mut r, now)) };
         let mut counters = [r.below(1000) as u32; 5];
         for _ in 0..8 {
             let mut rows = Rows::default();
@@ -594,7 +627,7 @@ pub fn batches(seed: u64, steps: u64) -> u64 {
             let mut rows = Rows::default();
             rows.push(0, 127_489, 0, [0, 1, 2, 3, 4, 5, 6, 7]);
             batch_refused(size, &bad, counters, LISTS[which], &rows, r.below(6) as usize);
-            batch_refused(9, &slots, counters, LISTS[which], &rows, NO_CUT);
+            batch_refused(LIMIT + 1, &slots, counters, LISTS[which], &rows, NO_CUT);
             done += 2;
         }
     }
@@ -614,7 +647,7 @@ fn field(i: usize, n: u64) -> u64 {
 }
 
 /// Numbers from which the same heads are read, most of them wider than their fields.
-fn widened(r: &mut Rng, heads: &[u64; 64]) -> [u64; 64] {
+fn widened(r: &mut Rng, heads: &[u64; POOL_HEADS]) -> [u64; POOL_HEADS] {
     std::array::from_fn(|i| {
         let any = r.next();
         match i % 8 {
@@ -628,32 +661,32 @@ fn widened(r: &mut Rng, heads: &[u64; 64]) -> [u64; 64] {
 }
 
 /// The rule: a number is written only where the field that is read from it has changed.
-fn laid_on(old: &[u64; 64], new: &[u64; 64]) -> [u64; 64] {
+fn laid_on(old: &[u64; POOL_HEADS], new: &[u64; POOL_HEADS]) -> [u64; POOL_HEADS] {
     std::array::from_fn(|i| if field(i, old[i]) == new[i] { old[i] } else { new[i] })
 }
 
-fn heads_of(slots: &[Slot; 8]) -> [u64; 64] {
-    pool_of(8, slots).heads
+fn heads_of(slots: &Slots) -> [u64; POOL_HEADS] {
+    pool_of(LIMIT, slots).heads
 }
 
 /// Calls on pools with numbers wider than their fields: the same answers as on the narrow ones, which are held to the original,
-/// and each of the 64 numbers by the rule; after a refusal, all of them as they were.
+/// and each number of the heads by the rule; after a refusal, all of them as they were.
 pub fn wide_numbers(seed: u64, steps: u64) -> u64 {
     let mut r = Rng::new(seed);
     let (mut seen, mut kinds) = ([0u64; 6], BTreeMap::<u32, u64>::new());
     for _ in 0..steps {
         let now = r.pick(&[500, 1000, 100_000]);
-        let mut slots: [Slot; 8] = std::array::from_fn(|_| possible(&mut r, now));
-        let (size, list) = (r.below(9) as usize, LISTS[1 + r.below(5) as usize]);
+        let mut slots: Slots = std::array::from_fn(|_| possible(&mut r, now));
+        let (size, list) = (any_size(&mut r), LISTS[1 + r.below(5) as usize]);
         let h = heard(&mut r, &slots[..size], now);
         let length = r.one_in(3).then_some(8);
         let counters = [r.below(1000) as u32; 5];
         let by_value = r.one_in(2);
-        let bytes = |slots: &[Slot; 8]| -> [u8; 1784] { std::array::from_fn(|i| slots[i / 223].bytes[i % 223]) };
+        let bytes = |slots: &Slots| -> [u8; POOL_BYTES] { std::array::from_fn(|i| slots[i / 223].bytes[i % 223]) };
         if r.one_in(4) {
             // refusal 1: too large, or one slot that cannot be
-            let size = if r.one_in(2) { 9 + r.below(3) as usize } else { 1 + size.min(7) };
-            slots[0] = if size > 8 { slots[0] } else { Slot { in_progress: true, sequence: 8, ..slots[0] } };
+            let size = if r.one_in(2) { LIMIT + 1 + r.below(3) as usize } else { 1 + size.min(LIMIT - 1) };
+            slots[0] = if size > LIMIT { slots[0] } else { Slot { in_progress: true, sequence: 8, ..slots[0] } };
             let before = Pool { size, heads: widened(&mut r, &heads_of(&slots)), bytes: bytes(&slots) };
             let (mut p, mut c) = (before.clone(), counters);
             let got = called(&mut p, &mut c, list, &h, length, by_value);
@@ -762,11 +795,11 @@ fn heard(r: &mut Rng, slots: &[Slot], now: u64) -> Heard {
 /// Single calls on random possible pools: any time, any idle slot, any counters below the end.
 pub fn any_pool(seed: u64, steps: u64) -> u64 {
     let mut r = Rng::new(seed);
-    let mut pairs: Vec<Pair> = (0..=8).flat_map(|size| LISTS.map(|l| Pair::fresh(size, l))).collect();
+    let mut pairs: Vec<Pair> = (0..=LIMIT).flat_map(|size| LISTS.map(|l| Pair::fresh(size, l))).collect();
     for _ in 0..steps {
         let now = if r.one_in(4) { r.next() } else { r.pick(&[0, 500, 1000, 100_000, u64::MAX]) };
-        let slots: [Slot; 8] = std::array::from_fn(|_| possible(&mut r, now));
-        let k = r.below(pairs.len() as u64) as usize;
+        let slots: Slots = std::array::from_fn(|_| possible(&mut r, now));
+        let k = any_size(&mut r) * LISTS.len() + r.below(LISTS.len() as u64) as usize;
         let p = &mut pairs[k];
         let counters = std::array::from_fn(|_| if r.one_in(2) { r.next() as u32 >> 1 } else { r.pick(&[0, 1, u32::MAX - 1]) });
         p.set(&slots, counters);
@@ -783,14 +816,14 @@ pub fn impossible_pools(seed: u64, steps: u64) -> u64 {
     let mut done = 0;
     while done < steps {
         let now = 1000;
-        let mut slots: [Slot; 8] = std::array::from_fn(|_| possible(&mut r, now));
-        let size = if r.one_in(6) { 9 + (r.next() >> r.below(64)).min(u64::MAX - 9) as usize } else { 1 + r.below(8) as usize };
-        if size <= 8 {
+        let mut slots: Slots = std::array::from_fn(|_| possible(&mut r, now));
+        let size = if r.one_in(6) { LIMIT + 1 + (r.next() >> r.below(64)).min(u64::MAX - LIMIT as u64 - 1) as usize } else { any_size(&mut r).max(1) };
+        if size <= LIMIT {
             let s = &mut slots[r.below(size as u64) as usize];
             s.in_progress = true;
             match r.below(6) {
                 0 => s.sequence = 8 + r.below(248) as u8,
-                1 => s.expected = r.pick(&[0, 1, 6, 224, 255, 1784, usize::MAX]),
+                1 => s.expected = r.pick(&[0, 1, 6, 224, 255, POOL_BYTES, usize::MAX]),
                 2 => s.current = s.current.wrapping_add(r.pick(&[1, 7, usize::MAX])),
                 3 => s.last_index = s.last_index.wrapping_add(1),
                 4 => (s.last_index, s.current) = (31, 223),
@@ -800,7 +833,7 @@ pub fn impossible_pools(seed: u64, steps: u64) -> u64 {
                 continue;
             }
         }
-        let h = heard(&mut r, &slots[..size.min(8)], now);
+        let h = heard(&mut r, &slots[..size.min(LIMIT)], now);
         let counters = std::array::from_fn(|_| r.next() as u32);
         let length = r.one_in(3).then_some(r.below(10) as usize);
         refused(size, &slots, counters, LISTS[r.below(6) as usize], &h, length, h.now % 2 == 0);
@@ -813,7 +846,7 @@ pub fn impossible_pools(seed: u64, steps: u64) -> u64 {
 /// to the original: the name too.
 pub fn counters_at_the_end() -> u64 {
     let busy = Slot { in_progress: true, source: 1, pgn: 127_489, expected: 7, current: 6, ..Slot::FRESH };
-    let mut slots = [Slot::FRESH; 8];
+    let mut slots = [Slot::FRESH; LIMIT];
     slots[0] = busy;
     let list = [127_489];
     let mut steps = 0;
@@ -850,12 +883,12 @@ pub fn counters_at_the_end() -> u64 {
 // ---- where one name could be taken for another
 
 /// Every slot in progress and live up to 1500 ms, each of another source.
-fn full_pool() -> [Slot; 8] {
+fn full_pool() -> Slots {
     std::array::from_fn(|k| Slot { in_progress: true, source: 10 + k as u8, pgn: 127_489, sequence: 3, bytes: [k as u8; 223], expected: 223, current: 6, last_index: 0, last_time: 1000 })
 }
 
 /// One frame on the same pool by every call, each held to the original: the kind that all of them give, and the slots that they leave.
-fn by_every_call(size: usize, slots: &[Slot; 8], list: &[u32], h: &Heard) -> (u32, [Slot; 8]) {
+fn by_every_call(size: usize, slots: &Slots, list: &[u32], h: &Heard) -> (u32, Slots) {
     let mut pair = Pair::fresh(size, list);
     pair.set(slots, [7; 5]);
     let first = (pair.hear(h, None), pair.slots());
@@ -867,7 +900,7 @@ fn by_every_call(size: usize, slots: &[Slot; 8], list: &[u32], h: &Heard) -> (u3
 }
 
 /// The same on an impossible pool: 1 by every call.
-fn refused_by_every_call(size: usize, slots: &[Slot; 8], list: &[u32], h: &Heard) {
+fn refused_by_every_call(size: usize, slots: &Slots, list: &[u32], h: &Heard) {
     for (length, by_value) in SINGLE_CALLS {
         refused(size, slots, [7; 5], list, h, length, by_value);
     }
@@ -879,7 +912,7 @@ fn refused_by_every_call(size: usize, slots: &[Slot; 8], list: &[u32], h: &Heard
 pub fn no_slot_free() -> u64 {
     let full = full_pool();
     let mut steps = 0;
-    for size in [0, 1, 4, 8] {
+    for size in [0, 1, 4, 8].into_iter().chain(LARGE) {
         for announced in 0..=255 {
             let h = Heard { now: 1500, pgn: 127_489, source: 1, data: [0, announced, 1, 2, 3, 4, 5, 6] };
             let kind = match announced {
@@ -899,7 +932,7 @@ pub fn no_slot_free() -> u64 {
 /// whose frame is out of turn has ended.
 pub fn late_and_out_of_turn() -> u64 {
     let mut steps = 0;
-    for size in [1, 4, 8] {
+    for size in [1, 4, 8].into_iter().chain(LARGE) {
         for last_index in 0..=30u8 {
             let mut slots = full_pool();
             let own = &mut slots[size - 1];
@@ -932,7 +965,7 @@ pub fn unlisted_on_impossible_pools() -> u64 {
     };
     let mut steps = 0;
     for (size, slots) in [
-        (9, full),
+        (LIMIT + 1, full),
         (usize::MAX, full),
         bad(|s| s.sequence = 8),
         bad(|s| s.expected = 6),
@@ -962,22 +995,25 @@ pub fn told_apart() -> u64 {
 /// back, full pools, keys that collide, lists that are not in order.
 pub fn traffic(seed: u64, steps: u64) -> u64 {
     let mut r = Rng::new(seed);
+    let mut filled = BTreeSet::new();
     let mut done = 0;
     while done < steps {
-        let size = r.below(9) as usize;
+        let size = any_size(&mut r);
+        // more senders, closer frames and fewer silences, so that a large pool fills up too
+        let (most, pace, steady) = if size > 8 { (3 * size, 3, 1000) } else { (size + 3, 20, 40) };
         let mut p = Pair::fresh(size, LISTS[1 + r.below(5) as usize]);
         let mut now = r.pick(&[0, 1000, u64::MAX - 5_000_000]);
         // a sender: source, PGN, the frames that are left
         let mut senders: Vec<(u8, u32, Vec<[u8; 8]>, usize)> = vec![];
         for _ in 0..2000 {
-            match r.below(40) {
+            match r.below(steady) {
                 0 => now = now.saturating_add(501),
                 1 => now = now.saturating_sub(600),
                 2 => now = now.saturating_add(500),
                 3 => now = now.saturating_add(499),
-                _ => now = now.saturating_add(r.below(20)),
+                _ => now = now.saturating_add(r.below(pace)),
             }
-            if senders.is_empty() || senders.len() < size + 3 && r.one_in(3) {
+            if senders.is_empty() || senders.len() < most && r.one_in(3) {
                 let len = if r.one_in(2) { r.pick(&[1, 5, 6, 7, 13, 14, 20, 222, 223]) } else { 1 + r.below(223) as usize };
                 let payload = r.vec(len);
                 senders.push((r.below(size as u64 + 2) as u8, r.pick(&PGNS), frames(r.below(8) as u8, &payload), 0));
@@ -995,10 +1031,123 @@ pub fn traffic(seed: u64, steps: u64) -> u64 {
                 senders.swap_remove(k);
             }
             p.hear(&h, r.one_in(4).then_some(r.pick(&[8, 8, 8, 9, 7, 3, 1, 0])));
+            if p.in_use() == size {
+                filled.insert(size);
+            }
             done += 1;
         }
     }
+    assert!(steps < 1_000_000 || LARGE.iter().all(|size| filled.contains(size)), "all slots in use at some time, by sizes: {filled:?}");
     done
+}
+
+// ---- all slots in use
+
+/// The k-th of 64 keys that share sources and PGNs: source, PGN and sequence.
+fn key(k: usize) -> (u8, u32, u8) {
+    ((k % 8) as u8, [127_489, 129_029][k / 8 % 2], (k / 16) as u8)
+}
+
+/// Places 0 to n - 1 in any order.
+fn shuffled(r: &mut Rng, n: usize) -> Vec<usize> {
+    let mut order: Vec<usize> = (0..n).collect();
+    (1..n).rev().for_each(|i| order.swap(i, r.below(i as u64 + 1) as usize));
+    order
+}
+
+/// A message of 7 bytes or more: the number of its key, its bytes, its frames.
+struct Message {
+    key: usize,
+    payload: Vec<u8>,
+    frames: Vec<[u8; 8]>,
+}
+
+fn any_message(r: &mut Rng, k: usize) -> Message {
+    let length = 7 + r.below(217) as usize;
+    let payload = r.vec(length);
+    Message { key: k, frames: frames(key(k).2, &payload), payload }
+}
+
+/// A pool, and all the frames that it was given, for batches of the same.
+struct Filled {
+    pair: Pair,
+    rows: Rows,
+}
+
+impl Filled {
+    fn hear(&mut self, now: u64, k: usize, data: [u8; 8]) -> Answer {
+        let (source, pgn, _) = key(k);
+        self.rows.push(now, pgn, source, data);
+        self.pair.hear(&Heard { now, pgn, source, data }, self.rows.len().is_multiple_of(3).then_some(8))
+    }
+    /// A first frame is taken, and then so many slots are in use.
+    fn open(&mut self, now: u64, k: usize, first: [u8; 8], in_use: usize) {
+        assert_eq!((self.hear(now, k, first).kind, self.pair.in_use()), (raw::FRAGMENT_CONSUMED, in_use));
+    }
+    /// Each message from its second frame on, the senders in any order; no two readings are over 500 apart.
+    fn bring_to_an_end(&mut self, r: &mut Rng, messages: &[Message]) {
+        let mut left: Vec<(&Message, usize)> = messages.iter().map(|m| (m, 1)).collect();
+        while !left.is_empty() {
+            let which = r.below(left.len() as u64) as usize;
+            let (m, at) = left[which];
+            let got = self.hear(1000 + r.below(501), m.key, m.frames[at]);
+            if at + 1 < m.frames.len() {
+                assert_eq!(got.kind, raw::FRAGMENT_CONSUMED);
+                left[which].1 += 1;
+            } else {
+                assert_eq!((got.kind, &got.payload[..got.length]), (raw::MESSAGE_COMPLETE, &m.payload[..]));
+                left.swap_remove(which);
+            }
+        }
+    }
+    /// All frames again from a fresh pool, in batches of any length, leave the same.
+    fn in_batches(&self, r: &mut Rng) {
+        let (size, list) = (self.pair.size, &self.pair.list[..]);
+        let (mut slots, mut counters, mut from) = ([Slot::FRESH; LIMIT], [0; 5], 0);
+        while from < self.rows.len() {
+            let to = self.rows.len().min(from + 1 + r.below(300) as usize);
+            let mut rows = Rows::default();
+            for h in (from..to).map(|i| heard_in(&self.rows, i)) {
+                rows.push(h.now, h.pgn, h.source, h.data);
+            }
+            let after = batch(size, &slots, counters, list, sorted(list), &rows, 223 * rows.len(), 0);
+            (slots, counters, from) = (after.slots, after.counters, to);
+        }
+        assert_eq!((slots, counters), (self.pair.slots(), self.pair.counters()), "batches leave what the single calls leave");
+    }
+}
+
+/// Pools filled to the last slot. Then another key finds the pool full, six bytes need no slot, and a key that is there begins again; every message comes to
+/// its end; filled again and left silent over 500 ms, every slot is taken from its old message.
+pub fn all_slots_in_use(seed: u64, rounds: u64) -> u64 {
+    let mut r = Rng::new(seed);
+    let mut steps = 0;
+    for size in [1, 4, 8].into_iter().chain(LARGE) {
+        for _ in 0..rounds {
+            let mut f = Filled { pair: Pair::fresh(size, &[127_489, 129_029]), rows: Rows::default() };
+            let messages: Vec<Message> = shuffled(&mut r, size).into_iter().map(|k| any_message(&mut r, k)).collect();
+            for (done, m) in messages.iter().enumerate() {
+                f.open(1000, m.key, m.frames[0], done + 1);
+            }
+            assert_eq!(f.hear(1500, size, frames(key(size).2, &[7; 7])[0]).kind, raw::POOL_FULL);
+            assert_eq!(f.hear(1500, size, frames(key(size).2, &[6; 6])[0]).kind, raw::MESSAGE_COMPLETE);
+            let again = &messages[r.below(size as u64) as usize];
+            f.open(1500, again.key, again.frames[0], size);
+            f.bring_to_an_end(&mut r, &messages);
+            assert_eq!(f.pair.in_use(), 0);
+            let first = |k: usize| [key(k).2 << 5, 7, 1, 2, 3, 4, 5, 6];
+            for (done, k) in shuffled(&mut r, size).into_iter().enumerate() {
+                f.open(3000, k, first(k), done + 1);
+            }
+            for k in shuffled(&mut r, size) {
+                f.open(3501, size + k, first(size + k), size);
+            }
+            assert_eq!(f.pair.counters(), [size as u32, 1, 0, 0, 0]);
+            f.in_batches(&mut r);
+            steps += 2 * f.rows.len() as u64;
+        }
+    }
+    steps
 }
 
 // ---- the safe API
@@ -1031,7 +1180,7 @@ pub fn safe_pools(seed: u64, steps: u64) -> u64 {
     let mut r = Rng::new(seed);
     let mut done = 0;
     while done < steps {
-        let size = r.below(9) as usize;
+        let size = any_size(&mut r);
         let list = LISTS[1 + r.below(5) as usize];
         let (mut o, mut p) = (original(size, sorted(list)), ours::Pool::new(size).unwrap());
         let mut now = r.pick(&[0, 1000, u64::MAX - 5_000_000]);
@@ -1085,7 +1234,7 @@ pub fn any_rows(seed: u64, steps: u64) -> u64 {
     let mut r = Rng::new(seed);
     for _ in 0..steps {
         let list = LISTS[r.below(6) as usize];
-        let mut p = ours::Pool::new(r.below(9) as usize).unwrap();
+        let mut p = ours::Pool::new(any_size(&mut r)).unwrap();
         let mut length = |most| r.below(most) as usize;
         let (times, pgns, sources, data) = (length(6), length(6), length(6), length(50));
         let (kinds, lengths, arena) = (length(6), length(6), length(40));

@@ -46,6 +46,11 @@ fn the_names_are_told_apart_where_one_could_be_taken_for_another() {
 }
 
 #[test]
+fn pools_with_all_slots_in_use_are_answered_as_the_original_does() {
+    run("receiving with all slots in use", || receive::all_slots_in_use(12, 40));
+}
+
+#[test]
 fn traffic_is_answered_as_the_original_does() {
     run("receiving traffic", || receive::traffic(5, 2_000_000));
 }

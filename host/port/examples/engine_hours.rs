@@ -8,7 +8,7 @@ fn main() -> Result<(), Box<dyn std::error::Error>> {
     record[11..15].copy_from_slice(&1_245_185_u32.to_le_bytes());
     let (builder, held) = FastPacketBuilder::new(ENGINE, 35, None, &record, &[ENGINE], 0);
 
-    let mut pool = Pool::new(4)?; // refused above 8
+    let mut pool = Pool::new(4)?; // refused above 32
     let mut now_ms = 0;
     for frame in builder.build() {
         let frame = frame?;

@@ -79,7 +79,7 @@ pub struct Taken {
 }
 
 impl Pool {
-    /// A fresh pool of up to 8 slots, counters at 0; more slots are refused.
+    /// A fresh pool of up to 32 slots, counters at 0; more slots are refused.
     pub fn new(size: usize) -> Result<Self, ImpossiblePool> {
         let mut pool = Self { numbers: raw::Pool::ZEROS, counters: [0; raw::COUNTERS] };
         match pool.numbers.made_anew(size) {

@@ -75,7 +75,7 @@ impl fmt::Display for TooWide {
 
 impl std::error::Error for TooWide {}
 
-/// Why a pool was not made: more than 8 slots were asked for.
+/// Why a pool was not made: more than 32 slots were asked for.
 #[derive(Clone, Copy, Debug, PartialEq, Eq)]
 pub struct ImpossiblePool;
 
@@ -90,7 +90,7 @@ impl ImpossiblePool {
 
 impl fmt::Display for ImpossiblePool {
     fn fmt(&self, f: &mut fmt::Formatter) -> fmt::Result {
-        f.write_str("a pool has at most 8 slots")
+        f.write_str("a pool has at most 32 slots")
     }
 }
 

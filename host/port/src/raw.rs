@@ -16,7 +16,7 @@ pub use crate::entries::calls;
 
 // ---- the sizes of what is lent
 
-pub const POOL_SLOTS: usize = 8;
+pub const POOL_SLOTS: usize = 32;
 pub const SLOT_NUMBERS: usize = 8;
 pub const POOL_HEADS: usize = POOL_SLOTS * SLOT_NUMBERS;
 pub const POOL_BYTES: usize = POOL_SLOTS * MAX_FAST_PACKET_PAYLOAD;

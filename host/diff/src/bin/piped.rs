@@ -14,7 +14,8 @@ fn main() {
         steps += receive::traffic(25, 20_000);
         steps += receive::batches(26, 100_000);
         steps += receive::wide_numbers(28, 5_000);
-        steps += receive::safe_pools(29, 5_000);
+        steps += receive::safe_pools(29, 10_000);
+        steps += receive::all_slots_in_use(30, 1);
         steps += bench::every_split();
         steps + bench::random(27, 60_000)
     });

@@ -3,7 +3,7 @@
 //! called, so it needs no archive: cargo run --offline --release -p diff --features piped --bin replay_list
 //!
 //! The calls are made by a generator with a fixed seed: runs of several senders with losses, repeats, damage, silences around
-//! 500 ms and a clock that goes back, on pools of 0 to 8; and builders at any place.
+//! 500 ms and a clock that goes back, on pools of 0 to 8; builders at any place; and pools of 9, 17, 31 and 32 with all slots in use.
 use diff::ids;
 use diff::receive::{self, asked, message_of, Heard, Original};
 use diff::rng::Rng;
@@ -25,17 +25,20 @@ fn run<const N: usize>(r: &mut Rng, frames: usize, calls: &mut String, answers: 
     let mut a = FastPacketAssembler::<N>::with_pool(LIST);
     let mut now = r.pick(&[0, 1000, u64::MAX - 1_000_000]);
     let mut senders: Vec<(u8, u32, Vec<[u8; 8]>, usize)> = vec![];
+    // more senders of longer messages, closer frames and fewer silences, so that a large pool fills up too
+    let (most, pace, steady) = if N > 8 { (2 * N, 3, 1000) } else { (N + 3, 20, 30) };
+    let mut filled = false;
     for i in 0..frames {
-        match r.below(30) {
+        match r.below(steady) {
             0 => now = now.saturating_add(501),
             1 => now = now.saturating_sub(600),
             2 => now = now.saturating_add(500),
             3 => now = now.saturating_add(499),
-            _ => now = now.saturating_add(r.below(20)),
+            _ => now = now.saturating_add(r.below(pace)),
         }
-        if senders.is_empty() || senders.len() < N + 3 && r.one_in(3) {
+        if senders.is_empty() || senders.len() < most && r.one_in(3) {
             let len = if r.one_in(2) { r.pick(&[1, 5, 6, 7, 13, 14, 20, 26]) } else { 1 + r.below(40) as usize };
-            let len = if r.one_in(20) { 223 } else { len };
+            let len = if N > 8 { 40 + r.below(80) as usize } else if r.one_in(20) { 223 } else { len };
             let payload = r.vec(len);
             senders.push((r.below(N as u64 + 2) as u8, r.pick(&[127_489, 127_489, 129_029, 5]), receive::frames(r.below(8) as u8, &payload), 0));
         }
@@ -51,12 +54,14 @@ fn run<const N: usize>(r: &mut Rng, frames: usize, calls: &mut String, answers: 
         if *at >= fs.len() || r.one_in(60) {
             senders.swap_remove(k);
         }
-        let first = if i == 0 { char::from(b'0' + N as u8) } else { '.' };
+        let first = if i == 0 { char::from_digit(N as u32, 36).unwrap() } else { '.' };
         writeln!(calls, "{first}{now:016X}{pgn:08X}{source:02X}{}", hex(&data)).unwrap();
         let (result, said) = asked(&mut a, &Heard { now, pgn, source, data });
         let (kind, c) = (answer_name(said.kind), a.counters());
         writeln!(answers, "{kind} {} {} {} {} {} {}", c[0], c[1], c[2], c[3], c[4], hex(message_of(&result))).unwrap();
+        filled |= (0..N).all(|k| Original::slot(&a, k).in_progress);
     }
+    assert!(N <= 8 || filled, "all slots of {N} in use at some time");
 }
 
 fn build(r: &mut Rng, calls: &mut String, answers: &mut String) {
@@ -106,6 +111,9 @@ fn main() {
     }
     for _ in 0..1500 {
         build(&mut r, &mut calls, &mut answers);
+    }
+    for one in [run::<9>, run::<17>, run::<31>, run::<32>] {
+        one(&mut r, 400, &mut calls, &mut answers);
     }
     let dir = concat!(env!("CARGO_MANIFEST_DIR"), "/../../crates/replay/");
     std::fs::write(format!("{dir}stdin"), &calls).unwrap();

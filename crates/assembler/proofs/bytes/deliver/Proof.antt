@@ -5,12 +5,13 @@ use mathlib.Core.Path.{_≡_, refl, _∙_}
 use lib.ListN.{length, drop, length-set}
 use lib.Seq.{paste}
 use native.Mathlib.Omega.{arith}
+use Rattle.assembler.specs.Making.{poolBytes}
 use Rattle.assembler.proofs.Copies.{front-turn}
 use Rattle.assembler.proofs.bytes.deliver.Statement.{statement}
 use Rattle.assembler.proofs.bytes.deliver.Tie as tie
 
 abbrev Inv-loop : tie.InvT-loop
-Inv-loop out₀ bytes start n i₀ out i = (i ≤ n) × (length out₀ ≡ 223) × (length bytes ≡ 1784) × (out ≡ paste out₀ 0 (drop start bytes) i)
+Inv-loop out₀ bytes start n i₀ out i = (i ≤ n) × (length out₀ ≡ 223) × (length bytes ≡ poolBytes) × (out ≡ paste out₀ 0 (drop start bytes) i)
 
 abbrev μ-loop : tie.MeasureT-loop
 μ-loop out₀ bytes start n i₀ out i = n - i

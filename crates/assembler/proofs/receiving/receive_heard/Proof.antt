@@ -18,7 +18,7 @@ unfolding base
 limit = refl
 
 abbrev Inv-loop : tie.InvT-loop
-Inv-loop counters pgns heard q crowded s₀ i₀ s i = (i ≤ 8) × Whole q × (length (heard .«data») ≡ 8) × Walk base heard (q .size) (q .heads) s i
+Inv-loop counters pgns heard q crowded s₀ i₀ s i = (i ≤ poolLimit) × Whole q × (length (heard .«data») ≡ 8) × Walk base heard (q .size) (q .heads) s i
 
 abbrev μ-loop : tie.MeasureT-loop
 μ-loop counters pgns heard q crowded s₀ i₀ s i = i

@@ -5,12 +5,13 @@ use mathlib.Core.Path.{_≡_, refl}
 use lib.ListN.{length, drop, length-set}
 use lib.Seq.{paste}
 use native.Mathlib.Omega.{arith}
+use Rattle.assembler.specs.Making.{poolBytes}
 use Rattle.assembler.proofs.Copies.{copy-none, copy-turn}
 use Rattle.batch.proofs.bytes.deliver.Statement.{statement}
 use Rattle.batch.proofs.bytes.deliver.Tie as tie
 
 abbrev Inv-loop : tie.InvT-loop
-Inv-loop arena₀ at bytes start n i₀ arena i = (i ≤ n) × (length arena ≡ length arena₀) × (length bytes ≡ 1784) × (arena ≡ paste arena₀ at (drop start bytes) i)
+Inv-loop arena₀ at bytes start n i₀ arena i = (i ≤ n) × (length arena ≡ length arena₀) × (length bytes ≡ poolBytes) × (arena ≡ paste arena₀ at (drop start bytes) i)
 
 abbrev μ-loop : tie.MeasureT-loop
 μ-loop arena₀ at bytes start n i₀ arena i = n - i

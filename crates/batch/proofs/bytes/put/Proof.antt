@@ -5,12 +5,13 @@ use mathlib.Core.Path.{_≡_, refl}
 use lib.ListN.{length, drop}
 use lib.Seq.{paste}
 use native.Mathlib.Omega.{arith}
+use Rattle.assembler.specs.Making.{poolBytes}
 use Rattle.assembler.proofs.Copies.{copy-none, copy-turn}
 use Rattle.batch.proofs.bytes.put.Statement.{statement}
 use Rattle.batch.proofs.bytes.put.Tie as tie
 
 abbrev Inv-loop : tie.InvT-loop
-Inv-loop out₀ at from n frame i₀ out i = (i ≤ n) × (length out₀ ≡ 1784) × (length frame ≡ 8) × (out ≡ paste out₀ at (drop from frame) i)
+Inv-loop out₀ at from n frame i₀ out i = (i ≤ n) × (length out₀ ≡ poolBytes) × (length frame ≡ 8) × (out ≡ paste out₀ at (drop from frame) i)
 
 abbrev μ-loop : tie.MeasureT-loop
 μ-loop out₀ at from n frame i₀ out i = n - i

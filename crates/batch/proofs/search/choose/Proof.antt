@@ -5,6 +5,7 @@ use mathlib.Core.Path.{_≡_, refl, _∙_}
 use lib.ListN.{length, getD}
 use lib.Dec.{eqb}
 use native.Mathlib.Omega.{arith}
+use Rattle.session.specs.Rules.{poolLimit}
 use Rattle.batch.specs.inner.Mirror.{firstFrom, keyAt, ownAt, openAt, chosenIn}
 use Rattle.batch.proofs.SearchLaws.{passed-vacant, passed-key, down-none, down-turn, down-past, down-done}
 use Rattle.batch.proofs.search.choose.Statement.{statement}
@@ -12,7 +13,7 @@ use Rattle.batch.proofs.search.choose.Tie as tie
 
 abbrev Inv-loop : tie.InvT-loop
 Inv-loop keys owners lasts size key source time hit₀ own₀ free₀ s₀ hit own free s =
-    (s ≤ size) × (size ≤ 8) × (length keys ≡ 8) × (length owners ≡ 8) × (length lasts ≡ 8)
+    (s ≤ size) × (size ≤ poolLimit) × (length keys ≡ poolLimit) × (length owners ≡ poolLimit) × (length lasts ≡ poolLimit)
     × (hit ≡ firstFrom (keyAt keys key) s (size - s)) × (own ≡ firstFrom (ownAt keys owners lasts source time) s (size - s)) × (free ≡ firstFrom (openAt keys lasts time) s (size - s))
 
 abbrev μ-loop : tie.MeasureT-loop

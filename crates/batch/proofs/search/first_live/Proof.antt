@@ -4,6 +4,7 @@ use Prim.Native.Nat.{_-_, _≤_}
 use mathlib.Core.Path.{_≡_}
 use lib.ListN.{length}
 use native.Mathlib.Omega.{arith}
+use Rattle.session.specs.Rules.{poolLimit}
 use Rattle.batch.specs.inner.Mirror.{firstFrom, liveAt, liveIn}
 use Rattle.batch.proofs.SearchLaws.{up-none, up-found, up-turn, up-done}
 use Rattle.batch.proofs.search.first_live.Statement.{statement}
@@ -11,7 +12,7 @@ use Rattle.batch.proofs.search.first_live.Tie as tie
 
 abbrev Inv-loop : tie.InvT-loop
 Inv-loop keys lasts size key time s₀ s =
-    (s ≤ size) × (size ≤ 8) × (length keys ≡ 8) × (length lasts ≡ 8) × (firstFrom (liveAt keys lasts key time) s (size - s) ≡ firstFrom (liveAt keys lasts key time) 0 size)
+    (s ≤ size) × (size ≤ poolLimit) × (length keys ≡ poolLimit) × (length lasts ≡ poolLimit) × (firstFrom (liveAt keys lasts key time) s (size - s) ≡ firstFrom (liveAt keys lasts key time) 0 size)
 
 abbrev μ-loop : tie.MeasureT-loop
 μ-loop keys lasts size key time s₀ s = size - s

@@ -4,6 +4,7 @@ use Prim.Native.Nat.{_-_, _≤_}
 use mathlib.Core.Path.{_≡_, refl}
 use lib.ListN.{length}
 use native.Mathlib.Omega.{arith}
+use Rattle.session.specs.Rules.{poolLimit}
 use Rattle.assembler.proofs.Copies.{length-unmap}
 use Rattle.batch.specs.inner.Mirror.{Mirrors}
 use Rattle.batch.proofs.Mirrors.{mirrors-none, mirrors-turn}
@@ -11,10 +12,10 @@ use Rattle.batch.proofs.search.mirror_of.Statement.{statement}
 use Rattle.batch.proofs.search.mirror_of.Tie as tie
 
 abbrev Inv-loop : tie.InvT-loop
-Inv-loop heads keys₀ owners₀ lasts₀ i₀ keys owners lasts i = (i ≤ 8) × (length heads ≡ 8) × Mirrors i heads keys owners lasts
+Inv-loop heads keys₀ owners₀ lasts₀ i₀ keys owners lasts i = (i ≤ poolLimit) × (length heads ≡ poolLimit) × Mirrors i heads keys owners lasts
 
 abbrev μ-loop : tie.MeasureT-loop
-μ-loop heads keys₀ owners₀ lasts₀ i₀ keys owners lasts i = 8 - i
+μ-loop heads keys₀ owners₀ lasts₀ i₀ keys owners lasts i = poolLimit - i
 
 loop-holds : tie.Need-loop-holds Inv-loop μ-loop
 loop-holds c = (search needs, search (needs, length-unmap), mirrors-none _ _ _ _ refl refl refl)
@@ -29,7 +30,7 @@ loop-again c =
 
 returns : tie.Need-returns Inv-loop μ-loop
 returns c =
-    let full : c .before .loop .i ≡ 8 = omega arith in
+    let full : c .before .loop .i ≡ poolLimit = omega arith in
     rw full at (c .before .loop .inv .2)
 
 pub mirror-of-spec : {M : Type 1} → statement M

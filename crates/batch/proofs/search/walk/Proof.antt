@@ -14,7 +14,7 @@ use Rattle.batch.proofs.search.walk.Statement.{statement}
 use Rattle.batch.proofs.search.walk.Tie as tie
 
 abbrev Inv-loop : tie.InvT-loop
-Inv-loop size heard heads s₀ i₀ s i = (i ≤ 8) × (length heads ≡ 8) × Walk base heard size heads s i
+Inv-loop size heard heads s₀ i₀ s i = (i ≤ poolLimit) × (length heads ≡ poolLimit) × Walk base heard size heads s i
 
 abbrev μ-loop : tie.MeasureT-loop
 μ-loop size heard heads s₀ i₀ s i = i
@@ -28,7 +28,7 @@ loop-holds : tie.Need-loop-holds Inv-loop μ-loop
 unfolding pick
 loop-holds c =
     let a = c .before .before .args in
-    let long : length (a .t1) ≡ 8 = search (needs, length-unmap) in
+    let long : length (a .t1) ≡ poolLimit = search (needs, length-unmap) in
     let low : a .size ≤ poolLimit = c .before .if1 .left in
     let small = le-ltb poolLimit (a .size) low in
     let walk : Walk base (a .heard) (a .size) (a .t1) (c .nothing-found2 .result) (a .size) =
