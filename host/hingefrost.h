@@ -13,8 +13,8 @@
  *
  * Pointers. A slice is a pointer and a length, in elements. A name with a number in brackets points to exactly that many
  * elements. All of it is the caller's, aligned as its type is.
- * - The numbers in brackets are those of the archive that comes with this header: compile with the header of the archive that you
- *   link. Before document 02's No. 7 a pool had 8 slots at most, and lent less.
+ * - The numbers in brackets are those of the archive that comes with this header. Compile with the header of the archive that you
+ *   link: the arrays of an older one may be too short.
  * - A slice of length 0 may have any pointer, NULL too. No other pointer may be NULL.
  * - What a call writes through must not overlap anything else that the same call is given, read or written. What it only reads
  *   may overlap.

@@ -129,7 +129,8 @@ static void cut_frames(void) {
 
 static void messages(void) {
     hf_counters_new(&counters);
-    expect(hf_pool_new(&pool, HF_POOL_SLOTS + 1) == HF_REFUSED_IMPOSSIBLE_POOL && pool.size == 0, "a pool of 33: 1");
+    expect(HF_POOL_SLOTS == 32 && hf_pool_new(&pool, 32) == HF_OK && pool.size == 32 && hear(0, "\x00\x07" "abcdef") == HF_FRAGMENT_CONSUMED, "a pool of 32, and a frame for it");
+    expect(hf_pool_new(&pool, 33) == HF_REFUSED_IMPOSSIBLE_POOL && pool.size == 0, "a pool of 33: 1");
     hf_pool_default(&pool);
     expect(pool.size == HF_DEFAULT_SLOTS, "four slots by default");
     expect(hf_pool_new(&pool, 1) == HF_OK && pool.size == 1, "one slot");

@@ -107,10 +107,10 @@ pub(crate) fn made() {
     show_made(b"a pool of 33: ", 33);
 }
 
-fn heard_by_33(words: &[u8], arrival: Arrival) {
+fn heard_by_size(words: &[u8], size: usize, arrival: Arrival) {
     say::text(words);
     let mut pool = Pool::default();
-    pool.size = 33;
+    pool.size = size;
     show(pool, left::no_counts(), arrival);
 }
 
@@ -125,9 +125,22 @@ fn heard_by_sequence_eight(words: &[u8], arrival: Arrival) {
 
 // An impossible pool is refused before the frame is looked at.
 pub(crate) fn refusals() {
-    heard_by_33(b"a first frame for a pool of size 33: ", frame(0, 35, 0, 7));
-    heard_by_33(b"an unlisted PGN for a pool of size 33: ", unlisted_frame());
-    heard_by_33(b"six bytes for a pool of size 33: ", frame(0, 35, 0, 6));
+    heard_by_size(
+        b"a first frame for a pool of size 32: ",
+        32,
+        frame(0, 35, 0, 7),
+    );
+    heard_by_size(
+        b"a first frame for a pool of size 33: ",
+        33,
+        frame(0, 35, 0, 7),
+    );
+    heard_by_size(
+        b"an unlisted PGN for a pool of size 33: ",
+        33,
+        unlisted_frame(),
+    );
+    heard_by_size(b"six bytes for a pool of size 33: ", 33, frame(0, 35, 0, 6));
     heard_by_sequence_eight(
         b"an unlisted PGN for a slot with sequence 8: ",
         unlisted_frame(),
