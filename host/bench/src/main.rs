@@ -1,7 +1,7 @@
 //! Both sides over the same inputs in one process, repetitions interleaved: nanoseconds an item of the original (median),
 //! and of the port the ratio to it (median of the ratios of neighbours, with lower and upper quartile).
 //!
-//! cargo run --offline --profile speed --bin bench [repetitions] [frames] [receiving, building, identifiers or oracle]
+//! cargo run --offline --profile speed --bin bench [repetitions] [frames] [receiving, first, building, identifiers or oracle]
 mod workloads;
 use diff::reading::{read, Reading};
 use port::assembler::Rows;
@@ -116,10 +116,10 @@ fn head(columns: &[&str]) {
     println!("|---|---|{}", "---|".repeat(columns.len()));
 }
 
-fn receiving<const N: usize>(reps: usize, n: usize) {
-    println!("\nReceiving, pool of {N}, a frame:");
+fn receiving<const N: usize>(reps: usize, title: &str, workloads: Vec<(&str, Vec<u32>, Rows)>) {
+    println!("\n{title}, pool of {N}, a frame:");
     head(&["single call", "by value", "batch of 1", "batch of 16", "batch of 64", "batch of 256"]);
-    for (name, list, w) in workloads::all(n, N) {
+    for (name, list, w) in workloads {
         let leaked: &'static [u32] = list.clone().leak();
         let mut t: Vec<Told> = (0..7).map(|_| Told::room(w.len(), 8 * w.len() + 300)).collect();
         let [t0, t1, t2, t3, t4, t5, t6] = &mut t[..] else { unreachable!() };
@@ -260,9 +260,14 @@ fn main() {
     let only = std::env::args().nth(3);
     let wanted = |name: &str| only.as_deref().is_none_or(|o| o == name);
     if wanted("receiving") {
-        receiving::<4>(reps, n);
-        receiving::<8>(reps, n);
-        receiving::<32>(reps, n);
+        receiving::<4>(reps, "Receiving", workloads::all(n, 4));
+        receiving::<8>(reps, "Receiving", workloads::all(n, 8));
+        receiving::<32>(reps, "Receiving", workloads::all(n, 32));
+    }
+    if wanted("first") {
+        receiving::<4>(reps, "First frames", workloads::first_frames(n, 4));
+        receiving::<8>(reps, "First frames", workloads::first_frames(n, 8));
+        receiving::<32>(reps, "First frames", workloads::first_frames(n, 32));
     }
     if wanted("building") {
         building(reps, n);

@@ -1,4 +1,4 @@
-//! Eight receive workloads, and one more for a large pool: rows of frames for a pool of some size.
+//! Eight receive workloads, and one more for a large pool: rows of frames for a pool of some size. Then first frames alone.
 use diff::receive::frames;
 use diff::rng::Rng;
 use port::assembler::Rows;
@@ -105,4 +105,77 @@ pub fn all(n: usize, size: usize) -> Vec<(&'static str, Vec<u32>, Rows)> {
         all.push(("a source for each slot, 26 bytes, list of 6", list(6), interleaved(n, size, 26)));
     }
     all
+}
+
+/// Whose slot a first frame comes to: one that its source had last, or one of another source.
+#[derive(Clone, Copy)]
+enum Sender {
+    Same,
+    Others,
+}
+
+impl Sender {
+    fn source(self, i: usize) -> u8 {
+        match self {
+            Sender::Same => 200,
+            Sender::Others => 200 + (i % 8) as u8,
+        }
+    }
+}
+
+/// `busy` slots hold a message of their own source.
+fn begun(busy: usize) -> Rows {
+    let mut w = Rows::default();
+    for k in 0..busy {
+        w.push(0, 129_029, k as u8, frames(0, &[7; 200])[0]);
+    }
+    w
+}
+
+/// First frames that open a free slot behind `busy` live ones. None would leave the slot free: a frame out of turn breaks each, which costs both sides little.
+fn opening(n: usize, busy: usize, sender: Sender) -> Rows {
+    let mut w = begun(busy);
+    for i in 0..(n - busy) / 2 {
+        let fs = frames((i % 8) as u8, &[9; 20]);
+        w.push(1, 127_489, sender.source(i), fs[0]);
+        w.push(1, 127_489, sender.source(i), fs[2]);
+    }
+    w
+}
+
+/// First frames 501 ms apart: whatever is in the pool has expired.
+fn expired(n: usize, size: usize, sender: Sender) -> Rows {
+    let mut w = begun(size);
+    for i in 0..n - size {
+        w.push(501 * (i as u64 + 1), 127_489, sender.source(i), frames((i % 8) as u8, &[9; 20])[0]);
+    }
+    w
+}
+
+/// First frames of the messages that a full pool holds, from slot to slot.
+fn restarted(n: usize, size: usize) -> Rows {
+    let mut w = begun(size);
+    for i in 0..n - size {
+        w.push(1, 129_029, (i % size) as u8, frames(0, &[7; 200])[0]);
+    }
+    w
+}
+
+/// First frames of one message, in a pool that holds no other.
+fn restarted_alone(n: usize) -> Rows {
+    restarted(n, 1)
+}
+
+pub fn first_frames(n: usize, size: usize) -> Vec<(&'static str, Vec<u32>, Rows)> {
+    vec![
+        ("empty, a source and its slot", list(6), opening(n, 0, Sender::Same)),
+        ("empty, other sources", list(6), opening(n, 0, Sender::Others)),
+        ("half full, a source and its slot", list(6), opening(n, size / 2, Sender::Same)),
+        ("half full, other sources", list(6), opening(n, size / 2, Sender::Others)),
+        ("full", list(6), full(n, size)),
+        ("full, each message begun again", list(6), restarted(n, size)),
+        ("all expired, a source and its slot", list(6), expired(n, size, Sender::Same)),
+        ("all expired, other sources", list(6), expired(n, size, Sender::Others)),
+        ("one message, begun again", list(6), restarted_alone(n)),
+    ]
 }
