@@ -10,3 +10,4 @@ pub mod Unique
 pub mod ByCalls
 pub mod AtEight
 pub mod Unsent
+pub mod OneWalk

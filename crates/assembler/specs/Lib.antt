@@ -1,6 +1,7 @@
 pub mod Making
 pub mod Call
 pub mod Slots
+pub mod OneWalk
 pub mod Step
 pub mod Runs
 pub mod View

@@ -7,3 +7,4 @@ pub mod Totals
 pub mod Fills
 pub mod Any
 pub mod Laying
+pub mod OneWalk

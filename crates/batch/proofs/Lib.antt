@@ -2,10 +2,12 @@ pub mod MemoryLaws
 pub mod LengthLaws
 pub mod RowLaws
 pub mod SearchLaws
+pub mod WalkLaws
 pub mod WayLaws
 pub mod Mirrors
 pub mod Runs
 pub mod Sought
+pub mod OneWalk
 pub mod Steps
 pub mod Unique
 pub mod Continues

@@ -149,11 +149,11 @@ module _ (f : Heard) (n : ℕ) (hs : List Head) (ks os ts : List ℕ) (long : le
       ∙ from-first t u d (take n hs) 0 (λ j l. rw (zero-add j, getD-take n hs j d (omega (arith, all))) (same j (omega (arith, all))))
       ∙ ixed-place (firstAt u (take n hs))
 
-  seen-here : foundIn base f n hs ≡ seen base f 0 (take n hs)
+  pub seen-here : foundIn base f n hs ≡ seen base f 0 (take n hs)
   unfolding foundIn seenIf
   seen-here = rw (le-ltb poolLimit n small)
 
-  chosen-is : chosenIn ks os ts n (frameKey f) (f .«source_address») (f .«now_ms») ≡ firstOf (foundIn base f n hs .key) (firstOf (foundIn base f n hs .own) (foundIn base f n hs .free))
+  pub chosen-is : chosenIn ks os ts n (frameKey f) (f .«source_address») (f .«now_ms») ≡ firstOf (foundIn base f n hs .key) (firstOf (foundIn base f n hs .own) (foundIn base f n hs .free))
   unfolding chosenIn
   chosen-is =
       rw (
@@ -166,7 +166,7 @@ module _ (f : Heard) (n : ℕ) (hs : List Head) (ks os ts : List ℕ) (long : le
         one (openAt ks ts (f .«now_ms»)) (isFree base f) (λ j l. unfold openAt in shown-open f (getD hs j d) _ _ _ (m .at j d l)),
       )
 
-  live-is : liveIn ks ts n (frameKey f) (f .«now_ms») ≡ foundIn base f n hs .live
+  pub live-is : liveIn ks ts n (frameKey f) (f .«now_ms») ≡ foundIn base f n hs .live
   unfolding liveIn
   live-is =
       rw (seen-here, seen-live base f (take n hs))

@@ -7,6 +7,7 @@ mod row_lengths;
 mod rows;
 mod search;
 mod taking;
+mod walks;
 mod ways;
 
 use assembler::Pool;

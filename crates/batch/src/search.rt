@@ -1,21 +1,19 @@
 // The search for a slot. Keys, owners and times stand beside the heads in three small rows, so that a walk reads little.
 ghost use mathlib.Core.Path.{_≡_};
-ghost use mathlib.Core.Bool.{not, _&&_, _||_};
 ghost use Prim.Native.Nat.{_/_, _≤_, _<_};
 ghost use lib.ListN.{length, getD};
-ghost use lib.Dec.{eqb};
-ghost use Rattle.base.specs.Pick.{pick};
-ghost use Rattle.session.specs.Rules.{base, poolLimit, silence};
+ghost use Rattle.session.specs.Rules.{base, poolLimit};
 ghost use Rattle.session.specs.Frames.{sizeOf};
-ghost use Rattle.session.specs.inner.Search.{foundIn, firstOf};
-ghost use Rattle.batch.specs.inner.Mirror.{InRange, Mirrors, packed, keyNumber, frameKey, chosenIn, liveIn, sought};
+ghost use Rattle.session.specs.inner.Search.{foundIn};
+ghost use Rattle.batch.specs.inner.Mirror.{InRange, Mirrors, packed, keyNumber, frameKey, sought};
+use crate::walks::choose;
+use crate::walks::first_live;
 use fast_packet::MAX_FAST_PACKET_PAYLOAD;
 use session::FIRST_FRAME_PAYLOAD;
 use session::Found;
 use session::Head;
 use session::Heard;
 use session::POOL_LIMIT;
-use session::SESSION_TIMEOUT_MS;
 use session::look;
 use session::nothing_found;
 
@@ -98,123 +96,13 @@ pub(crate) fn mirror_of(heads: [Head; POOL_LIMIT]) -> Mirror
     }
 }
 
-// ---- tests of one place
-
-// A clock that was set back means no silence.
-fn is_silent(time: u64, last: u64) -> bool
-    ensures { λ r. ⌜ r ≡ silence time last ⌝ }
-{
-    if last <= time {
-        SESSION_TIMEOUT_MS < time - last
-    } else {
-        false
-    }
-}
-
-fn is_open(key: u64, time: u64, last: u64) -> bool
-    ensures { λ r. ⌜ r ≡ (eqb key 0 || silence time last) ⌝ }
-{
-    if key == 0 {
-        true
-    } else {
-        is_silent(time, last)
-    }
-}
-
-fn is_own(free: bool, owner: u8, source: u8) -> bool
-    ensures { λ r. ⌜ r ≡ (free && eqb owner source) ⌝ }
-{
-    if free { owner == source } else { false }
-}
-
-fn is_live(here: u64, key: u64, time: u64, last: u64) -> bool
-    ensures { λ r. ⌜ r ≡ (eqb here key && not (silence time last)) ⌝ }
-{
-    if here == key {
-        !is_silent(time, last)
-    } else {
-        false
-    }
-}
-
-// A place of another key that is not open is nothing to a first frame.
-fn is_passed(here: u64, key: u64, vacant: bool) -> bool
-    ensures { λ r. ⌜ r ≡ (not vacant && not (eqb here key)) ⌝ }
-{
-    if vacant { false } else { here != key }
-}
-
-fn either(b: bool, x: usize, y: usize) -> usize
-    ensures { λ r. ⌜ r ≡ pick b x y ⌝ }
-{
-    if b { x } else { y }
-}
-
-fn first_of(a: usize, b: usize) -> usize
-    ensures { λ r. ⌜ r ≡ firstOf a b ⌝ }
-{
-    if a < POOL_LIMIT { a } else { b }
-}
+// ---- where a frame goes
 
 fn first_size(heard: Heard) -> usize
     ensures { λ r. ⌜ r ≡ sizeOf heard ⌝ }
 {
     let data = heard.data;
     data[1] as usize
-}
-
-// ---- walks
-
-// From the last place to the first, so that what is found last stands first.
-fn choose(
-    keys: &[u64; POOL_LIMIT],
-    owners: &[u8; POOL_LIMIT],
-    lasts: &[u64; POOL_LIMIT],
-    size: usize,
-    key: u64,
-    source: u8,
-    time: u64,
-) -> usize
-    requires { ⌜ (length (now keys) ≡ poolLimit) × (length (now owners) ≡ poolLimit) × (length (now lasts) ≡ poolLimit) × (size ≤ poolLimit) ⌝ }
-    ensures { λ r. ⌜ r ≡ chosenIn (now (keys .entry)) (now (owners .entry)) (now (lasts .entry)) size key source time ⌝ }
-{
-    let mut hit = POOL_LIMIT;
-    let mut own = POOL_LIMIT;
-    let mut free = POOL_LIMIT;
-    let mut s = size;
-    while 0 < s {
-        s -= 1;
-        let here = keys[s];
-        let vacant = is_open(here, time, lasts[s]);
-        if is_passed(here, key, vacant) {
-            continue;
-        }
-        hit = either(here == key, s, hit);
-        own = either(is_own(vacant, owners[s], source), s, own);
-        free = either(vacant, s, free);
-    }
-    first_of(hit, first_of(own, free))
-}
-
-// A message's frames come close together: the first live place with the key ends the walk.
-fn first_live(
-    keys: &[u64; POOL_LIMIT],
-    lasts: &[u64; POOL_LIMIT],
-    size: usize,
-    key: u64,
-    time: u64,
-) -> usize
-    requires { ⌜ (length (now keys) ≡ poolLimit) × (length (now lasts) ≡ poolLimit) × (size ≤ poolLimit) ⌝ }
-    ensures { λ r. ⌜ r ≡ liveIn (now (keys .entry)) (now (lasts .entry)) size key time ⌝ }
-{
-    let mut s: usize = 0;
-    while s < size {
-        if is_live(keys[s], key, time, lasts[s]) {
-            return s;
-        }
-        s += 1;
-    }
-    POOL_LIMIT
 }
 
 // The place that the frame takes, or POOL_LIMIT.

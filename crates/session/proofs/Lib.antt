@@ -5,3 +5,4 @@ pub mod Walks
 pub mod Seen
 pub mod Sound
 pub mod Unique
+pub mod OneWalk

@@ -1,6 +1,6 @@
 -- `search::first_size` meets its contract: the facts on each way out pick the law of that case. Assumes nothing.
 use borrow.Author.Needs.{needs}
-use Rattle.batch.proofs.SearchLaws.{places}
+use Rattle.batch.proofs.SearchLaws.{size-is}
 use Rattle.batch.proofs.search.first_size.Statement.{statement}
 use Rattle.batch.proofs.search.first_size.Tie as tie
 
@@ -10,4 +10,4 @@ first-size-spec =
     (tie.spec
     (λ c. search needs)
     (λ c. search needs)
-    (λ c. search (needs, places)))
+    (λ c. search (needs, size-is)))

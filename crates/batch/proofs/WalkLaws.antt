@@ -1,0 +1,282 @@
+-- The cases of the tests of one place, how far a walk has come, and that the one walk's choice is that of three. Assumes nothing.
+use Prim.Native.Nat.{ℕ, zero, suc, _+_, _-_, _≤_, _<_}
+use mathlib.Core.Path.{_≡_, refl, sym, ap, _∙_}
+use mathlib.Core.Bool.{Bool, true, false, not, _&&_, _||_, true≢false}
+use mathlib.Core.List.{List}
+use lib.ListN.{getD}
+use lib.Dec.{eqb, ltb}
+use native.Mathlib.Omega.{arith}
+use native.Mathlib.Nat.{zero-add, add-zero}
+use borrow.Author.Tests.{lt-ltb, le-ltb, eq-eqb, ne-eqb}
+use Rattle.base.specs.Pick.{pick}
+use Rattle.base.proofs.Bools.{or-left, or-right}
+use Rattle.base.proofs.Cases.{less?}
+use Rattle.session.specs.Rules.{poolLimit, silence}
+use Rattle.session.specs.inner.Search.{firstOf}
+use Rattle.session.proofs.SearchLaws.{first-here}
+use Rattle.batch.specs.declared.walks.Stop.{Stop}
+use Rattle.batch.specs.inner.Mirror.{firstFrom, keyAt, openAt, ownAt, liveAt, chosenIn}
+use Rattle.batch.specs.inner.Walks.{ownerAt, inFour, Past, Stops, keyed, other, nowhere}
+
+-- ---- tests of one place
+
+module _ (time last : ℕ) where
+  pub silent-since : (b : ℕ) → b ≡ time - 500 → ltb last b ≡ silence time last
+  unfolding silence
+  silent-since b e =
+      rw e
+      (less? last (time - 500)
+      (λ l. lt-ltb last (time - 500) l ∙ sym (lt-ltb 500 (time - last) (omega arith)))
+      (λ l. le-ltb last (time - 500) l ∙ sym (le-ltb 500 (time - last) (omega arith))))
+
+  pub open-is : (k : ℕ) (b : Bool) → b ≡ silence time last → (eqb k 0 || b) ≡ (eqb k 0 || silence time last)
+  open-is k b e = rw e
+
+  pub own-is : (k o s : ℕ) (b : Bool) → b ≡ (eqb k 0 || silence time last) → (b && eqb o s) ≡ ((eqb k 0 || silence time last) && eqb o s)
+  own-is k o s b e = rw e
+
+-- whether the place is live with the key
+module _ (keys lasts : List ℕ) (key time j : ℕ) where
+  pub live-other : (getD keys j 0 ≡ key → ⊥) → liveAt keys lasts key time j ≡ false
+  unfolding liveAt
+  live-other n = rw (ne-eqb (getD keys j 0) key n)
+
+  module _ (e : getD keys j 0 ≡ key) (b : Bool) (eb : b ≡ silence time (getD lasts j 0)) where
+    pub live-here : not b ≡ true → liveAt keys lasts key time j ≡ true
+    unfolding liveAt
+    live-here y = rw (eq-eqb (getD keys j 0) key e, ← eb) y
+
+    pub live-gone : not b ≡ false → liveAt keys lasts key time j ≡ false
+    unfolding liveAt
+    live-gone y = rw (eq-eqb (getD keys j 0) key e, ← eb) y
+
+-- whether the place has the key
+module _ (keys : List ℕ) (key j : ℕ) where
+  pub key-here : getD keys j 0 ≡ key → keyAt keys key j ≡ true
+  unfolding keyAt
+  key-here e = eq-eqb (getD keys j 0) key e
+
+  pub key-gone : (getD keys j 0 ≡ key → ⊥) → keyAt keys key j ≡ false
+  unfolding keyAt
+  key-gone n = ne-eqb (getD keys j 0) key n
+
+-- a place of this source that is open is of this source, and is open
+module _ (keys owners lasts : List ℕ) (source time j : ℕ) where
+  pub own-fails : (b : Bool) → b ≡ ((eqb (getD keys j 0) 0 || silence time (getD lasts j 0)) && eqb (getD owners j 0) source) → b ≡ false → ownAt keys owners lasts source time j ≡ false
+  unfolding ownAt openAt
+  own-fails b e y = sym e ∙ y
+
+  pub own-owner : ownerAt owners source j ≡ false → ownAt keys owners lasts source time j ≡ false
+  unfolding ownerAt ownAt
+  own-owner e = rw e (and-false (openAt keys lasts time j))
+    where
+      and-false : (b : Bool) → (b && false) ≡ false
+      and-false true = refl
+      and-false false = refl
+
+  pub own-open : openAt keys lasts time j ≡ false → ownAt keys owners lasts source time j ≡ false
+  unfolding ownAt
+  own-open e = rw e
+
+pub ruleset places = (silent-since, open-is, own-is)
+
+-- ---- how far a walk has come
+
+module _ (t : ℕ → Bool) where
+  pub past-none : (i : ℕ) → Past t i i
+  past-none i = record { low = omega arith; fails = λ j l h. absurd (omega arith) }
+
+  pub past-turn : (i s : ℕ) → Past t i s → t s ≡ false → Past t i (s + 1)
+  past-turn i s p e = record { low = omega (arith, p .low); fails = λ j l h. less? j s (λ m. p .fails j l m) (λ m. let here : j ≡ s = omega arith in rw here e) }
+
+  pub past-join : (i s r : ℕ) → Past t i s → Past t s r → Past t i r
+  past-join i s r p q = record { low = omega (arith, p .low, q .low); fails = λ j l h. less? j s (λ m. p .fails j l m) (λ m. q .fails j m h) }
+
+  pub past-four : (i s : ℕ) → Past t i s → inFour t s ≡ false → Past t i (s + 4)
+  unfolding inFour
+  past-four i s p e =
+      let abc = or-left ((t s || t (s + 1)) || t (s + 2)) (t (s + 3)) e in
+      let ab = or-left (t s || t (s + 1)) (t (s + 2)) abc in
+      let p1 = past-turn i s p (or-left (t s) (t (s + 1)) ab) in
+      let p2 = past-turn i (s + 1) p1 (or-right (t s) (t (s + 1)) ab) in
+      let e2 : (s + 1) + 1 ≡ s + 2 = omega arith in
+      let e3 : (s + 2) + 1 ≡ s + 3 = omega arith in
+      let e4 : (s + 3) + 1 ≡ s + 4 = omega arith in
+      let p3 = past-turn i (s + 2) (rw e2 at p2) (or-right (t s || t (s + 1)) (t (s + 2)) abc) in
+      let p4 = past-turn i (s + 3) (rw e3 at p3) (or-right ((t s || t (s + 1)) || t (s + 2)) (t (s + 3)) e) in
+      rw e4 at p4
+
+-- what fails wherever another fails
+pub past-with : (t u : ℕ → Bool) (i r : ℕ) → ((j : ℕ) → t j ≡ false → u j ≡ false) → Past t i r → Past u i r
+past-with t u i r both p = record { low = p .low; fails = λ j l h. both j (p .fails j l h) }
+
+-- a walk for an open place of the source, that leapt from place s to place r
+module _ (keys owners lasts : List ℕ) (source time : ℕ) (i s r : ℕ) where
+  pub past-leap : Past (ownAt keys owners lasts source time) i s → ownAt keys owners lasts source time s ≡ false → Past (ownerAt owners source) (s + 1) r → Past (ownAt keys owners lasts source time) i r
+  past-leap p e q =
+      let t = ownAt keys owners lasts source time in
+      past-join t i (s + 1) r (past-turn t i s p e) (past-with (ownerAt owners source) t (s + 1) r (λ j. own-owner keys owners lasts source time j) q)
+
+-- a walk that came to the end
+pub past-all : (k t : ℕ → Bool) (i s n : ℕ) → s ≤ n → n ≤ s → Past k i s → Past t i s → Stops k t i n (record { at = poolLimit; keyed = false })
+past-all k t i s n l h p q = let all : s ≡ n = omega arith in nowhere refl refl (rw all at p) (rw all at q)
+
+-- ---- the first place that passes, from what was passed by
+
+module _ (t : ℕ → Bool) where
+  skipped : (i d m : ℕ) → Past t i (i + d) → firstFrom t i (d + m) ≡ firstFrom t (i + d) m
+  unfolding firstFrom pick
+  skipped i zero m p = rw (zero-add m, add-zero i)
+  skipped i (suc d) m p =
+      let on : suc i + d ≡ i + suc d = omega arith in
+      let rest : Past t (suc i) (suc i + d) = record { low = omega arith; fails = λ j l h. p .fails j (omega arith) (omega arith) } in
+      let more : suc d + m ≡ suc (d + m) = omega arith in
+      rw (more, p .fails i (omega arith) (omega arith)) (skipped (suc i) d m rest ∙ ap (λ (k : ℕ). firstFrom t k m) on)
+
+  pub first-on : (i s n : ℕ) → s ≤ n → Past t i s → firstFrom t i (n - i) ≡ firstFrom t s (n - s)
+  first-on i s n h p =
+      let here : i + (s - i) ≡ s = omega (arith, p .low) in
+      let all : (s - i) + (n - s) ≡ n - i = omega (arith, p .low) in
+      rw (here, all) at (skipped i (s - i) (n - s) (rw here p))
+
+  pub first-at : (s n : ℕ) → s < n → t s ≡ true → firstFrom t s (n - s) ≡ s
+  unfolding firstFrom pick
+  first-at s n l e = let more : n - s ≡ suc (n - suc s) = omega arith in rw (more, e)
+
+  -- a walk that began at i ends at place s, or has come to the end
+  pub first-found : (i s n : ℕ) → s < n → Past t i s → t s ≡ true → s ≡ firstFrom t i (n - i)
+  first-found i s n l p e = sym (first-on i s n (omega arith) p ∙ first-at s n l e)
+
+  pub first-end : (s n : ℕ) → n ≤ s → firstFrom t s (n - s) ≡ poolLimit
+  unfolding firstFrom
+  first-end s n l = let z : n - s ≡ 0 = omega arith in rw z
+
+  pub first-missed : (i s n : ℕ) → n ≤ s → s ≤ n → Past t i s → poolLimit ≡ firstFrom t i (n - i)
+  first-missed i s n l h p = sym (first-on i s n h p ∙ first-end s n l)
+
+  first-is : (s n : ℕ) → s < n → Past t 0 s → t s ≡ true → firstFrom t 0 n ≡ s
+  first-is s n l p e = let all : n - 0 ≡ n = omega arith in (rw all at (first-on 0 s n (omega arith) p)) ∙ first-at s n l e
+
+  first-none : (n : ℕ) → Past t 0 n → firstFrom t 0 n ≡ poolLimit
+  first-none n p = let all : n - 0 ≡ n = omega arith in (rw all at (first-on 0 n n (omega arith) p)) ∙ first-end n n (omega arith)
+
+  -- the same for a walk over all places
+  pub all-found : (s n : ℕ) → s < n → Past t 0 s → t s ≡ true → s ≡ firstFrom t 0 n
+  all-found s n l p e = sym (first-is s n l p e)
+
+  pub all-missed : (s n : ℕ) → n ≤ s → s ≤ n → Past t 0 s → poolLimit ≡ firstFrom t 0 n
+  all-missed s n l h p = let all : s ≡ n = omega arith in sym (first-none n (rw all at p))
+
+-- ---- what the place where a walk stopped says
+
+module _ (k t : ℕ → Bool) (i n : ℕ) (small : n ≤ poolLimit) (r : Stop) where
+  record AtKey : Type 0 where
+    low : r .at < n
+    keys : Past k i (r .at)
+    key : k (r .at) ≡ true
+
+  record AtOther : Type 0 where
+    low : r .at < n
+    keys : Past k i (r .at + 1)
+    others : Past t i (r .at)
+    here : t (r .at) ≡ true
+
+  record Nowhere : Type 0 where
+    keys : Past k i n
+    others : Past t i n
+
+  at-key : Stops k t i n r → r .keyed ≡ true → AtKey
+  at-key (keyed e l p y) h = record { low = l; keys = p; key = y }
+  at-key (other e l p q y) h = absurd (true≢false (sym h ∙ e))
+  at-key (nowhere e l p q) h = absurd (true≢false (sym h ∙ e))
+
+  at-other : Stops k t i n r → r .keyed ≡ false → r .at < poolLimit → AtOther
+  at-other (keyed e l p y) h m = absurd (true≢false (sym e ∙ h))
+  at-other (other e l p q y) h m = record { low = l; keys = p; others = q; here = y }
+  at-other (nowhere e l p q) h m = absurd (omega arith)
+
+  at-none : Stops k t i n r → r .keyed ≡ false → poolLimit ≤ r .at → Nowhere
+  at-none (keyed e l p y) h m = absurd (true≢false (sym e ∙ h))
+  at-none (other e l p q y) h m = absurd (omega arith)
+  at-none (nowhere e l p q) h m = record { keys = p; others = q }
+
+  -- it goes on from there
+  pub stop-low : Stops k t i n r → r .keyed ≡ false → r .at < poolLimit → r .at < n
+  stop-low st h m = at-other st h m .low
+
+  pub stop-other : Stops k t i n r → r .keyed ≡ false → r .at < poolLimit → k (r .at) ≡ false
+  stop-other st h m = let at = at-other st h m in at .keys .fails (r .at) (at .others .low) (omega arith)
+
+-- ---- the one walk's choice is that of three
+
+module _ (k o v : ℕ → Bool) (within : (j : ℕ) → v j ≡ false → o j ≡ false) (n : ℕ) (small : n ≤ poolLimit) where
+  -- a walk for each candidate
+  abbrev three : ℕ
+  three = firstOf (firstFrom k 0 n) (firstOf (firstFrom o 0 n) (firstFrom v 0 n))
+
+  three-key : (s : ℕ) → s < n → Past k 0 s → k s ≡ true → s ≡ three
+  three-key s l p y = first-here s (firstOf (firstFrom o 0 n) (firstFrom v 0 n)) (omega arith) ∙ rw (first-is k s n l p y)
+
+  module _ (a : Stop) (first : Stops k v 0 n a) where
+    pub one-key : a .keyed ≡ true → a .at ≡ three
+    one-key h = let at = at-key k v 0 n small a first h in three-key (a .at) (at .low) (at .keys) (at .key)
+
+    pub one-none : a .keyed ≡ false → poolLimit ≤ a .at → poolLimit ≡ three
+    unfolding firstOf pick
+    one-none h m =
+        let at = at-none k v 0 n small a first h m in
+        rw (first-none k n (at .keys), first-none o n (past-with v o 0 n within (at .others)), first-none v n (at .others))
+
+    module _ (unkeyed : a .keyed ≡ false) (some : a .at < poolLimit) (b : Stop) (second : Stops k o (a .at) n b) where
+      free : AtOther k v 0 n small a
+      free = at-other k v 0 n small a first unkeyed some
+
+      -- what the first walk passed by, the second need not look at
+      keys-on : (r : ℕ) → Past k (a .at) r → Past k 0 r
+      keys-on r p = past-join k 0 (a .at) r (record { low = omega arith; fails = λ j l h. free .keys .fails j l (omega arith) }) p
+
+      others-on : (r : ℕ) → Past o (a .at) r → Past o 0 r
+      others-on r p = past-join o 0 (a .at) r (past-with v o 0 (a .at) within (free .others)) p
+
+      pub one-later-key : b .keyed ≡ true → b .at ≡ three
+      one-later-key h = let at = at-key k o (a .at) n small b second h in three-key (b .at) (at .low) (keys-on (b .at) (at .keys)) (at .key)
+
+      pub one-free : b .keyed ≡ false → poolLimit ≤ b .at → a .at ≡ three
+      unfolding firstOf pick
+      one-free h m =
+          let at = at-none k o (a .at) n small b second h m in
+          rw (first-none k n (keys-on n (at .keys)), first-none o n (others-on n (at .others)), first-is v (a .at) n (free .low) (free .others) (free .here))
+
+      pub one-own : b .keyed ≡ false → b .at < poolLimit → (c : ℕ) → c ≡ firstFrom k (b .at + 1) (n - (b .at + 1)) → (r : ℕ) → r ≡ firstOf c (b .at) → r ≡ three
+      one-own h m c ec r er =
+          let at = at-other k o (a .at) n small b second h m in
+          let all : n - 0 ≡ n = omega arith in
+          let key : firstFrom k 0 n ≡ c = (rw all at (first-on k 0 (b .at + 1) n (omega (arith, at .low)) (keys-on (b .at + 1) (at .keys)))) ∙ sym ec in
+          let own : firstOf (firstFrom o 0 n) (firstFrom v 0 n) ≡ b .at = ap (λ (x : ℕ). firstOf x (firstFrom v 0 n)) (first-is o (b .at) n (at .low) (others-on (b .at) (at .others)) (at .here)) ∙ sym (first-here (b .at) _ m) in
+          er ∙ rw (key, own)
+
+-- ---- as the code meets it
+
+module _ (keys owners lasts : List ℕ) (n key source time : ℕ) (small : n ≤ poolLimit) (a : Stop) (first : Stops (keyAt keys key) (openAt keys lasts time) 0 n a) where
+  pub chosen-key : a .keyed ≡ true → a .at ≡ chosenIn keys owners lasts n key source time
+  unfolding chosenIn
+  chosen-key h = one-key (keyAt keys key) (ownAt keys owners lasts source time) (openAt keys lasts time) (own-open keys owners lasts source time) n small a first h
+
+  pub chosen-none : a .keyed ≡ false → poolLimit ≤ a .at → poolLimit ≡ chosenIn keys owners lasts n key source time
+  unfolding chosenIn
+  chosen-none h m = one-none (keyAt keys key) (ownAt keys owners lasts source time) (openAt keys lasts time) (own-open keys owners lasts source time) n small a first h m
+
+  module _ (h : a .keyed ≡ false) (m : a .at < poolLimit) (b : Stop) (second : Stops (keyAt keys key) (ownAt keys owners lasts source time) (a .at) n b) where
+    pub chosen-later-key : b .keyed ≡ true → b .at ≡ chosenIn keys owners lasts n key source time
+    unfolding chosenIn
+    chosen-later-key g = one-later-key (keyAt keys key) (ownAt keys owners lasts source time) (openAt keys lasts time) (own-open keys owners lasts source time) n small a first h m b second g
+
+    pub chosen-free : b .keyed ≡ false → poolLimit ≤ b .at → a .at ≡ chosenIn keys owners lasts n key source time
+    unfolding chosenIn
+    chosen-free g u = one-free (keyAt keys key) (ownAt keys owners lasts source time) (openAt keys lasts time) (own-open keys owners lasts source time) n small a first h m b second g u
+
+    pub chosen-own : b .keyed ≡ false → b .at < poolLimit → (c : ℕ) → c ≡ firstFrom (keyAt keys key) (b .at + 1) (n - (b .at + 1)) → (r : ℕ) → r ≡ firstOf c (b .at) → r ≡ chosenIn keys owners lasts n key source time
+    unfolding chosenIn
+    chosen-own g u c ec r er = one-own (keyAt keys key) (ownAt keys owners lasts source time) (openAt keys lasts time) (own-open keys owners lasts source time) n small a first h m b second g u c ec r er
+
+pub ruleset choosing = (stop-low, stop-other, chosen-key, chosen-none, chosen-later-key, chosen-free, chosen-own)
