@@ -11,6 +11,11 @@ use fast_packet::MAX_FAST_PACKET_PAYLOAD;
 use session::CONTINUATION_PAYLOAD;
 use session::FIRST_FRAME_PAYLOAD;
 
+// The message of a first frame starts after sequence and size, that of a continuation after the sequence.
+const FIRST_DATA: usize = 2;
+
+const NEXT_DATA: usize = 1;
+
 // Stores `n` bytes of the frame, from `from` on, at `at`.
 fn put(out: &mut [u8; POOL_BYTES], at: usize, frame: [u8; 8], from: usize, n: usize)
     requires { ⌜ (length (now out) ≡ poolBytes) × (at + n ≤ poolBytes) × (from + n ≤ 8) ⌝ }
@@ -23,18 +28,23 @@ fn put(out: &mut [u8; POOL_BYTES], at: usize, frame: [u8; 8], from: usize, n: us
     }
 }
 
-// The same. Nearly every frame has 6 or 7 bytes to store, and a copy whose length the compiler knows needs no call.
+// The same. Nearly every frame has 6 bytes from place 2 on to store, or 7 from place 1 on: a copy of which the compiler knows length and place needs no
+// call, and no frame in memory.
 fn store(out: &mut [u8; POOL_BYTES], at: usize, frame: [u8; 8], from: usize, n: usize)
     requires { ⌜ (length (now out) ≡ poolBytes) × (at + n ≤ poolBytes) × (from + n ≤ 8) ⌝ }
     ensures { λ r. ⌜ now (out .exit) ≡ paste (now (out .entry)) at (drop from frame) n ⌝ }
 {
     if n == CONTINUATION_PAYLOAD {
-        put(out, at, frame, from, CONTINUATION_PAYLOAD);
-        return;
+        if from == NEXT_DATA {
+            put(out, at, frame, NEXT_DATA, CONTINUATION_PAYLOAD);
+            return;
+        }
     }
     if n == FIRST_FRAME_PAYLOAD {
-        put(out, at, frame, from, FIRST_FRAME_PAYLOAD);
-        return;
+        if from == FIRST_DATA {
+            put(out, at, frame, FIRST_DATA, FIRST_FRAME_PAYLOAD);
+            return;
+        }
     }
     put(out, at, frame, from, n);
 }
@@ -72,7 +82,7 @@ pub(crate) fn keep(bytes: &mut [u8; POOL_BYTES], g: usize, at: usize, frame: [u8
         bytes,
         g * MAX_FAST_PACKET_PAYLOAD + at,
         frame,
-        1,
+        NEXT_DATA,
         CONTINUATION_PAYLOAD,
     );
 }
