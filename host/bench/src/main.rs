@@ -118,11 +118,11 @@ fn head(columns: &[&str]) {
 
 fn receiving<const N: usize>(reps: usize, title: &str, workloads: Vec<(&str, Vec<u32>, Rows)>) {
     println!("\n{title}, pool of {N}, a frame:");
-    head(&["single call", "by value", "batch of 1", "batch of 16", "batch of 64", "batch of 256"]);
+    head(&["single call", "by value", "batch of 1", "batch of 16", "batch of 64", "batch of 256", "batch of 1024"]);
     for (name, list, w) in workloads {
         let leaked: &'static [u32] = list.clone().leak();
-        let mut t: Vec<Told> = (0..7).map(|_| Told::room(w.len(), 8 * w.len() + 300)).collect();
-        let [t0, t1, t2, t3, t4, t5, t6] = &mut t[..] else { unreachable!() };
+        let mut t: Vec<Told> = (0..8).map(|_| Told::room(w.len(), 8 * w.len() + 300)).collect();
+        let [t0, t1, t2, t3, t4, t5, t6, t7] = &mut t[..] else { unreachable!() };
         compare(name, w.len(), reps, &mut [
             ("original", &mut || { black_box(original::<N>(leaked, black_box(&w), t0)); }),
             ("single", &mut || { black_box(one_by_one(N, &list, black_box(&w), false, t1)); }),
@@ -131,6 +131,7 @@ fn receiving<const N: usize>(reps: usize, title: &str, workloads: Vec<(&str, Vec
             ("16", &mut || { black_box(in_batches(N, &list, black_box(&w), 16, t3)); }),
             ("64", &mut || { black_box(in_batches(N, &list, black_box(&w), 64, t4)); }),
             ("256", &mut || { black_box(in_batches(N, &list, black_box(&w), 256, t5)); }),
+            ("1024", &mut || { black_box(in_batches(N, &list, black_box(&w), 1024, t7)); }),
         ]);
         let readings = t[1].kinds.iter().map(|kind| read(*kind as u32) as u8).collect();
         assert!(Told { kinds: readings, ..t[1].clone() } == t[0], "both sides answer alike");
