@@ -810,6 +810,38 @@ pub fn any_pool(seed: u64, steps: u64) -> u64 {
     steps
 }
 
+/// Which slot a frame takes: few sources, keys and times, so that each candidate of a search stands at many slots of a pool or at none; the same frame by a
+/// single call and in a batch.
+pub fn slots_chosen(seed: u64, steps: u64) -> u64 {
+    const LIST: &[u32] = &[127_489];
+    let mut r = Rng::new(seed);
+    let mut pairs: Vec<Pair> = (0..=LIMIT).map(|size| Pair::fresh(size, LIST)).collect();
+    for _ in 0..steps {
+        let now = r.pick(&[0, 500, 501, 1000, 100_000, u64::MAX]);
+        // of four slots so many in progress, and of four in progress so many silent
+        let (busy, silent, sources) = (r.below(5), r.below(5), 1 + r.below(12));
+        let slots: Slots = std::array::from_fn(|_| Slot {
+            in_progress: r.below(4) < busy,
+            source: r.below(sources) as u8,
+            pgn: 127_489,
+            sequence: r.below(8) as u8,
+            bytes: r.bytes(),
+            expected: 20,
+            current: 6,
+            last_index: 0,
+            last_time: now.saturating_sub(if r.below(4) < silent { 501 } else { r.below(501) }),
+        });
+        let index = if r.one_in(4) { 1 } else { 0 };
+        let h = Heard { now, pgn: 127_489, source: r.below(sources + 1) as u8, data: [(r.below(8) as u8) << 5 | index, 20, 1, 2, 3, 4, 5, 6] };
+        let size = any_size(&mut r);
+        let p = &mut pairs[size];
+        p.set(&slots, [0; 5]);
+        p.hear(&h, None);
+        batch(size, &slots, [0; 5], LIST, LIST, &one_row(&h), 20, 0);
+    }
+    steps
+}
+
 /// Single calls on pools that document 01 calls impossible, by one slot or by their size.
 pub fn impossible_pools(seed: u64, steps: u64) -> u64 {
     let mut r = Rng::new(seed);

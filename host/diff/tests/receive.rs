@@ -31,6 +31,11 @@ fn any_possible_pool_is_answered_as_the_original_does() {
 }
 
 #[test]
+fn the_slot_that_a_frame_takes_is_the_originals() {
+    run("choosing a slot, by a single call and in a batch", || receive::slots_chosen(13, 300_000));
+}
+
+#[test]
 fn an_impossible_pool_is_refused_and_unchanged() {
     run("receiving on impossible pools, against the paper's words", || receive::impossible_pools(4, 500_000));
 }

@@ -21,6 +21,7 @@ fn main() {
                         let mut steps = receive::traffic(k, SHARE * 4 / 10);
                         steps += receive::any_pool(k, SHARE * 2 / 10);
                         steps += receive::batches(k, SHARE * 2 / 10);
+                        steps += receive::slots_chosen(k, SHARE / 20);
                         steps += receive::impossible_pools(k, SHARE / 20);
                         steps += frames::random(k, SHARE / 20);
                         steps += ids::random(k, SHARE / 20);

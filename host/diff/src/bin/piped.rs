@@ -10,6 +10,7 @@ fn main() {
         steps += receive::counters_at_the_end();
         steps += receive::told_apart();
         steps += receive::any_pool(23, 5_000);
+        steps += receive::slots_chosen(31, 5_000);
         steps += receive::impossible_pools(24, 2_000);
         steps += receive::traffic(25, 20_000);
         steps += receive::batches(26, 100_000);
