@@ -207,76 +207,66 @@ module _ (k t : ℕ → Bool) (i n : ℕ) (small : n ≤ poolLimit) (r : Stop) w
   pub stop-other : Stops k t i n r → r .keyed ≡ false → r .at < poolLimit → k (r .at) ≡ false
   stop-other st h m = let at = at-other st h m in at .keys .fails (r .at) (at .others .low) (omega arith)
 
--- ---- the one walk's choice is that of three
+-- ---- the one walk's choice is that of a walk for each candidate
 
-module _ (k o v : ℕ → Bool) (within : (j : ℕ) → v j ≡ false → o j ≡ false) (n : ℕ) (small : n ≤ poolLimit) where
-  -- a walk for each candidate
-  abbrev three : ℕ
-  three = firstOf (firstFrom k 0 n) (firstOf (firstFrom o 0 n) (firstFrom v 0 n))
+module _ (keys owners lasts : List ℕ) (n key source time : ℕ) (small : n ≤ poolLimit) where
+  abbrev k : ℕ → Bool
+  k = keyAt keys key
 
-  three-key : (s : ℕ) → s < n → Past k 0 s → k s ≡ true → s ≡ three
-  three-key s l p y = first-here s (firstOf (firstFrom o 0 n) (firstFrom v 0 n)) (omega arith) ∙ rw (first-is k s n l p y)
+  abbrev o : ℕ → Bool
+  o = ownAt keys owners lasts source time
+
+  abbrev v : ℕ → Bool
+  v = openAt keys lasts time
+
+  abbrev chosen : ℕ
+  chosen = chosenIn keys owners lasts n key source time
+
+  -- where no place is open, none is open and of the source
+  own-past : (i r : ℕ) → Past v i r → Past o i r
+  own-past i r p = past-with v o i r (own-open keys owners lasts source time) p
+
+  at-first-key : (s : ℕ) → s < n → Past k 0 s → k s ≡ true → s ≡ chosen
+  unfolding chosenIn
+  at-first-key s l p y = first-here s (firstOf (firstFrom o 0 n) (firstFrom v 0 n)) (omega arith) ∙ rw (first-is k s n l p y)
 
   module _ (a : Stop) (first : Stops k v 0 n a) where
-    pub one-key : a .keyed ≡ true → a .at ≡ three
-    one-key h = let at = at-key k v 0 n small a first h in three-key (a .at) (at .low) (at .keys) (at .key)
+    pub chosen-key : a .keyed ≡ true → a .at ≡ chosen
+    chosen-key h = let at = at-key k v 0 n small a first h in at-first-key (a .at) (at .low) (at .keys) (at .key)
 
-    pub one-none : a .keyed ≡ false → poolLimit ≤ a .at → poolLimit ≡ three
-    unfolding firstOf pick
-    one-none h m =
+    pub chosen-none : a .keyed ≡ false → poolLimit ≤ a .at → poolLimit ≡ chosen
+    unfolding chosenIn firstOf pick
+    chosen-none h m =
         let at = at-none k v 0 n small a first h m in
-        rw (first-none k n (at .keys), first-none o n (past-with v o 0 n within (at .others)), first-none v n (at .others))
+        rw (first-none k n (at .keys), first-none o n (own-past 0 n (at .others)), first-none v n (at .others))
 
     module _ (unkeyed : a .keyed ≡ false) (some : a .at < poolLimit) (b : Stop) (second : Stops k o (a .at) n b) where
       free : AtOther k v 0 n small a
       free = at-other k v 0 n small a first unkeyed some
 
-      -- what the first walk passed by, the second need not look at
+      -- what the first part of the walk passed by, the second need not look at
       keys-on : (r : ℕ) → Past k (a .at) r → Past k 0 r
       keys-on r p = past-join k 0 (a .at) r (record { low = omega arith; fails = λ j l h. free .keys .fails j l (omega arith) }) p
 
-      others-on : (r : ℕ) → Past o (a .at) r → Past o 0 r
-      others-on r p = past-join o 0 (a .at) r (past-with v o 0 (a .at) within (free .others)) p
+      owns-on : (r : ℕ) → Past o (a .at) r → Past o 0 r
+      owns-on r p = past-join o 0 (a .at) r (own-past 0 (a .at) (free .others)) p
 
-      pub one-later-key : b .keyed ≡ true → b .at ≡ three
-      one-later-key h = let at = at-key k o (a .at) n small b second h in three-key (b .at) (at .low) (keys-on (b .at) (at .keys)) (at .key)
+      pub chosen-later-key : b .keyed ≡ true → b .at ≡ chosen
+      chosen-later-key h = let at = at-key k o (a .at) n small b second h in at-first-key (b .at) (at .low) (keys-on (b .at) (at .keys)) (at .key)
 
-      pub one-free : b .keyed ≡ false → poolLimit ≤ b .at → a .at ≡ three
-      unfolding firstOf pick
-      one-free h m =
+      pub chosen-free : b .keyed ≡ false → poolLimit ≤ b .at → a .at ≡ chosen
+      unfolding chosenIn firstOf pick
+      chosen-free h m =
           let at = at-none k o (a .at) n small b second h m in
-          rw (first-none k n (keys-on n (at .keys)), first-none o n (others-on n (at .others)), first-is v (a .at) n (free .low) (free .others) (free .here))
+          rw (first-none k n (keys-on n (at .keys)), first-none o n (owns-on n (at .others)), first-is v (a .at) n (free .low) (free .others) (free .here))
 
-      pub one-own : b .keyed ≡ false → b .at < poolLimit → (c : ℕ) → c ≡ firstFrom k (b .at + 1) (n - (b .at + 1)) → (r : ℕ) → r ≡ firstOf c (b .at) → r ≡ three
-      one-own h m c ec r er =
+      pub chosen-own : b .keyed ≡ false → b .at < poolLimit → (c : ℕ) → c ≡ firstFrom k (b .at + 1) (n - (b .at + 1)) → (r : ℕ) → r ≡ firstOf c (b .at) → r ≡ chosen
+      unfolding chosenIn
+      chosen-own h m c ec r er =
           let at = at-other k o (a .at) n small b second h m in
           let all : n - 0 ≡ n = omega arith in
           let key : firstFrom k 0 n ≡ c = (rw all at (first-on k 0 (b .at + 1) n (omega (arith, at .low)) (keys-on (b .at + 1) (at .keys)))) ∙ sym ec in
-          let own : firstOf (firstFrom o 0 n) (firstFrom v 0 n) ≡ b .at = ap (λ (x : ℕ). firstOf x (firstFrom v 0 n)) (first-is o (b .at) n (at .low) (others-on (b .at) (at .others)) (at .here)) ∙ sym (first-here (b .at) _ m) in
-          er ∙ rw (key, own)
+          let here : firstFrom o 0 n ≡ b .at = first-is o (b .at) n (at .low) (owns-on (b .at) (at .others)) (at .here) in
+          er ∙ rw (key, here, ← first-here (b .at) (firstFrom v 0 n) m)
 
--- ---- as the code meets it
-
-module _ (keys owners lasts : List ℕ) (n key source time : ℕ) (small : n ≤ poolLimit) (a : Stop) (first : Stops (keyAt keys key) (openAt keys lasts time) 0 n a) where
-  pub chosen-key : a .keyed ≡ true → a .at ≡ chosenIn keys owners lasts n key source time
-  unfolding chosenIn
-  chosen-key h = one-key (keyAt keys key) (ownAt keys owners lasts source time) (openAt keys lasts time) (own-open keys owners lasts source time) n small a first h
-
-  pub chosen-none : a .keyed ≡ false → poolLimit ≤ a .at → poolLimit ≡ chosenIn keys owners lasts n key source time
-  unfolding chosenIn
-  chosen-none h m = one-none (keyAt keys key) (ownAt keys owners lasts source time) (openAt keys lasts time) (own-open keys owners lasts source time) n small a first h m
-
-  module _ (h : a .keyed ≡ false) (m : a .at < poolLimit) (b : Stop) (second : Stops (keyAt keys key) (ownAt keys owners lasts source time) (a .at) n b) where
-    pub chosen-later-key : b .keyed ≡ true → b .at ≡ chosenIn keys owners lasts n key source time
-    unfolding chosenIn
-    chosen-later-key g = one-later-key (keyAt keys key) (ownAt keys owners lasts source time) (openAt keys lasts time) (own-open keys owners lasts source time) n small a first h m b second g
-
-    pub chosen-free : b .keyed ≡ false → poolLimit ≤ b .at → a .at ≡ chosenIn keys owners lasts n key source time
-    unfolding chosenIn
-    chosen-free g u = one-free (keyAt keys key) (ownAt keys owners lasts source time) (openAt keys lasts time) (own-open keys owners lasts source time) n small a first h m b second g u
-
-    pub chosen-own : b .keyed ≡ false → b .at < poolLimit → (c : ℕ) → c ≡ firstFrom (keyAt keys key) (b .at + 1) (n - (b .at + 1)) → (r : ℕ) → r ≡ firstOf c (b .at) → r ≡ chosenIn keys owners lasts n key source time
-    unfolding chosenIn
-    chosen-own g u c ec r er = one-own (keyAt keys key) (ownAt keys owners lasts source time) (openAt keys lasts time) (own-open keys owners lasts source time) n small a first h m b second g u c ec r er
-
-pub ruleset choosing = (stop-low, stop-other, chosen-key, chosen-none, chosen-later-key, chosen-free, chosen-own)
+pub ruleset choosing = (chosen-key, chosen-none, chosen-later-key, chosen-free, chosen-own)

@@ -159,7 +159,7 @@ fn own_stop(
     ensures { λ r. ⌜ Stops (keyAt (now (keys .entry)) key) (ownAt (now (keys .entry)) (now (owners .entry)) (now (lasts .entry)) source time) from size r ⌝ }
 {
     let mut s = from;
-    while s < size {
+    loop {
         if is_own(keys[s], time, lasts[s], owners[s], source) {
             return Stop {
                 at: s,
@@ -176,10 +176,6 @@ fn own_stop(
         if keys[s] == key {
             return Stop { at: s, keyed: true };
         }
-    }
-    Stop {
-        at: POOL_LIMIT,
-        keyed: false,
     }
 }
 

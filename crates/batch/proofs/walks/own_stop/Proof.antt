@@ -25,18 +25,18 @@ loop-holds c = (c .pre .3, c .pre .4, c .pre .0, c .pre .1, c .pre .2, past-turn
 returns : tie.Need-returns Inv-loop μ-loop
 unfolding ownAt openAt
 returns c =
-    let inv = c .before .before .before .before .before .before .loop .inv in
+    let inv = c .before .before .before .before .before .loop .inv in
     other refl (inv .0) (inv .5) (inv .6) (sym (c .before .is-own .ensures) ∙ c .if1 .taken)
 
 returns-2 : tie.Need-returns-2 Inv-loop μ-loop
 returns-2 c =
-    let inv = c .before .before .before .before .before .before .before .before .loop .inv in
+    let inv = c .before .before .before .before .before .before .before .loop .inv in
     let leapt = c .before .past-others .ensures in
     past-all _ _ _ _ _ (leapt .0) (c .if2 .taken) (past-join _ _ _ _ (inv .5) (leapt .1)) (past-leap _ _ _ _ _ _ _ _ (inv .6) (own-fails _ _ _ _ _ _ _ (c .before .before .before .is-own .ensures) (c .before .before .if1 .left)) (leapt .2))
 
 returns-3 : tie.Need-returns-3 Inv-loop μ-loop
 returns-3 c =
-    let inv = c .before .before .before .before .before .before .before .before .before .before .loop .inv in
+    let inv = c .before .before .before .before .before .before .before .before .before .loop .inv in
     let leapt = c .before .before .before .past-others .ensures in
     keyed refl (c .before .before .if2 .left) (past-join _ _ _ _ (inv .5) (leapt .1)) (key-here _ _ _ (c .if3 .taken))
 
@@ -45,12 +45,9 @@ loop-less c = let leapt = c .before .before .before .past-others .ensures in ome
 
 loop-again : tie.Need-loop-again Inv-loop μ-loop
 loop-again c =
-    let inv = c .before .before .before .before .before .before .before .before .before .before .loop .inv in
+    let inv = c .before .before .before .before .before .before .before .before .before .loop .inv in
     let leapt = c .before .before .before .past-others .ensures in
     (c .before .before .if2 .left, inv .1, inv .2, inv .3, inv .4, past-turn _ _ _ (past-join _ _ _ _ (inv .5) (leapt .1)) (key-gone _ _ _ (c .if3 .left)), past-leap _ _ _ _ _ _ _ _ (inv .6) (own-fails _ _ _ _ _ _ _ (c .before .before .before .before .before .is-own .ensures) (c .before .before .before .before .if1 .left)) (leapt .2))
-
-returns-4 : tie.Need-returns-4 Inv-loop μ-loop
-returns-4 c = absurd (omega (arith, c .before .loop .inv .0))
 
 pub own-stop-spec : {M : Type 1} → statement M
 own-stop-spec =
@@ -73,5 +70,4 @@ own-stop-spec =
     (λ c. search needs)
     returns-3
     loop-less
-    loop-again
-    returns-4)
+    loop-again)
