@@ -2,7 +2,7 @@
 use mathlib.Core.Bool.{Bool, true, false}
 use mathlib.Core.List.{List, [], _∷_}
 use mathlib.Core.Option.{Option, none, some}
-use mathlib.Core.Path.{_≡_, refl, _∙_}
+use mathlib.Core.Path.{_≡_, refl, sym, _∙_}
 use Prim.Native.Nat.{ℕ, suc, _+_}
 use native.Mathlib.Nat.{zero-add, add-zero}
 use native.Mathlib.Omega.{arith}
@@ -68,9 +68,4 @@ never-first (x ∷ xs) = rw (never-first xs)
 
 -- a walk for one thing alone
 pub one-walk-alone : {A : Type 0} (k : A → Bool) (l : List A) → oneWalk k never never l ≡ firstAt k l
-unfolding orElse
-one-walk-alone k l = one-walk-is-three k never never l ∙ rw (never-first l) (go (firstAt k l))
-  where
-    go : (o : Option ℕ) → orElse o none ≡ o
-    go none = refl
-    go (some i) = refl
+one-walk-alone k l = one-walk-is-three k never never l ∙ rw (never-first l, ← or-none none) (sym (or-none (firstAt k l)))

@@ -12,7 +12,7 @@ remembered (some j) b i = some j
 remembered none true i = some i
 remembered none false i = none
 
--- no candidate
+-- a test that no element passes
 unfoldable pub never : {A : Type 0} → A → Bool
 never x = false
 

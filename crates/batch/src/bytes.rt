@@ -9,12 +9,9 @@ ghost use Rattle.assembler.specs.Making.{poolBytes};
 use assembler::POOL_BYTES;
 use fast_packet::MAX_FAST_PACKET_PAYLOAD;
 use session::CONTINUATION_PAYLOAD;
+use session::FIRST_DATA;
 use session::FIRST_FRAME_PAYLOAD;
-
-// The message of a first frame starts after sequence and size, that of a continuation after the sequence.
-const FIRST_DATA: usize = 2;
-
-const NEXT_DATA: usize = 1;
+use session::NEXT_DATA;
 
 // Stores `n` bytes of the frame, from `from` on, at `at`.
 fn put(out: &mut [u8; POOL_BYTES], at: usize, frame: [u8; 8], from: usize, n: usize)

@@ -7,9 +7,9 @@ use crate::Heard;
 use fast_packet::MAX_FAST_PACKET_PAYLOAD;
 
 // The message of a first frame starts after sequence and size, that of a continuation after the sequence.
-pub(crate) const FIRST_DATA: usize = 2;
+pub const FIRST_DATA: usize = 2;
 
-pub(crate) const NEXT_DATA: usize = 1;
+pub const NEXT_DATA: usize = 1;
 
 pub(crate) fn wide(x: u8) -> usize
     ensures { λ r. ⌜ r ≡ x ⌝ }

@@ -10,6 +10,8 @@ mod places;
 mod plans;
 
 pub use counting::count;
+pub use frames::FIRST_DATA;
+pub use frames::NEXT_DATA;
 pub use heads::fresh_head;
 pub use looks::look;
 pub use places::nothing_found;

@@ -39,10 +39,7 @@ pub fn interleaved(n: usize, wide: usize, len: usize) -> Rows {
 
 /// A full pool, and first frames that it refuses.
 pub fn full(n: usize, size: usize) -> Rows {
-    let mut w = Rows::default();
-    for k in 0..size {
-        w.push(0, 129_029, k as u8, frames(0, &[7; 200])[0]);
-    }
+    let mut w = begun(size);
     for i in 0..n - size {
         w.push(1, 127_489, 200 + (i % 8) as u8, frames((i % 8) as u8, &[9; 20])[0]);
     }
@@ -152,18 +149,13 @@ fn expired(n: usize, size: usize, sender: Sender) -> Rows {
     w
 }
 
-/// First frames of the messages that a full pool holds, from slot to slot.
-fn restarted(n: usize, size: usize) -> Rows {
-    let mut w = begun(size);
-    for i in 0..n - size {
-        w.push(1, 129_029, (i % size) as u8, frames(0, &[7; 200])[0]);
+/// First frames of the messages that a pool holds, `busy` of them, from slot to slot.
+fn restarted(n: usize, busy: usize) -> Rows {
+    let mut w = begun(busy);
+    for i in 0..n - busy {
+        w.push(1, 129_029, (i % busy) as u8, frames(0, &[7; 200])[0]);
     }
     w
-}
-
-/// First frames of one message, in a pool that holds no other.
-fn restarted_alone(n: usize) -> Rows {
-    restarted(n, 1)
 }
 
 pub fn first_frames(n: usize, size: usize) -> Vec<(&'static str, Vec<u32>, Rows)> {
@@ -176,6 +168,6 @@ pub fn first_frames(n: usize, size: usize) -> Vec<(&'static str, Vec<u32>, Rows)
         ("full, each message begun again", list(6), restarted(n, size)),
         ("all expired, a source and its slot", list(6), expired(n, size, Sender::Same)),
         ("all expired, other sources", list(6), expired(n, size, Sender::Others)),
-        ("one message, begun again", list(6), restarted_alone(n)),
+        ("one message, begun again", list(6), restarted(n, 1)),
     ]
 }
