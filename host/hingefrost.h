@@ -5,8 +5,8 @@
  * archive, on Arm (aarch64) Linux the same module compiled for Arm. Of C's library it needs memcpy and memset.
  *
  * Answers. A function that may refuse returns HF_OK, a refusal's number (1 to 99, docs/REFUSALS.md) or one of the kinds below.
- * A refusal changes no lent memory but what the answer itself is put into (*value, *size, *length, a message's length, `counts`,
- * `values`, *frames, and of the next frame `data`, `frame` and the progress that it makes).
+ * A refusal changes no lent memory but what the answer itself is put into (*value, *size, *mode, *length, a message's length,
+ * `counts`, `values`, *frames, and of the next frame `data`, `frame` and the progress that it makes).
  *
  * The PGN list is lent to each call that looks into it: any order; empty and repeated are allowed. Nothing is asked before a frame
  * is received: the answer says whether its PGN is listed.
@@ -51,6 +51,12 @@ extern "C" {
 #define HF_VALUES 5                    /* what a refusal of the bench carries, in docs/REFUSALS.md's order, then zeros */
 #define HF_LIST_ROW 3                  /* of each message of the bench: sequence, start, length */
 
+/* ---- the modes of a pool: what a slot in progress is where now is earlier than its last time, because the clock was set back. A mode is
+ * chosen when the pool is made and stays with it. Any other number is no mode: no pool is made in it, and every call refuses it by 1. */
+
+#define HF_AS_ORIGINAL 0         /* silent for 0 ms: it can live until the clock has come back */
+#define HF_SET_BACK_IS_SILENCE 1 /* silent over 500 ms: free and expired for a first frame, and no continuation finds it */
+
 /* ---- answers */
 
 #define HF_OK 0 /* done; of the next frame: here it is */
@@ -64,7 +70,7 @@ extern "C" {
 #define HF_REJECTED 105          /* a first frame announced 0 or more than 223 bytes, or was cut short, or a frame came without a byte;
                                   * HF_REJECTED_FRAMES went up */
 #define HF_POOL_FULL 106         /* a first frame began a message of 7 bytes or more, and no slot was free or had its key; HF_POOL_EXHAUSTED went up */
-#define HF_LOST 107              /* a continuation found no live session (a late one stays as it is), or it came out of turn or without a byte
+#define HF_LOST 107              /* a continuation found no live session (a silent one stays as it is), or it came out of turn or without a byte
                                   * that its session needs, which ended the session; HF_LOST_FRAGMENTS went up */
 
 /* Refusals; docs/REFUSALS.md says what each means and carries, and who gives it. 3 was HF_REFUSED_INVALID_DESTINATION, of the original's
@@ -154,28 +160,30 @@ enum {
 /* The counters' places; the answers that go with the last four are HF_POOL_FULL, HF_REJECTED, HF_LOST and HF_NOT_LISTED. */
 enum { HF_EXPIRED_SESSIONS, HF_POOL_EXHAUSTED, HF_REJECTED_FRAMES, HF_LOST_FRAGMENTS, HF_UNKNOWN_PGN };
 
-/* HF_OK and a fresh pool; above HF_POOL_SLOTS, 1 and *size 0, with `heads` and `bytes` as they were. */
-uint32_t hf_raw_pool_new(size_t wanted, uint64_t heads[HF_POOL_HEADS], uint8_t bytes[HF_POOL_BYTES], size_t *size);
-uint32_t hf_raw_pool_default(uint64_t heads[HF_POOL_HEADS], uint8_t bytes[HF_POOL_BYTES], size_t *size);
+/* HF_OK and a fresh pool, with the number of its mode in *mode: HF_AS_ORIGINAL, and of the last the one asked for. Above HF_POOL_SLOTS, 1 and
+ * *size 0, with `heads` and `bytes` as they were; the same where the number asked for is no mode, and then *mode is 0. */
+uint32_t hf_raw_pool_new(size_t wanted, uint64_t heads[HF_POOL_HEADS], uint8_t bytes[HF_POOL_BYTES], size_t *size, uint32_t *mode);
+uint32_t hf_raw_pool_default(uint64_t heads[HF_POOL_HEADS], uint8_t bytes[HF_POOL_BYTES], size_t *size, uint32_t *mode);
+uint32_t hf_raw_pool_with_mode(size_t wanted, uint32_t asked, uint64_t heads[HF_POOL_HEADS], uint8_t bytes[HF_POOL_BYTES], size_t *size, uint32_t *mode);
 
-/* One of the kinds 102 to 107; or 1, whatever the PGN, and all lent memory but *length as it was. Each number of `heads` is read
- * in the width of its field (a flag is any number but 0, a source is taken modulo 256), and written only where that field has
- * changed. *length is the message's length, or 0 without one; `payload` holds the message and zeros after it, and is not written
- * without one. */
-uint32_t hf_raw_process_frame(size_t size, uint64_t heads[HF_POOL_HEADS], uint8_t bytes[HF_POOL_BYTES], uint32_t counters[HF_COUNTERS],
+/* One of the kinds 102 to 107; or 1, whatever the PGN, and all lent memory but *length as it was: for a pool with a slot that no call
+ * leaves, a size above HF_POOL_SLOTS, or a number for its mode that is none. Each number of `heads` is read in the width of its field (a
+ * flag is any number but 0, a source is taken modulo 256), and written only where that field has changed. *length is the message's length,
+ * or 0 without one; `payload` holds the message and zeros after it, and is not written without one. */
+uint32_t hf_raw_process_frame(size_t size, uint32_t mode, uint64_t heads[HF_POOL_HEADS], uint8_t bytes[HF_POOL_BYTES], uint32_t counters[HF_COUNTERS],
                               const uint32_t *pgns, size_t pgns_len, uint64_t now_ms, uint32_t pgn, uint8_t source_address,
                               const uint8_t data[HF_FRAME_BYTES], uint8_t payload[HF_MAX_FAST_PACKET_PAYLOAD], size_t *length);
 /* The same by the call that has the counters by value: fewer copies of the pool. */
-uint32_t hf_raw_receive(size_t size, uint64_t heads[HF_POOL_HEADS], uint8_t bytes[HF_POOL_BYTES], uint32_t counters[HF_COUNTERS],
+uint32_t hf_raw_receive(size_t size, uint32_t mode, uint64_t heads[HF_POOL_HEADS], uint8_t bytes[HF_POOL_BYTES], uint32_t counters[HF_COUNTERS],
                         const uint32_t *pgns, size_t pgns_len, uint64_t now_ms, uint32_t pgn, uint8_t source_address,
                         const uint8_t data[HF_FRAME_BYTES], uint8_t payload[HF_MAX_FAST_PACKET_PAYLOAD], size_t *length);
 /* Of the frame's eight bytes only the first min(frame_length, 8) were sent; at 8 or more it is hf_raw_process_frame. A frame of a
  * listed PGN without a byte is HF_REJECTED, and so is a first frame that lacks its size or a byte of the message: one that announces
  * n bytes has 2 + min(6, n) or more. A continuation that lacks a byte its live session needs is HF_LOST and ends the session. */
-uint32_t hf_raw_process_frame_with_length(size_t size, uint64_t heads[HF_POOL_HEADS], uint8_t bytes[HF_POOL_BYTES], uint32_t counters[HF_COUNTERS],
-                                          const uint32_t *pgns, size_t pgns_len, uint64_t now_ms, uint32_t pgn, uint8_t source_address,
-                                          const uint8_t data[HF_FRAME_BYTES], size_t frame_length, uint8_t payload[HF_MAX_FAST_PACKET_PAYLOAD],
-                                          size_t *length);
+uint32_t hf_raw_process_frame_with_length(size_t size, uint32_t mode, uint64_t heads[HF_POOL_HEADS], uint8_t bytes[HF_POOL_BYTES],
+                                          uint32_t counters[HF_COUNTERS], const uint32_t *pgns, size_t pgns_len, uint64_t now_ms, uint32_t pgn,
+                                          uint8_t source_address, const uint8_t data[HF_FRAME_BYTES], size_t frame_length,
+                                          uint8_t payload[HF_MAX_FAST_PACKET_PAYLOAD], size_t *length);
 
 /* Many frames in one call: rows of times, PGNs, sources and eight bytes a frame. HF_OK, 1 for an impossible pool, 27 for a row
  * shorter than `times`, each refusal with all lent memory but `counts` as it was. Of each frame taken, `kinds` gets its kind and
@@ -183,7 +191,7 @@ uint32_t hf_raw_process_frame_with_length(size_t size, uint64_t heads[HF_POOL_HE
  * has no room. `counts` is the frames taken and the arena's bytes taken, 0 and 0 with a refusal. The heads are written as by
  * hf_raw_process_frame. */
 enum { HF_COUNT_TAKEN, HF_COUNT_USED };
-uint32_t hf_raw_process_frames(size_t size, uint64_t heads[HF_POOL_HEADS], uint8_t bytes[HF_POOL_BYTES], uint32_t counters[HF_COUNTERS],
+uint32_t hf_raw_process_frames(size_t size, uint32_t mode, uint64_t heads[HF_POOL_HEADS], uint8_t bytes[HF_POOL_BYTES], uint32_t counters[HF_COUNTERS],
                                const uint32_t *pgns, size_t pgns_len, const uint64_t *times, size_t times_len,
                                const uint32_t *frame_pgns, size_t frame_pgns_len, const uint8_t *sources, size_t sources_len,
                                const uint8_t *data, size_t data_len, uint8_t *kinds, size_t kinds_len,
@@ -209,6 +217,7 @@ uint32_t hf_check_tx(const uint32_t *ids, size_t ids_len, const uint8_t *bytes, 
 
 typedef struct hf_pool {
     size_t size;
+    uint32_t mode; /* HF_AS_ORIGINAL or HF_SET_BACK_IS_SILENCE, as it was made; no call changes it */
     uint64_t heads[HF_POOL_HEADS];
     uint8_t bytes[HF_POOL_BYTES];
 } hf_pool;
@@ -243,12 +252,16 @@ typedef struct hf_frame {
     uint64_t carried;
 } hf_frame;
 
-/* HF_OK, or 1 above HF_POOL_SLOTS: the pool is then of size 0, its slots as they were. */
+/* HF_OK, or 1 above HF_POOL_SLOTS: the pool is then of size 0, its slots as they were. The mode is HF_AS_ORIGINAL. */
 static inline uint32_t hf_pool_new(hf_pool *pool, size_t wanted) {
-    return hf_raw_pool_new(wanted, pool->heads, pool->bytes, &pool->size);
+    return hf_raw_pool_new(wanted, pool->heads, pool->bytes, &pool->size, &pool->mode);
 }
 static inline void hf_pool_default(hf_pool *pool) {
-    hf_raw_pool_default(pool->heads, pool->bytes, &pool->size);
+    hf_raw_pool_default(pool->heads, pool->bytes, &pool->size, &pool->mode);
+}
+/* The same in a mode of one's choice; 1 also where it is none. */
+static inline uint32_t hf_pool_with_mode(hf_pool *pool, size_t wanted, uint32_t mode) {
+    return hf_raw_pool_with_mode(wanted, mode, pool->heads, pool->bytes, &pool->size, &pool->mode);
 }
 static inline void hf_counters_new(hf_counters *counters) {
     for (int i = 0; i < HF_COUNTERS; i++) counters->counts[i] = 0;
@@ -257,26 +270,26 @@ static inline void hf_counters_new(hf_counters *counters) {
 /* HF_NOT_LISTED, HF_REJECTED, HF_POOL_FULL, HF_LOST, HF_FRAGMENT_CONSUMED or HF_MESSAGE_COMPLETE; 1 for a pool that no call made. */
 static inline uint32_t hf_process_frame(hf_pool *pool, hf_counters *counters, const uint32_t *pgns, size_t pgns_len, uint64_t now_ms, uint32_t pgn,
                                         uint8_t source_address, const uint8_t data[HF_FRAME_BYTES], hf_message *message) {
-    return hf_raw_process_frame(pool->size, pool->heads, pool->bytes, counters->counts, pgns, pgns_len, now_ms, pgn, source_address, data,
+    return hf_raw_process_frame(pool->size, pool->mode, pool->heads, pool->bytes, counters->counts, pgns, pgns_len, now_ms, pgn, source_address, data,
                                 message->payload, &message->length);
 }
 static inline uint32_t hf_receive(hf_pool *pool, hf_counters *counters, const uint32_t *pgns, size_t pgns_len, uint64_t now_ms, uint32_t pgn,
                                   uint8_t source_address, const uint8_t data[HF_FRAME_BYTES], hf_message *message) {
-    return hf_raw_receive(pool->size, pool->heads, pool->bytes, counters->counts, pgns, pgns_len, now_ms, pgn, source_address, data, message->payload,
-                          &message->length);
+    return hf_raw_receive(pool->size, pool->mode, pool->heads, pool->bytes, counters->counts, pgns, pgns_len, now_ms, pgn, source_address, data,
+                          message->payload, &message->length);
 }
 static inline uint32_t hf_process_frame_with_length(hf_pool *pool, hf_counters *counters, const uint32_t *pgns, size_t pgns_len, uint64_t now_ms,
                                                     uint32_t pgn, uint8_t source_address, const uint8_t data[HF_FRAME_BYTES], size_t frame_length,
                                                     hf_message *message) {
-    return hf_raw_process_frame_with_length(pool->size, pool->heads, pool->bytes, counters->counts, pgns, pgns_len, now_ms, pgn, source_address, data,
-                                            frame_length, message->payload, &message->length);
+    return hf_raw_process_frame_with_length(pool->size, pool->mode, pool->heads, pool->bytes, counters->counts, pgns, pgns_len, now_ms, pgn,
+                                            source_address, data, frame_length, message->payload, &message->length);
 }
 /* Rows of `frames` elements each (`data` of 8 a frame), in and out. */
 static inline uint32_t hf_process_frames(hf_pool *pool, hf_counters *counters, const uint32_t *pgns, size_t pgns_len, size_t frames, const uint64_t *times,
                                          const uint32_t *frame_pgns, const uint8_t *sources, const uint8_t *data, uint8_t *kinds, uint8_t *lengths,
                                          uint8_t *arena, size_t arena_len, uint64_t counts[HF_COUNTS]) {
-    return hf_raw_process_frames(pool->size, pool->heads, pool->bytes, counters->counts, pgns, pgns_len, times, frames, frame_pgns, frames, sources, frames,
-                                 data, HF_FRAME_BYTES * frames, kinds, frames, lengths, frames, arena, arena_len, counts);
+    return hf_raw_process_frames(pool->size, pool->mode, pool->heads, pool->bytes, counters->counts, pgns, pgns_len, times, frames, frame_pgns, frames,
+                                 sources, frames, data, HF_FRAME_BYTES * frames, kinds, frames, lengths, frames, arena, arena_len, counts);
 }
 
 /* Returns the number that the caller holds from now on. */

@@ -83,6 +83,10 @@ static hf_pool pool;
 static hf_counters counters;
 static hf_message message;
 
+static int same(const hf_pool *a, const hf_pool *b) {
+    return a->size == b->size && a->mode == b->mode && !memcmp(a->heads, b->heads, sizeof a->heads) && !memcmp(a->bytes, b->bytes, sizeof a->bytes);
+}
+
 static uint32_t hear(uint64_t now_ms, const char *data) {
     return hf_process_frame(&pool, &counters, LIST, 1, now_ms, 127489, 35, (const uint8_t *)data, &message);
 }
@@ -124,7 +128,7 @@ static void cut_frames(void) {
     expect(hear_cut("\x00\x08" "abcdef", 8) == HF_FRAGMENT_CONSUMED && hear_cut("\x01gh.....", 3) == HF_MESSAGE_COMPLETE && !memcmp(message.payload, "abcdefgh", 9), "and whole");
     static hf_pool before;
     before = pool;
-    expect(hear_cut("\x01.......", 1) == HF_LOST && counters.counts[HF_LOST_FRAGMENTS] == 3 && !memcmp(&before, &pool, sizeof pool), "a stray of one byte changes nothing");
+    expect(hear_cut("\x01.......", 1) == HF_LOST && counters.counts[HF_LOST_FRAGMENTS] == 3 && same(&before, &pool), "a stray of one byte changes nothing");
 }
 
 static void messages(void) {
@@ -132,8 +136,8 @@ static void messages(void) {
     expect(HF_POOL_SLOTS == 32 && hf_pool_new(&pool, 32) == HF_OK && pool.size == 32 && hear(0, "\x00\x07" "abcdef") == HF_FRAGMENT_CONSUMED, "a pool of 32, and a frame for it");
     expect(hf_pool_new(&pool, 33) == HF_REFUSED_IMPOSSIBLE_POOL && pool.size == 0, "a pool of 33: 1");
     hf_pool_default(&pool);
-    expect(pool.size == HF_DEFAULT_SLOTS, "four slots by default");
-    expect(hf_pool_new(&pool, 1) == HF_OK && pool.size == 1, "one slot");
+    expect(pool.size == HF_DEFAULT_SLOTS && pool.mode == HF_AS_ORIGINAL, "four slots by default, as the original");
+    expect(hf_pool_new(&pool, 1) == HF_OK && pool.size == 1 && pool.mode == HF_AS_ORIGINAL, "one slot, as the original");
     expect(hear(0, "\x00\x00......") == HF_REJECTED && counters.counts[HF_REJECTED_FRAMES] == 1, "P9: announced 0");
     expect(hear(0, "\x00\xE0......") == HF_REJECTED && counters.counts[HF_REJECTED_FRAMES] == 2, "P9: announced 224");
     expect(hear(1000, "\x00\x07" "abcdef") == HF_FRAGMENT_CONSUMED, "P10: opened");
@@ -168,6 +172,61 @@ static void messages(void) {
     pool.size = HF_POOL_SLOTS + 1;
     expect(hear(0, "\x00\x06......") == HF_REFUSED_IMPOSSIBLE_POOL && pool.heads[HF_SLOT_IN_PROGRESS] == 2 && pool.heads[HF_SLOT_SOURCE] == 300,
            "a refusal leaves numbers wider than their fields");
+}
+
+/* A pool of one slot in this mode, whose message was last heard at 1000. */
+static void half_heard(uint32_t mode) {
+    hf_counters_new(&counters);
+    expect(hf_pool_with_mode(&pool, 1, mode) == HF_OK && pool.size == 1 && pool.mode == mode, "a pool in a mode");
+    expect(hear(1000, "\x00\x0E" "abcdef") == HF_FRAGMENT_CONSUMED, "opened at 1000");
+}
+
+/* The table of a clock that was set back, each line on a pool of its own. */
+static void clock_set_back(void) {
+    static hf_pool before;
+    half_heard(HF_SET_BACK_IS_SILENCE);
+    before = pool;
+    expect(hear(999, "\x01ghijklm") == HF_LOST && counters.counts[HF_LOST_FRAGMENTS] == 1 && same(&before, &pool), "continued at 999: a stray, and the slot as it was");
+    expect(hear(0, "\x01ghijklm") == HF_LOST && hear(1501, "\x01ghijklm") == HF_LOST && counters.counts[HF_LOST_FRAGMENTS] == 3 && same(&before, &pool), "and at 0, P12, and at 1501");
+    expect(hear(1000, "\x01ghijklm") == HF_FRAGMENT_CONSUMED && pool.heads[HF_SLOT_LAST_TIME] == 1000, "continued at 1000: taken");
+    expect(hear(1500, "\x02n......") == HF_MESSAGE_COMPLETE && message.length == 14 && pool.heads[HF_SLOT_IN_PROGRESS] == 0 && pool.heads[HF_SLOT_LAST_TIME] == 1500,
+           "and at 1500; the reset keeps the time");
+    expect(hear(0, "\x20\x07" "abcdef") == HF_FRAGMENT_CONSUMED && counters.counts[HF_EXPIRED_SESSIONS] == 0, "an idle slot is free, whatever its time");
+    half_heard(HF_SET_BACK_IS_SILENCE);
+    expect(hear(999, "\x00\x07" "abcdef") == HF_FRAGMENT_CONSUMED && counters.counts[HF_EXPIRED_SESSIONS] == 1 && pool.heads[HF_SLOT_LAST_TIME] == 999, "begun again at 999: expired");
+    half_heard(HF_SET_BACK_IS_SILENCE);
+    expect(hear(999, "\x20\x07" "abcdef") == HF_FRAGMENT_CONSUMED && counters.counts[HF_EXPIRED_SESSIONS] == 1 && pool.heads[HF_SLOT_SEQUENCE] == 1, "another key at 999: expired");
+    expect(hear(UINT64_MAX, "\x21g......") == HF_LOST && hear(UINT64_MAX, "\x20\x07" "abcdef") == HF_FRAGMENT_CONSUMED && hear(0, "\x21g......") == HF_LOST
+               && hear(0, "\x20\x07" "abcdef") == HF_FRAGMENT_CONSUMED && counters.counts[HF_EXPIRED_SESSIONS] == 3, "from one end of the clock to the other, and back");
+    half_heard(HF_AS_ORIGINAL);
+    expect(hear(999, "\x20\x07" "abcdef") == HF_POOL_FULL && hear(999, "\x01ghijklm") == HF_FRAGMENT_CONSUMED && pool.heads[HF_SLOT_LAST_TIME] == 999, "as the original: alive at 999");
+}
+
+/* A number that is no mode: none is made in it, and every call refuses it. */
+static void no_mode(void) {
+    static const uint32_t numbers[] = {2, 3, 255, 256, UINT32_MAX};
+    static hf_pool before;
+    uint64_t counts[HF_COUNTS], times[1] = {1000};
+    uint8_t sources[1] = {35}, kinds[1], lengths[1], arena[8];
+    for (int i = 0; i < 5; i++) {
+        half_heard(HF_SET_BACK_IS_SILENCE);
+        before = pool;
+        before.size = 0;
+        before.mode = HF_AS_ORIGINAL;
+        expect(hf_pool_with_mode(&pool, 1, numbers[i]) == HF_REFUSED_IMPOSSIBLE_POOL && same(&before, &pool), "no mode: 1, size 0, and the slots as they were");
+        half_heard(HF_SET_BACK_IS_SILENCE);
+        pool.mode = numbers[i];
+        before = pool;
+        expect(hear(1000, "\x01ghijklm") == HF_REFUSED_IMPOSSIBLE_POOL && message.length == 0, "no mode: 1");
+        expect(hf_receive(&pool, &counters, LIST, 1, 1000, 127489, 35, (const uint8_t *)"\x00\x06......", &message) == HF_REFUSED_IMPOSSIBLE_POOL, "no mode, by value: 1");
+        expect(hear_cut("\x00\x06......", 8) == HF_REFUSED_IMPOSSIBLE_POOL, "no mode, with a length: 1");
+        expect(hf_process_frames(&pool, &counters, LIST, 1, 1, times, LIST, sources, (const uint8_t *)"\x00\x06......", kinds, lengths, arena, 8, counts)
+                   == HF_REFUSED_IMPOSSIBLE_POOL && counts[HF_COUNT_TAKEN] == 0, "no mode, in a batch: 1");
+        expect(same(&before, &pool) && counters.counts[HF_REJECTED_FRAMES] == 0 && counters.counts[HF_LOST_FRAGMENTS] == 0, "no mode: nothing has changed");
+    }
+    half_heard(HF_AS_ORIGINAL);
+    expect(hf_pool_with_mode(&pool, 33, HF_SET_BACK_IS_SILENCE) == HF_REFUSED_IMPOSSIBLE_POOL && pool.size == 0 && pool.mode == HF_SET_BACK_IS_SILENCE
+               && pool.heads[HF_SLOT_IN_PROGRESS] == 1, "a pool of 33 in a mode: 1, and of size 0 in it");
 }
 
 static void bench(void) {
@@ -235,8 +294,8 @@ static void batch(void) {
     expect(hf_process_frames(&pool, &counters, NULL, 0, 2, times, pgns, sources, data, kinds, lengths, NULL, 0, counts) == HF_OK && counts[HF_COUNT_TAKEN] == 2
                && kinds[1] == HF_NOT_LISTED && counters.counts[HF_UNKNOWN_PGN] == 2, "a batch with no list and no arena, at NULL");
     expect(hf_process_frames(&pool, &counters, NULL, 0, 0, NULL, NULL, NULL, NULL, NULL, NULL, NULL, 0, counts) == HF_OK && counts[HF_COUNT_TAKEN] == 0, "a batch of no frames, at NULL");
-    expect(hf_raw_process_frames(pool.size, pool.heads, pool.bytes, counters.counts, LIST, 1, times, 2, pgns, 1, sources, 2, data, 16, kinds, 2, lengths, 2, arena, 16, counts)
-               == HF_REFUSED_NO_ROOM && counts[HF_COUNT_TAKEN] == 0, "a row too short: 27");
+    expect(hf_raw_process_frames(pool.size, pool.mode, pool.heads, pool.bytes, counters.counts, LIST, 1, times, 2, pgns, 1, sources, 2, data, 16, kinds, 2, lengths, 2, arena,
+                                 16, counts) == HF_REFUSED_NO_ROOM && counts[HF_COUNT_TAKEN] == 0, "a row too short: 27");
 }
 
 /* All of the above on a stack of its own, painted first: what is not the paint any more was used. */
@@ -248,6 +307,8 @@ static void calls(void) {
     lists();
     cut_frames();
     messages();
+    clock_set_back();
+    no_mode();
     batch();
     batch_names();
     bench();

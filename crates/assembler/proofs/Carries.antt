@@ -50,7 +50,7 @@ carried d g f p k =
       payload =
           paste (paste (replicate 223 0) 0 (drop (g * 223) (paste (p .bytes) (g * 223 + d .at) (drop (d .from) (f .«data»)) (d .count))) (d .whole)) 0 (drop 2 (f .«data»)) (d .short);
       length = d .whole + d .short;
-      pool = record { size = p .size; heads = set (p .heads) g (d .head); bytes = paste (p .bytes) (g * 223 + d .at) (drop (d .from) (f .«data»)) (d .count) };
+      pool = record { mode = p .mode; size = p .size; heads = set (p .heads) g (d .head); bytes = paste (p .bytes) (g * 223 + d .at) (drop (d .from) (f .«data»)) (d .count) };
       counters = raised (d .mark) k;
     }
 
@@ -78,7 +78,7 @@ module _ (R : Rules) (f : Heard) (p : Pool) (k : Counters) (w : Whole p) (eight 
   slots = take (p .size) (slotsFrom (p .heads) (p .bytes))
 
   abbrev after : Event → Received
-  after e = shown (outcome f e (slotsOf p) k)
+  after e = shown (p .mode) (outcome f e (slotsOf p) k)
 
   does-ignored : (e : Event) (why : Why) (g : ℕ) → saidOf f slots e ≡ ignored why → slotsAfter f slots e ≡ slots → Does f p k (idle (whyKind why) (markOf e) (getD (p .heads) g d)) g (after e)
   unfolding idle carried shown outcome slotsOf replyKind replyPayload replyLength zeros
@@ -88,7 +88,7 @@ module _ (R : Rules) (f : Heard) (p : Pool) (k : Counters) (w : Whole p) (eight 
         is = rw (said, kept, set-getD (p .heads) g d, sym (copy-none (p .bytes) (g * 223 + 0)), view-same p w);
       }
 
-  does-refused : (g : ℕ) → Does f p k (idle ImpossiblePool Nothing (getD (p .heads) g d)) g (shown (record { reply = refuses 1 []; pool = slotsOf p; counters = k }))
+  does-refused : (g : ℕ) → Does f p k (idle ImpossiblePool Nothing (getD (p .heads) g d)) g (shown (p .mode) (record { reply = refuses 1 []; pool = slotsOf p; counters = k }))
   unfolding idle carried shown replyKind replyPayload replyLength zeros raised
   does-refused g =
       record {
@@ -246,7 +246,7 @@ module _ (R : Rules) (f : Heard) (p : Pool) (k : Counters) (w : Whole p) (eight 
 
     does-checked : (l : List ℕ) (b : Bool) → any (onHead impossibleHead) slots ≡ b
         → Does f p k (planOf b (listedIn (f .pgn) l) (found (choice (eqb (indexOf f) 0))) R f (getD (p .heads) (spot (choice (eqb (indexOf f) 0))) d)) (spot (choice (eqb (indexOf f) 0)))
-        (shown (stepIf b R (slotsOf p) k (record { pgns = l; heard = f })))
+        (shown (p .mode) (stepIf b R (slotsOf p) k (record { pgns = l; heard = f })))
     unfolding planOf stepIf
     does-checked l true e = does-refused (spot (choice (eqb (indexOf f) 0)))
     does-checked l false e = unfold eventOf slotsOf in does-listed e (listedIn (f .pgn) l)
@@ -275,7 +275,7 @@ module _ (R : Rules) (f : Heard) (p : Pool) (k : Counters) (w : Whole p) (eight 
     where
       go : (b : Bool) → ltb poolLimit (p .size) ≡ b → (n : ℕ) → n ≡ poolLimit
           → Does f p k (planOf (seenIf b R f (p .size) (p .heads) .bad) (listedIn (f .pgn) l) (ltb (placeOf f (seenIf b R f (p .size) (p .heads))) poolLimit) R f (getD (p .heads) (withinLimit (placeOf f (seenIf b R f (p .size) (p .heads)))) d))
-          (withinLimit (placeOf f (seenIf b R f (p .size) (p .heads)))) (shown (stepIf (ltb n (p .size) || any (onHead impossibleHead) slots) R (slotsOf p) k (record { pgns = l; heard = f })))
+          (withinLimit (placeOf f (seenIf b R f (p .size) (p .heads)))) (shown (p .mode) (stepIf (ltb n (p .size) || any (onHead impossibleHead) slots) R (slotsOf p) k (record { pgns = l; heard = f })))
       go true e n en = unfold nothingFound planOf stepIf in rw (en, e) (does-refused _)
       go false e n en =
           let small : p .size ≤ poolLimit = ltb-false poolLimit (p .size) e in
@@ -300,7 +300,7 @@ module _ (R : Rules) (limit : R .limit ≡ poolLimit) (l : List ℕ) (f : Heard)
   -- the answer, put together from what the calls left
   pub answered : (b : List ℕ) (c : Counters) (m n : List ℕ) → b ≡ paste (p .bytes) (g * 223 + d .at) (drop (d .from) (f .«data»)) (d .count) → c ≡ raised (d .mark) k
       → m ≡ paste (replicate 223 0) 0 (drop (g * 223) b) (d .whole) → n ≡ paste m 0 (drop 2 (f .«data»)) (d .short)
-      → record { kind = d .kind; payload = n; length = d .whole + d .short; pool = record { size = p .size; heads = set (p .heads) g (d .head); bytes = b }; counters = c } ≡ receiveOf R l f p k
+      → record { kind = d .kind; payload = n; length = d .whole + d .short; pool = record { mode = p .mode; size = p .size; heads = set (p .heads) g (d .head); bytes = b }; counters = c } ≡ receiveOf R l f p k
   unfolding carried
   answered b c m n eb ec em en = rw (en, em, ec, eb) (planned .is)
 

@@ -6,6 +6,7 @@ use Rattle.base.specs.Answer.{Answer, gives, refuses}
 use Rattle.session.specs.declared.Counters.{Counters}
 use Rattle.session.specs.declared.Heard.{Heard}
 use Rattle.session.specs.declared.Kind.{Kind}
+use Rattle.session.specs.declared.Mode.{Mode}
 use Rattle.session.specs.declared.Kind.the-variants.{ImpossiblePool, NotListed, Rejected, PoolFull, Lost, FragmentConsumed, MessageComplete}
 use Rattle.assembler.specs.declared.Made.{Made}
 use Rattle.assembler.specs.declared.Made.the-variants as made
@@ -13,7 +14,7 @@ use Rattle.assembler.specs.declared.MadePool.{MadePool}
 use Rattle.assembler.specs.declared.Pool.{Pool}
 use Rattle.assembler.specs.declared.Processed.{Processed}
 use Rattle.assembler.specs.declared.Received.{Received}
-use Rattle.assembler.specs.Making.{sizeMade, poolMade, ofMade, MakesPool}
+use Rattle.assembler.specs.Making.{sizeMade, poolMade, ofMade, MakesPoolIn}
 use Rattle.assembler.specs.Step.{Outcome, Reply}
 use Rattle.assembler.specs.View.{poolOf, whyKind, replyKind, replyPayload, replyLength, shown, replyBy, replyOf, receiveOf}
 use Rattle.assembler.specs.Promises.{rulesOf, outcomeOn, Answers, ReceivesHeard, ProcessesHeard}
@@ -32,8 +33,8 @@ unfolding ofMade caseOf
 case-back made.Fresh size = refl
 case-back made.ImpossiblePool size = refl
 
-pub made-by : (wanted : ℕ) {r : MadePool} → MakesPool wanted r → r ≡ record { result = caseOf (sizeMade wanted); pool = poolMade (sizeMade wanted) }
-made-by wanted {r} h =
+pub made-by : (mode : Mode) (wanted : ℕ) {r : MadePool} → MakesPoolIn mode wanted r → r ≡ record { result = caseOf (sizeMade wanted); pool = poolMade mode (sizeMade wanted) }
+made-by mode wanted {r} h =
     let case : r .result ≡ caseOf (sizeMade wanted) = sym (case-back (r .result) (r .pool .size)) ∙ ap caseOf (h .answer) in
     rw (case, h .left) refl
 
@@ -50,25 +51,25 @@ kind-back Lost payload length = refl
 kind-back FragmentConsumed payload length = refl
 kind-back MessageComplete payload length = refl
 
-module _ {o : Outcome} {kind : Kind} {payload : List ℕ} {length : ℕ} {pool : Pool} (h : Answers o kind payload length pool) where
+module _ {mode : Mode} {o : Outcome} {kind : Kind} {payload : List ℕ} {length : ℕ} {pool : Pool} (h : Answers mode o kind payload length pool) where
   kind-of : kind ≡ replyKind (o .reply)
   kind-of = sym (kind-back kind payload length) ∙ ap replyKind (h .told)
 
-  answer-is : record { kind = kind; payload = payload; length = length; pool = pool } ≡ processedOf (shown o)
+  answer-is : record { kind = kind; payload = payload; length = length; pool = pool } ≡ processedOf (shown mode o)
   unfolding shown
   answer-is = rw (kind-of, h .bytes, h .size, h .left) refl
 
-  received-is : (k : Counters) → k ≡ o .counters → record { kind = kind; payload = payload; length = length; pool = pool; counters = k } ≡ shown o
+  received-is : (k : Counters) → k ≡ o .counters → record { kind = kind; payload = payload; length = length; pool = pool; counters = k } ≡ shown mode o
   unfolding shown
   received-is k e = rw (kind-of, h .bytes, h .size, h .left, e) refl
 
 -- what an outcome shows is its answer
-shown-answers : (o : Outcome) → replyOf (shown o) ≡ o .reply → Answers o (shown o .kind) (shown o .payload) (shown o .length) (shown o .pool)
+shown-answers : (m : Mode) (o : Outcome) → replyOf (shown m o) ≡ o .reply → Answers m o (shown m o .kind) (shown m o .payload) (shown m o .length) (shown m o .pool)
 unfolding shown replyOf
-shown-answers o e = record { told = e; bytes = refl; size = refl; left = refl }
+shown-answers m o e = record { told = e; bytes = refl; size = refl; left = refl }
 
 module _ (pgns : List ℕ) (f : Heard) (p : Pool) (k : Counters) where
-  the-outcome : receiveOf (rulesOf p) pgns f p k ≡ shown (outcomeOn pgns f p k)
+  the-outcome : receiveOf (rulesOf p) pgns f p k ≡ shown (p .mode) (outcomeOn pgns f p k)
   unfolding receiveOf outcomeOn
   the-outcome = refl
 
@@ -83,7 +84,7 @@ module _ (pgns : List ℕ) (f : Heard) (p : Pool) (k : Counters) where
   unfolding receiveOf outcomeOn
   the-call =
       record {
-        answer = shown-answers (outcomeOn pgns f p k) (replied (rulesOf p) pgns f p k);
+        answer = shown-answers (p .mode) (outcomeOn pgns f p k) (replied (rulesOf p) pgns f p k);
         counted = unfold shown in refl;
       }
 

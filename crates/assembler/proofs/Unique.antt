@@ -4,21 +4,26 @@ use mathlib.Core.Path.{_≡_}
 use mathlib.Core.List.{List}
 use Rattle.base.proofs.Cases.{determined}
 use Rattle.session.specs.declared.Counters.{Counters}
+use Rattle.session.specs.declared.Mode.{Mode}
+use Rattle.session.specs.declared.Mode.the-variants.{AsOriginal}
 use Rattle.assembler.specs.declared.Arrival.{Arrival}
 use Rattle.assembler.specs.declared.ArrivalWithLength.{ArrivalWithLength}
 use Rattle.assembler.specs.declared.MadePool.{MadePool}
 use Rattle.assembler.specs.declared.Pool.{Pool}
 use Rattle.assembler.specs.declared.Processed.{Processed}
 use Rattle.assembler.specs.declared.Received.{Received}
-use Rattle.assembler.specs.Making.{freshPool, MakesPool}
+use Rattle.assembler.specs.Making.{freshPool, MakesPoolIn, MakesPool}
 use Rattle.assembler.specs.Arrivals.{heardOf, heardWithLength}
 use Rattle.assembler.specs.Promises.{Receives, ReceivesWithLength, Processes, ProcessesWithLength}
 use Rattle.assembler.proofs.Promised.{made-by, received-by, processed-by}
 
 -- ---- making a pool
 
+pub with-mode-unique : (size : ℕ) (mode : Mode) (r s : MadePool) → MakesPoolIn mode size r → MakesPoolIn mode size s → r ≡ s
+with-mode-unique size mode r s p q = determined (made-by mode size p) (made-by mode size q)
+
 pub new-unique : (size : ℕ) (r s : MadePool) → MakesPool size r → MakesPool size s → r ≡ s
-new-unique size r s p q = determined (made-by size p) (made-by size q)
+new-unique size r s = with-mode-unique size AsOriginal r s
 
 pub default-unique : (r s : Pool) → r ≡ freshPool 4 → s ≡ freshPool 4 → r ≡ s
 default-unique r s = determined

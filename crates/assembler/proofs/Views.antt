@@ -8,11 +8,15 @@ use lib.Seq.{paste, length-paste, take-take, take-add, drop-drop, drop-append-le
 use native.Mathlib.Omega.{arith}
 use Rattle.base.specs.Lists.{here, firstAt, any}
 use Rattle.session.specs.declared.Head.{Head}
-use Rattle.session.specs.Rules.{poolLimit}
+use Rattle.session.specs.declared.Mode.{Mode}
+use Rattle.session.specs.declared.Heard.{Heard}
+use Rattle.session.specs.declared.Counters.{Counters}
+use Rattle.session.specs.Rules.{Rules, poolLimit}
 use Rattle.assembler.specs.declared.Pool.{Pool}
 use Rattle.assembler.specs.Slots.{Slot, Slots, onHead}
 use Rattle.assembler.specs.Making.{poolBytes}
-use Rattle.assembler.specs.View.{slotsFrom, headOf, flat, slotsOf, poolOf}
+use Rattle.assembler.specs.Step.{step}
+use Rattle.assembler.specs.View.{slotsFrom, headOf, flat, slotsOf, poolOf, shown, receiveOf}
 
 heads-set : (ss : List Slot) (i : ℕ) (s : Slot) → map headOf (set ss i s) ≡ set (map headOf ss) i (s .head)
 unfolding headOf
@@ -20,7 +24,7 @@ heads-set [] i s = refl
 heads-set (x ∷ ss) zero s = refl
 heads-set (x ∷ ss) (suc i) s = ap (_∷_ (x .head)) (heads-set ss i s)
 
-heads-back : (hs : List Head) (bs : List ℕ) → map headOf (slotsFrom hs bs) ≡ hs
+pub heads-back : (hs : List Head) (bs : List ℕ) → map headOf (slotsFrom hs bs) ≡ hs
 unfolding headOf slotsFrom
 heads-back [] bs = refl
 heads-back (h ∷ hs) bs = ap (_∷_ h) (heads-back hs (drop 223 bs))
@@ -93,11 +97,11 @@ pub record Whole (p : Pool) : Type 0 where
   pub bytes : length (p .bytes) ≡ poolBytes
 
 -- back from the slots is the pool itself
-pub view-back : (p : Pool) → Whole p → poolOf (slotsOf p) ≡ p
+pub view-back : (p : Pool) → Whole p → poolOf (p .mode) (slotsOf p) ≡ p
 unfolding poolOf slotsOf
 view-back p w = rw (heads-back (p .heads) (p .bytes), flat-back (p .heads) (p .bytes) (omega (arith, w .heads, w .bytes)))
 
-pub view-same : (p : Pool) → Whole p → poolOf (record { slots = take (p .size) (slotsFrom (p .heads) (p .bytes)) ++ drop (p .size) (slotsFrom (p .heads) (p .bytes)); size = p .size }) ≡ p
+pub view-same : (p : Pool) → Whole p → poolOf (p .mode) (record { slots = take (p .size) (slotsFrom (p .heads) (p .bytes)) ++ drop (p .size) (slotsFrom (p .heads) (p .bytes)); size = p .size }) ≡ p
 view-same p w = rw (take-append-drop (p .size) (slotsFrom (p .heads) (p .bytes))) (unfold slotsOf in view-back p w)
 
 set-within : {A : Type 0} (n : ℕ) (l : List A) (i : ℕ) (a : A) → i < n → set (take n l) i a ++ drop n l ≡ set l i a
@@ -105,8 +109,8 @@ set-within n l i a h = rw (← take-set-lt n l i a h, ← drop-set-lt n l i a h)
 
 -- a slot within the size, changed
 pub view-set : (p : Pool) → Whole p → (i : ℕ) (h : Head) (at : ℕ) (src : List ℕ) (n : ℕ) → i < p .size → p .size ≤ poolLimit → at + n ≤ 223 → n ≤ length src
-    → poolOf (record { slots = set (take (p .size) (slotsFrom (p .heads) (p .bytes))) i (record { head = h; buffer = paste (take 223 (drop (i * 223) (p .bytes))) at src n }) ++ drop (p .size) (slotsFrom (p .heads) (p .bytes)); size = p .size })
-    ≡ record { size = p .size; heads = set (p .heads) i h; bytes = paste (p .bytes) (i * 223 + at) src n }
+    → poolOf (p .mode) (record { slots = set (take (p .size) (slotsFrom (p .heads) (p .bytes))) i (record { head = h; buffer = paste (take 223 (drop (i * 223) (p .bytes))) at src n }) ++ drop (p .size) (slotsFrom (p .heads) (p .bytes)); size = p .size })
+    ≡ record { mode = p .mode; size = p .size; heads = set (p .heads) i h; bytes = paste (p .bytes) (i * 223 + at) src n }
 unfolding poolOf slotsOf
 view-set p w i h at src n lt small fits there =
     let s : Slot = record { head = h; buffer = paste (take 223 (drop (i * 223) (p .bytes))) at src n } in
@@ -153,6 +157,16 @@ slots-forth none = refl
 slots-forth (more {s} {ss} e h) =
     rw (take-at (s .buffer) (flat ss) 223 e, drop-at (s .buffer) (flat ss) 223 e) (ap (_∷_ s) (slots-forth h))
 
-pub view-forth : (q : Slots) → Sized (q .slots) → slotsOf (poolOf q) ≡ q
+pub view-forth : (mode : Mode) (q : Slots) → Sized (q .slots) → slotsOf (poolOf mode q) ≡ q
 unfolding slotsOf poolOf
-view-forth q h = rw (slots-forth h)
+view-forth mode q h = rw (slots-forth h)
+
+-- ---- no call changes the mode
+
+pub mode-of : (mode : Mode) (q : Slots) → poolOf mode q .mode ≡ mode
+unfolding poolOf
+mode-of mode q = refl
+
+pub mode-kept : (R : Rules) (pgns : List ℕ) (f : Heard) (p : Pool) (k : Counters) → receiveOf R pgns f p k .pool .mode ≡ p .mode
+unfolding receiveOf shown
+mode-kept R pgns f p k = mode-of (p .mode) (step R (slotsOf p) k (record { pgns = pgns; heard = f }) .pool)

@@ -9,6 +9,7 @@ use Rattle.session.specs.declared.Heard.{Heard}
 use Rattle.session.specs.declared.Counters.{Counters}
 use Rattle.session.specs.declared.Kind.{Kind}
 use Rattle.session.specs.declared.Kind.the-variants.{ImpossiblePool, NotListed, Rejected, PoolFull, Lost, FragmentConsumed, MessageComplete}
+use Rattle.session.specs.declared.Mode.{Mode}
 use Rattle.session.specs.Rules.{Rules}
 use Rattle.assembler.specs.declared.Pool.{Pool}
 use Rattle.assembler.specs.declared.Received.{Received}
@@ -34,8 +35,9 @@ unfoldable pub flat : List Slot → List ℕ
 flat [] = []
 flat (s ∷ ss) = s .buffer ++ flat ss
 
-unfoldable pub poolOf : Slots → Pool
-poolOf p = record { size = p .size; heads = map headOf (p .slots); bytes = flat (p .slots) }
+-- in the mode that the pool was made with
+unfoldable pub poolOf : Mode → Slots → Pool
+poolOf mode p = record { mode = mode; size = p .size; heads = map headOf (p .slots); bytes = flat (p .slots) }
 
 -- ---- 01's answers as kind, payload and length: "other answers carry 223 zeros and length 0"
 
@@ -68,8 +70,8 @@ replyLength (gives (ignored why)) = 0
 replyLength (gives consumed) = 0
 replyLength (gives (complete bytes n)) = n
 
-unfoldable pub shown : Outcome → Received
-shown o = record { kind = replyKind (o .reply); payload = replyPayload (o .reply); length = replyLength (o .reply); pool = poolOf (o .pool); counters = o .counters }
+unfoldable pub shown : Mode → Outcome → Received
+shown mode o = record { kind = replyKind (o .reply); payload = replyPayload (o .reply); length = replyLength (o .reply); pool = poolOf mode (o .pool); counters = o .counters }
 
 -- 01's number and values of each kind of answer, with the payload and length beside it
 unfoldable pub replyBy : Kind → List ℕ → ℕ → Reply
@@ -86,6 +88,6 @@ replyOf r = replyBy (r .kind) (r .payload) (r .length)
 
 -- ---- the call
 
--- one call with eight bytes
+-- one call with eight bytes; the pool keeps its mode
 unfoldable pub receiveOf : Rules → List ℕ → Heard → Pool → Counters → Received
-receiveOf R pgns f p k = shown (step R (slotsOf p) k (record { pgns = pgns; heard = f }))
+receiveOf R pgns f p k = shown (p .mode) (step R (slotsOf p) k (record { pgns = pgns; heard = f }))

@@ -15,6 +15,7 @@ pub use receiving::receive_with_length;
 use session::Counters;
 use session::Head;
 use session::Kind;
+use session::Mode;
 use session::POOL_LIMIT;
 
 // Sessions in the default pool, one for each message in flight.
@@ -24,8 +25,9 @@ pub const DEFAULT_SESSIONS: usize = 4;
 pub const POOL_BYTES: usize = POOL_LIMIT * MAX_FAST_PACKET_PAYLOAD;
 
 // A fixed pool of reusable sessions: session k is heads[k] with the MAX_FAST_PACKET_PAYLOAD bytes from MAX_FAST_PACKET_PAYLOAD * k on. Those from
-// `size` on are not used.
+// `size` on are not used. The mode is the one that the pool was made with; no call changes it.
 pub struct Pool {
+    pub mode: Mode,
     pub size: usize,
     pub heads: [Head; POOL_LIMIT],
     pub bytes: [u8; POOL_BYTES],

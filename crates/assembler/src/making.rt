@@ -1,20 +1,22 @@
 // Making a pool.
 ghost use mathlib.Core.Path.{_≡_};
-ghost use Rattle.assembler.specs.Making.{freshPool, MakesPool};
+ghost use Rattle.assembler.specs.Making.{freshPool, freshPoolIn, MakesPool, MakesPoolIn};
 use crate::DEFAULT_SESSIONS;
 use crate::Made;
 use crate::MadePool;
 use crate::POOL_BYTES;
 use crate::Pool;
+use session::Mode;
 use session::POOL_LIMIT;
 use session::fresh_head;
 
-fn fresh_pool(size: usize) -> Pool
-    ensures { λ r. ⌜ r ≡ freshPool size ⌝ }
+fn fresh_pool(mode: Mode, size: usize) -> Pool
+    ensures { λ r. ⌜ r ≡ freshPoolIn mode size ⌝ }
 {
     let h = fresh_head();
     let heads = [h; POOL_LIMIT];
     Pool {
+        mode: mode,
         size: size,
         heads: heads,
         bytes: [0; POOL_BYTES],
@@ -22,18 +24,25 @@ fn fresh_pool(size: usize) -> Pool
 }
 
 impl Pool {
-    // A fresh pool; above the limit, refusal 1 and one without sessions.
+    // A fresh pool, as the original; above the limit, refusal 1 and one without sessions.
     pub fn new(size: usize) -> MadePool
         ensures { λ r. ⌜ MakesPool size r ⌝ }
     {
+        Pool::with_mode(size, Mode::AsOriginal)
+    }
+
+    // The same in the mode that is chosen here.
+    pub fn with_mode(size: usize, mode: Mode) -> MadePool
+        ensures { λ r. ⌜ MakesPoolIn mode size r ⌝ }
+    {
         if POOL_LIMIT < size {
-            let pool = fresh_pool(0);
+            let pool = fresh_pool(mode, 0);
             MadePool {
                 result: Made::ImpossiblePool,
                 pool: pool,
             }
         } else {
-            let pool = fresh_pool(size);
+            let pool = fresh_pool(mode, size);
             MadePool {
                 result: Made::Fresh,
                 pool: pool,
@@ -44,6 +53,6 @@ impl Pool {
     pub fn default() -> Pool
         ensures { λ r. ⌜ r ≡ freshPool 4 ⌝ }
     {
-        fresh_pool(DEFAULT_SESSIONS)
+        fresh_pool(Mode::AsOriginal, DEFAULT_SESSIONS)
     }
 }

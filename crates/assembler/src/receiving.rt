@@ -41,13 +41,13 @@ fn receive_heard(pool: Pool, counters: Counters, pgns: &[u32], heard: Heard) -> 
     let mut i = either(crowded, 0, q.size);
     while 0 < i {
         i -= 1;
-        s = look(q.heads[i], s, i, heard);
+        s = look(q.mode, q.heads[i], s, i, heard);
     }
     let listed = is_listed(pgns, heard.pgn);
     let place = place_for(s, heard);
     let found = place < POOL_LIMIT;
     let g = within_limit(place);
-    let d = decide(s.bad, listed, found, q.heads[g], heard);
+    let d = decide(q.mode, s.bad, listed, found, q.heads[g], heard);
     let h = d.head;
     q.heads[g] = h;
     let frame = heard.data;

@@ -8,20 +8,21 @@ use native.Mathlib.Omega.{arith}
 use Rattle.base.specs.OneWalk.{never, oneWalk}
 use Rattle.session.specs.declared.Head.{Head}
 use Rattle.session.specs.declared.Heard.{Heard}
-use Rattle.session.specs.Rules.{base, poolLimit}
+use Rattle.session.specs.declared.Mode.{Mode}
+use Rattle.session.specs.Rules.{rulesBy, poolLimit}
 use Rattle.session.specs.Heads.{freshHead, hasKey, isFree, isFreeOfSource, hasLiveKey}
 use Rattle.session.proofs.Seen.{place}
 use Rattle.session.proofs.OneWalk.{seen-first, seen-continuation}
 use Rattle.batch.specs.inner.Mirror.{frameKey, InRange, Mirrors, chosenIn, liveIn}
 use Rattle.batch.proofs.Sought.{seen-here, chosen-is, live-is}
 
-module _ (f : Heard) (n : ℕ) (hs : List Head) (ks os ts : List ℕ) (long : length hs ≡ poolLimit) (small : n ≤ poolLimit) (m : Mirrors poolLimit hs ks os ts) (r : InRange (f .pgn) (getD (f .«data») 0 0)) where
-  pub rows-first : chosenIn ks os ts n (frameKey f) (f .«source_address») (f .«now_ms») ≡ place (oneWalk (hasKey base f) (isFreeOfSource base f) (isFree base f) (take n hs))
+module _ (mode : Mode) (f : Heard) (n : ℕ) (hs : List Head) (ks os ts : List ℕ) (long : length hs ≡ poolLimit) (small : n ≤ poolLimit) (m : Mirrors poolLimit hs ks os ts) (r : InRange (f .pgn) (getD (f .«data») 0 0)) where
+  pub rows-first : chosenIn mode ks os ts n (frameKey f) (f .«source_address») (f .«now_ms») ≡ place (oneWalk (hasKey (rulesBy mode) f) (isFreeOfSource (rulesBy mode) f) (isFree (rulesBy mode) f) (take n hs))
   rows-first =
-      chosen-is f n hs ks os ts long small m r freshHead
-      ∙ rw (seen-here f n hs ks os ts long small m r freshHead) (seen-first base f (take n hs) (omega (arith, length-take-le n hs (omega (arith, long)))))
+      chosen-is mode f n hs ks os ts long small m r freshHead
+      ∙ rw (seen-here mode f n hs ks os ts long small m r freshHead) (seen-first (rulesBy mode) f (take n hs) (omega (arith, length-take-le n hs (omega (arith, long)))))
 
-  pub rows-continuation : liveIn ks ts n (frameKey f) (f .«now_ms») ≡ place (oneWalk (hasLiveKey base f) never never (take n hs))
+  pub rows-continuation : liveIn mode ks ts n (frameKey f) (f .«now_ms») ≡ place (oneWalk (hasLiveKey (rulesBy mode) f) never never (take n hs))
   rows-continuation =
-      live-is f n hs ks os ts long small m r freshHead
-      ∙ rw (seen-here f n hs ks os ts long small m r freshHead) (seen-continuation base f (take n hs))
+      live-is mode f n hs ks os ts long small m r freshHead
+      ∙ rw (seen-here mode f n hs ks os ts long small m r freshHead) (seen-continuation (rulesBy mode) f (take n hs))

@@ -224,7 +224,7 @@ module _ (R : Rules) (l : List ℕ) (w : Rows) (p : Pool) (k : Counters) (ks₀ 
 
         -- the pool after the frame
         abbrev after : Pool
-        after = record { size = q .size; heads = set (q .heads) g (d .head); bytes = bs }
+        after = record { mode = q .mode; size = q .size; heads = set (q .heads) g (d .head); bytes = bs }
 
         whole-there : d .whole ≤ length (drop (g * 223) bs)
         whole-there = simp length-drop (omega (arith, buffer-long, does .fits .whole))
@@ -279,7 +279,7 @@ module _ (R : Rules) (l : List ℕ) (w : Rows) (p : Pool) (k : Counters) (ks₀ 
       goes-past y low eight e u ar′ ear m em v ev =
           let bs : List ℕ = paste (q .bytes) (g * 223 + d .at) (drop (d .from) (f .«data»)) (d .count) in
           let kept : bs ≡ q .bytes = rw (u .count) (sym (paste-zero (q .bytes) (g * 223 + d .at) (drop (d .from) (f .«data»)))) in
-          let same : record { size = q .size; heads = set (q .heads) g (d .head); bytes = bs } ≡ q = rw (u .head, kept, set-getD (q .heads) g e) in
+          let same : record { mode = q .mode; size = q .size; heads = set (q .heads) g (d .head); bytes = bs } ≡ q = rw (u .head, kept, set-getD (q .heads) g e) in
           let laid-short : ar′ ≡ paste (paste ar used (drop (g * 223) bs) (d .whole)) used (drop 2 (f .«data»)) (d .short) = rw (u .whole, ← paste-zero ar used (drop (g * 223) bs)) ear in
           subst (λ (x : Pool). Running (set ks i v) (set ls i n) ar′ x m (used + n) (i + 1)) same
           (goes-on y low eight (inl (u .whole)) bs refl ar′ laid-short m em v ev)
@@ -308,7 +308,7 @@ module _ (R : Rules) (l : List ℕ) (w : Rows) (p : Pool) (k : Counters) (ks₀ 
       -- seven bytes more
       pub goes-running : Does f q c (runPlan R f (getD (q .heads) g e)) g (receiveOf R l f q c) → (t : Head) → t ≡ copiedHead f (getD (q .heads) g e)
           → (bs : List ℕ) → bs ≡ paste (q .bytes) (g * 223 + getD (q .heads) g e .«current_size») (drop 1 (f .«data»)) 7
-          → Running (set ks i 102) (set ls i 0) ar (record { size = q .size; heads = set (q .heads) g t; bytes = bs }) c used (i + 1)
+          → Running (set ks i 102) (set ls i 0) ar (record { mode = q .mode; size = q .size; heads = set (q .heads) g t; bytes = bs }) c used (i + 1)
       unfolding runPlan kindNumber raised
       goes-running does t et bs ebs =
           let laid-none : ar ≡ paste (paste ar used (drop (g * 223) bs) 0) used (drop 2 (f .«data»)) 0 = paste-zero ar used (drop (g * 223) bs) ∙ paste-zero (paste ar used (drop (g * 223) bs) 0) used (drop 2 (f .«data»)) in
@@ -319,7 +319,7 @@ module _ (R : Rules) (l : List ℕ) (w : Rows) (p : Pool) (k : Counters) (ks₀ 
       pub goes-by : (d : Plan) → Does f q c d g (receiveOf R l f q c) → d .short ≡ 0 → (b : Bool) → b ≡ ltb (length ar) (used + d .whole) → b ≡ false
           → (bs : List ℕ) → bs ≡ paste (q .bytes) (g * 223 + d .at) (drop (d .from) (f .«data»)) (d .count) → (ar′ : List ℕ) → ar′ ≡ paste ar used (drop (g * 223) bs) (d .whole)
           → (m : Counters) → m ≡ raised (d .mark) c → (v : ℕ) → v ≡ kindNumber (d .kind)
-          → Running (set ks i v) (set ls i (d .whole)) ar′ (record { size = q .size; heads = set (q .heads) g (d .head); bytes = bs }) m (used + d .whole) (i + 1)
+          → Running (set ks i v) (set ls i (d .whole)) ar′ (record { mode = q .mode; size = q .size; heads = set (q .heads) g (d .head); bytes = bs }) m (used + d .whole) (i + 1)
       goes-by d does none b eb y bs ebs ar′ ear m em v ev =
           let all : d .whole ≡ d .whole + d .short = rw none (sym (add-zero (d .whole))) in
           let laid-whole : ar′ ≡ paste (paste ar used (drop (g * 223) bs) (d .whole)) used (drop 2 (f .«data»)) (d .short) = rw none (ear ∙ paste-zero (paste ar used (drop (g * 223) bs) (d .whole)) used (drop 2 (f .«data»))) in

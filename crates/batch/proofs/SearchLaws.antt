@@ -8,6 +8,7 @@ use borrow.Author.Tests.{not-true, not-false, lt-ltb, le-ltb, le-leb, lt-leb, eq
 use Rattle.base.specs.Pick.{pick}
 use Rattle.session.specs.declared.Heard.{Heard}
 use Rattle.session.specs.declared.Head.{Head}
+use Rattle.session.specs.declared.Mode.{Mode}
 use Rattle.session.specs.Rules.{poolLimit}
 use Rattle.session.specs.Frames.{indexOf, sizeOf}
 use Rattle.batch.specs.inner.Mirror.{packed, keyNumber, chosenIn, liveIn, quiet, sought}
@@ -28,26 +29,26 @@ pub size-is : (f : Heard) → getD (f .«data») 1 0 ≡ sizeOf f
 unfolding sizeOf
 size-is f = refl
 
-module _ (keys owners lasts : List ℕ) (n : ℕ) (listed : Bool) (key : ℕ) (f : Heard) where
-  pub sought-unlisted : not listed ≡ true → poolLimit ≡ sought keys owners lasts n listed key f
+module _ (mode : Mode) (keys owners lasts : List ℕ) (n : ℕ) (listed : Bool) (key : ℕ) (f : Heard) where
+  pub sought-unlisted : not listed ≡ true → poolLimit ≡ sought mode keys owners lasts n listed key f
   unfolding sought pick
   sought-unlisted e = rw (not-true listed e)
 
   module _ (e : not listed ≡ false) where
-    pub sought-next : (r : ℕ) → (getD (f .«data») 0 0 % 32 ≡ 0 → ⊥) → r ≡ liveIn keys lasts n key (f .«now_ms») → r ≡ sought keys owners lasts n listed key f
+    pub sought-next : (r : ℕ) → (getD (f .«data») 0 0 % 32 ≡ 0 → ⊥) → r ≡ liveIn mode keys lasts n key (f .«now_ms») → r ≡ sought mode keys owners lasts n listed key f
     unfolding sought pick indexOf
     sought-next r z er = er ∙ rw (not-false listed e, ne-eqb (getD (f .«data») 0 0 % 32) 0 z)
 
     module _ (z : getD (f .«data») 0 0 % 32 ≡ 0) (size : ℕ) (es : size ≡ sizeOf f) where
-      pub sought-short : size ≤ 6 → poolLimit ≡ sought keys owners lasts n listed key f
+      pub sought-short : size ≤ 6 → poolLimit ≡ sought mode keys owners lasts n listed key f
       unfolding sought pick indexOf quiet
       sought-short l = rw (not-false listed e, eq-eqb (getD (f .«data») 0 0 % 32) 0 z, ← es, le-leb size 6 l)
 
-      pub sought-over : 6 < size → 223 < size → poolLimit ≡ sought keys owners lasts n listed key f
+      pub sought-over : 6 < size → 223 < size → poolLimit ≡ sought mode keys owners lasts n listed key f
       unfolding sought pick indexOf quiet
       sought-over l m = rw (not-false listed e, eq-eqb (getD (f .«data») 0 0 % 32) 0 z, ← es, lt-leb size 6 l, lt-ltb 223 size m)
 
-      pub sought-first : (r : ℕ) → 6 < size → size ≤ 223 → r ≡ chosenIn keys owners lasts n key (f .«source_address») (f .«now_ms») → r ≡ sought keys owners lasts n listed key f
+      pub sought-first : (r : ℕ) → 6 < size → size ≤ 223 → r ≡ chosenIn mode keys owners lasts n key (f .«source_address») (f .«now_ms») → r ≡ sought mode keys owners lasts n listed key f
       unfolding sought pick indexOf quiet
       sought-first r l m er = er ∙ rw (not-false listed e, eq-eqb (getD (f .«data») 0 0 % 32) 0 z, ← es, lt-leb size 6 l, le-ltb 223 size m)
 

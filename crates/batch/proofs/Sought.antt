@@ -23,7 +23,8 @@ use Rattle.session.specs.declared.Kind.the-variants.{NotListed, Rejected}
 use Rattle.session.specs.declared.Mark.{Mark}
 use Rattle.session.specs.declared.Mark.the-variants as mark
 use Rattle.session.specs.declared.Counters.{Counters}
-use Rattle.session.specs.Rules.{Rules, base, poolLimit, silence, keysEqual}
+use Rattle.session.specs.declared.Mode.{Mode}
+use Rattle.session.specs.Rules.{Rules, rulesBy, poolLimit, silentBy, keysEqual}
 use Rattle.session.specs.Frames.{sequenceOf, indexOf, sizeOf, badSize, badFirst, keyOf}
 use Rattle.session.specs.Heads.{copiedHead, headKey, hasKey, isSilent, isFree, isFreeOfSource, hasLiveKey}
 use Rattle.session.specs.inner.Search.{seen, seenIf, foundIn, firstOf, placeOf, withinLimit}
@@ -81,19 +82,19 @@ busy-test s p b = ne-eqb (s * 1099511627776 + p * 256 + b + 1) 0 (λ e. absurd (
 
 -- ---- the tests of a place are those of its head
 
-module _ (f : Heard) (h : Head) (k o t : ℕ) (s : Shows h k o t) where
-  shown-key : InRange (f .pgn) (getD (f .«data») 0 0) → eqb k (frameKey f) ≡ hasKey base f h
-  unfolding hasKey base keysEqual headKey keyOf keyNumber frameKey pick
+module _ (mode : Mode) (f : Heard) (h : Head) (k o t : ℕ) (s : Shows h k o t) where
+  shown-key : InRange (f .pgn) (getD (f .«data») 0 0) → eqb k (frameKey f) ≡ hasKey (rulesBy mode) f h
+  unfolding hasKey rulesBy keysEqual headKey keyOf keyNumber frameKey pick
   shown-key r = go (h .«in_progress») refl
     where
-      go : (b : Bool) → h .«in_progress» ≡ b → eqb k (frameKey f) ≡ hasKey base f h
+      go : (b : Bool) → h .«in_progress» ≡ b → eqb k (frameKey f) ≡ hasKey (rulesBy mode) f h
       go true e =
           let low : sequenceOf f < 256 = unfold sequenceOf in omega (arith, r .byte) in
           rw (s .key, e) (packed-test (h .«source_address») (h .pgn) (h .«sequence_id») (f .«source_address») (f .pgn) (sequenceOf f) (s .range .pgn) (s .range .byte) (r .pgn) low)
       go false e = rw (s .key, e) (idle-test (f .«source_address») (f .pgn) (sequenceOf f))
 
-  shown-silent : silence (f .«now_ms») t ≡ isSilent base f h
-  unfolding isSilent base
+  shown-silent : silentBy mode (f .«now_ms») t ≡ isSilent (rulesBy mode) f h
+  unfolding isSilent rulesBy
   shown-silent = rw (s .last)
 
   idle-key : eqb k 0 ≡ not (h .«in_progress»)
@@ -104,15 +105,15 @@ module _ (f : Heard) (h : Head) (k o t : ℕ) (s : Shows h k o t) where
       go true e = rw (s .key, e) (busy-test (h .«source_address») (h .pgn) (h .«sequence_id»))
       go false e = rw (s .key, e)
 
-  shown-open : (eqb k 0 || silence (f .«now_ms») t) ≡ isFree base f h
+  shown-open : (eqb k 0 || silentBy mode (f .«now_ms») t) ≡ isFree (rulesBy mode) f h
   unfolding isFree
   shown-open = rw (idle-key, shown-silent)
 
-  shown-own : ((eqb k 0 || silence (f .«now_ms») t) && eqb o (f .«source_address»)) ≡ isFreeOfSource base f h
+  shown-own : ((eqb k 0 || silentBy mode (f .«now_ms») t) && eqb o (f .«source_address»)) ≡ isFreeOfSource (rulesBy mode) f h
   unfolding isFreeOfSource
   shown-own = rw (shown-open, s .owner)
 
-  shown-live : InRange (f .pgn) (getD (f .«data») 0 0) → (eqb k (frameKey f) && not (silence (f .«now_ms») t)) ≡ hasLiveKey base f h
+  shown-live : InRange (f .pgn) (getD (f .«data») 0 0) → (eqb k (frameKey f) && not (silentBy mode (f .«now_ms») t)) ≡ hasLiveKey (rulesBy mode) f h
   unfolding hasLiveKey
   shown-live r = rw (shown-key r, shown-silent)
 
@@ -141,7 +142,7 @@ from-first t u d (h ∷ hs) i same =
     let rest = from-first t u d hs (suc i) (λ j l. let k : suc i + j ≡ i + suc j = omega arith in rw k (same (suc j) (omega arith))) in
     rw (at, rest) (ixed-here (u h) i (firstAt u hs))
 
-module _ (f : Heard) (n : ℕ) (hs : List Head) (ks os ts : List ℕ) (long : length hs ≡ poolLimit) (small : n ≤ poolLimit) (m : Mirrors poolLimit hs ks os ts) (r : InRange (f .pgn) (getD (f .«data») 0 0)) (d : Head) where
+module _ (mode : Mode) (f : Heard) (n : ℕ) (hs : List Head) (ks os ts : List ℕ) (long : length hs ≡ poolLimit) (small : n ≤ poolLimit) (m : Mirrors poolLimit hs ks os ts) (r : InRange (f .pgn) (getD (f .«data») 0 0)) (d : Head) where
   one : (t : ℕ → Bool) (u : Head → Bool) → ((j : ℕ) → j < poolLimit → t j ≡ u (getD hs j d)) → firstFrom t 0 n ≡ place (firstAt u (take n hs))
   one t u same =
       let all : length (take n hs) ≡ n = length-take-le n hs (omega (arith, long)) in
@@ -149,28 +150,28 @@ module _ (f : Heard) (n : ℕ) (hs : List Head) (ks os ts : List ℕ) (long : le
       ∙ from-first t u d (take n hs) 0 (λ j l. rw (zero-add j, getD-take n hs j d (omega (arith, all))) (same j (omega (arith, all))))
       ∙ ixed-place (firstAt u (take n hs))
 
-  pub seen-here : foundIn base f n hs ≡ seen base f 0 (take n hs)
+  pub seen-here : foundIn (rulesBy mode) f n hs ≡ seen (rulesBy mode) f 0 (take n hs)
   unfolding foundIn seenIf
   seen-here = rw (le-ltb poolLimit n small)
 
-  pub chosen-is : chosenIn ks os ts n (frameKey f) (f .«source_address») (f .«now_ms») ≡ firstOf (foundIn base f n hs .key) (firstOf (foundIn base f n hs .own) (foundIn base f n hs .free))
+  pub chosen-is : chosenIn mode ks os ts n (frameKey f) (f .«source_address») (f .«now_ms») ≡ firstOf (foundIn (rulesBy mode) f n hs .key) (firstOf (foundIn (rulesBy mode) f n hs .own) (foundIn (rulesBy mode) f n hs .free))
   unfolding chosenIn
   chosen-is =
       rw (
         seen-here,
-        seen-key base f (take n hs),
-        seen-own base f (take n hs),
-        seen-free base f (take n hs),
-        one (keyAt ks (frameKey f)) (hasKey base f) (λ j l. unfold keyAt in shown-key f (getD hs j d) _ _ _ (m .at j d l) r),
-        one (ownAt ks os ts (f .«source_address») (f .«now_ms»)) (isFreeOfSource base f) (λ j l. unfold ownAt openAt in shown-own f (getD hs j d) _ _ _ (m .at j d l)),
-        one (openAt ks ts (f .«now_ms»)) (isFree base f) (λ j l. unfold openAt in shown-open f (getD hs j d) _ _ _ (m .at j d l)),
+        seen-key (rulesBy mode) f (take n hs),
+        seen-own (rulesBy mode) f (take n hs),
+        seen-free (rulesBy mode) f (take n hs),
+        one (keyAt ks (frameKey f)) (hasKey (rulesBy mode) f) (λ j l. unfold keyAt in shown-key mode f (getD hs j d) _ _ _ (m .at j d l) r),
+        one (ownAt mode ks os ts (f .«source_address») (f .«now_ms»)) (isFreeOfSource (rulesBy mode) f) (λ j l. unfold ownAt openAt in shown-own mode f (getD hs j d) _ _ _ (m .at j d l)),
+        one (openAt mode ks ts (f .«now_ms»)) (isFree (rulesBy mode) f) (λ j l. unfold openAt in shown-open mode f (getD hs j d) _ _ _ (m .at j d l)),
       )
 
-  pub live-is : liveIn ks ts n (frameKey f) (f .«now_ms») ≡ foundIn base f n hs .live
+  pub live-is : liveIn mode ks ts n (frameKey f) (f .«now_ms») ≡ foundIn (rulesBy mode) f n hs .live
   unfolding liveIn
   live-is =
-      rw (seen-here, seen-live base f (take n hs))
-      (one (liveAt ks ts (frameKey f) (f .«now_ms»)) (hasLiveKey base f) (λ j l. unfold liveAt in shown-live f (getD hs j d) _ _ _ (m .at j d l) r))
+      rw (seen-here, seen-live (rulesBy mode) f (take n hs))
+      (one (liveAt mode ks ts (frameKey f) (f .«now_ms»)) (hasLiveKey (rulesBy mode) f) (λ j l. unfold liveAt in shown-live mode f (getD hs j d) _ _ _ (m .at j d l) r))
 
 -- ---- where a frame takes no slot, the plan may be carried out at any place
 
@@ -190,8 +191,8 @@ module _ (f : Heard) (p : Pool) (k : Counters) (e : Head) where
         fits = λ h h′ x. unfold idle in record { room = x .room; there = x .there; whole = x .whole; short = x .short; total = x .total };
       }
 
-  still-short : (t : Bool) → Still (planShort true t base f)
-  still-short t =
+  still-short : (R : Rules) (t : Bool) → Still (planShort true t R f)
+  still-short R t =
       record {
         same = λ g g′. unfold planShort carried in rw (set-getD (p .heads) g e, set-getD (p .heads) g′ e, sym (copy-none (p .bytes) (g * 223 + 0)), sym (copy-none (p .bytes) (g′ * 223 + 0)));
         fits = λ h h′ x. unfold planShort in record { room = x .room; there = x .there; whole = x .whole; short = x .short; total = x .total };
@@ -224,28 +225,28 @@ next-short f h = turn-short f h _
 
 -- ---- the search's place carries the frame out
 
-limit : base .limit ≡ poolLimit
-unfolding base
-limit = refl
+limit : (mode : Mode) → rulesBy mode .limit ≡ poolLimit
+unfolding rulesBy
+limit mode = refl
 
-pub small-of : (p : Pool) → impossible base (slotsOf p) ≡ false → p .size ≤ poolLimit
-unfolding impossible slotsOf base
-small-of p fine = ltb-false poolLimit (p .size) (or-left (ltb poolLimit (p .size)) _ fine)
+pub small-of : (mode : Mode) (p : Pool) → impossible (rulesBy mode) (slotsOf p) ≡ false → p .size ≤ poolLimit
+unfolding impossible slotsOf rulesBy
+small-of mode p fine = ltb-false poolLimit (p .size) (or-left (ltb poolLimit (p .size)) _ fine)
 
-module _ (l : List ℕ) (f : Heard) (p : Pool) (k : Counters) (w : Whole p) (eight : length (f .«data») ≡ 8) (all : f .length ≡ 8) (e : Head) (fine : impossible base (slotsOf p) ≡ false) (ks os ts : List ℕ) (m : Mirrors poolLimit (p .heads) ks os ts)
+module _ (mode : Mode) (l : List ℕ) (f : Heard) (p : Pool) (k : Counters) (w : Whole p) (eight : length (f .«data») ≡ 8) (all : f .length ≡ 8) (e : Head) (fine : impossible (rulesBy mode) (slotsOf p) ≡ false) (ks os ts : List ℕ) (m : Mirrors poolLimit (p .heads) ks os ts)
     (r : InRange (f .pgn) (getD (f .«data») 0 0)) where
   -- with a possible pool, the plan made at place i and carried out there is the call
   abbrev At : Bool → ℕ → Type 0
-  At t i = Does f p k (planOf false t (ltb i poolLimit) base f (getD (p .heads) (withinLimit i) e)) (withinLimit i) (receiveOf base l f p k)
+  At t i = Does f p k (planOf false t (ltb i poolLimit) (rulesBy mode) f (getD (p .heads) (withinLimit i) e)) (withinLimit i) (receiveOf (rulesBy mode) l f p k)
 
   abbrev real : ℕ
-  real = placeOf f (foundIn base f (p .size) (p .heads))
+  real = placeOf f (foundIn (rulesBy mode) f (p .size) (p .heads))
 
   at-real : (t : Bool) → t ≡ listedIn (f .pgn) l → At t real
   at-real t et =
       rw et
-      (subst (λ (b : Bool). Does f p k (planOf b (listedIn (f .pgn) l) (ltb real poolLimit) base f (getD (p .heads) (withinLimit real) e)) (withinLimit real) (receiveOf base l f p k))
-      (looked-at base f p limit ∙ fine) (receives base f p k w eight e l limit))
+      (subst (λ (b : Bool). Does f p k (planOf b (listedIn (f .pgn) l) (ltb real poolLimit) (rulesBy mode) f (getD (p .heads) (withinLimit real) e)) (withinLimit real) (receiveOf (rulesBy mode) l f p k))
+      (looked-at (rulesBy mode) f p (limit mode) ∙ fine) (receives (rulesBy mode) f p k w eight e l (limit mode)))
 
   at-unlisted : (i : ℕ) → At false real → At false i
   unfolding planOf planListed
@@ -259,7 +260,7 @@ module _ (l : List ℕ) (f : Heard) (p : Pool) (k : Counters) (w : Whole p) (eig
   at-short : (i : ℕ) → eqb (indexOf f) 0 ≡ true → badSize f ≡ false → leb (sizeOf f) 6 ≡ true → At true real → At true i
   unfolding planOf planListed planSent planIndex planFirst planSized planShort
   at-short i z b s x =
-      rw (eight-sent f all, z, eight-bad f all, b, s) (moves f p k e (still-short f p k e true) (withinLimit real) (withinLimit i) (rw (eight-sent f all, z, eight-bad f all, b, s) at x))
+      rw (eight-sent f all, z, eight-bad f all, b, s) (moves f p k e (still-short f p k e (rulesBy mode) true) (withinLimit real) (withinLimit i) (rw (eight-sent f all, z, eight-bad f all, b, s) at x))
 
   quiet-short : badSize f ≡ false → quiet f ≡ true → leb (sizeOf f) 6 ≡ true
   unfolding badSize quiet
@@ -276,41 +277,41 @@ module _ (l : List ℕ) (f : Heard) (p : Pool) (k : Counters) (w : Whole p) (eig
       go true b = at-rejected i z b x
       go false b = at-short i z b (quiet-short b y) x
 
-  real-first : eqb (indexOf f) 0 ≡ true → chosenIn ks os ts (p .size) (frameKey f) (f .«source_address») (f .«now_ms») ≡ real
+  real-first : eqb (indexOf f) 0 ≡ true → chosenIn mode ks os ts (p .size) (frameKey f) (f .«source_address») (f .«now_ms») ≡ real
   unfolding placeOf pick
-  real-first z = rw z (chosen-is f (p .size) (p .heads) ks os ts (w .heads) (small-of p fine) m r e)
+  real-first z = rw z (chosen-is mode f (p .size) (p .heads) ks os ts (w .heads) (small-of mode p fine) m r e)
 
-  real-next : eqb (indexOf f) 0 ≡ false → liveIn ks ts (p .size) (frameKey f) (f .«now_ms») ≡ real
+  real-next : eqb (indexOf f) 0 ≡ false → liveIn mode ks ts (p .size) (frameKey f) (f .«now_ms») ≡ real
   unfolding placeOf pick
-  real-next z = rw z (live-is f (p .size) (p .heads) ks os ts (w .heads) (small-of p fine) m r e)
+  real-next z = rw z (live-is mode f (p .size) (p .heads) ks os ts (w .heads) (small-of mode p fine) m r e)
 
   at-index : (b : Bool) → eqb (indexOf f) 0 ≡ b → (y : Bool) → quiet f ≡ y → At true real
-      → At true (pick b (pick y poolLimit (chosenIn ks os ts (p .size) (frameKey f) (f .«source_address») (f .«now_ms»))) (liveIn ks ts (p .size) (frameKey f) (f .«now_ms»)))
+      → At true (pick b (pick y poolLimit (chosenIn mode ks os ts (p .size) (frameKey f) (f .«source_address») (f .«now_ms»))) (liveIn mode ks ts (p .size) (frameKey f) (f .«now_ms»)))
   unfolding pick
   at-index true z true q x = at-quiet poolLimit z q x
   at-index true z false q x = subst (At true) (sym (real-first z)) x
   at-index false z y q x = subst (At true) (sym (real-next z)) x
 
-  at-sought : (t : Bool) → t ≡ listedIn (f .pgn) l → At t (sought ks os ts (p .size) t (frameKey f) f)
+  at-sought : (t : Bool) → t ≡ listedIn (f .pgn) l → At t (sought mode ks os ts (p .size) t (frameKey f) f)
   unfolding sought pick
   at-sought true et = at-index (eqb (indexOf f) 0) refl (quiet f) refl (at-real true et)
   at-sought false et = at-unlisted poolLimit (at-real false et)
 
   -- as the code comes by it
-  module _ (t : Bool) (et : t ≡ listedIn (f .pgn) l) (key : ℕ) (ek : key ≡ frameKey f) (i : ℕ) (ei : i ≡ sought ks os ts (p .size) t key f) where
+  module _ (t : Bool) (et : t ≡ listedIn (f .pgn) l) (key : ℕ) (ek : key ≡ frameKey f) (i : ℕ) (ei : i ≡ sought mode ks os ts (p .size) t key f) where
     at-place : At t i
-    at-place = let at : i ≡ sought ks os ts (p .size) t (frameKey f) f = ei ∙ rw ek in rw at (at-sought t et)
+    at-place = let at : i ≡ sought mode ks os ts (p .size) t (frameKey f) f = ei ∙ rw ek in rw at (at-sought t et)
 
     -- no slot
-    at-none : poolLimit ≤ i → Does f p k (planOf false t false base f (getD (p .heads) 0 e)) 0 (receiveOf base l f p k)
+    at-none : poolLimit ≤ i → Does f p k (planOf false t false (rulesBy mode) f (getD (p .heads) 0 e)) 0 (receiveOf (rulesBy mode) l f p k)
     unfolding withinLimit pick
     at-none past = rw (le-ltb i poolLimit past) at at-place
 
-    pub seeks-missed : poolLimit ≤ i → (s : ℕ) → s ≡ shortIn t f → s ≡ 0 → Does f p k (idle (missKind t f) (missMark t f) (getD (p .heads) 0 e)) 0 (receiveOf base l f p k)
-    seeks-missed past s es z = rw (plan-missed base f all (getD (p .heads) 0 e) t (sym z ∙ es)) at (at-none past)
+    pub seeks-missed : poolLimit ≤ i → (s : ℕ) → s ≡ shortIn t f → s ≡ 0 → Does f p k (idle (missKind t f) (missMark t f) (getD (p .heads) 0 e)) 0 (receiveOf (rulesBy mode) l f p k)
+    seeks-missed past s es z = rw (plan-missed (rulesBy mode) f all (getD (p .heads) 0 e) t (sym z ∙ es)) at (at-none past)
 
-    pub seeks-short : poolLimit ≤ i → (s : ℕ) → s ≡ shortIn t f → (s ≡ 0 → ⊥) → Does f p k (shortPlan base f (getD (p .heads) 0 e) s) 0 (receiveOf base l f p k)
-    seeks-short past s es n = rw es (rw (plan-short base f all (getD (p .heads) 0 e) t (λ z. n (es ∙ z))) at (at-none past))
+    pub seeks-short : poolLimit ≤ i → (s : ℕ) → s ≡ shortIn t f → (s ≡ 0 → ⊥) → Does f p k (shortPlan (rulesBy mode) f (getD (p .heads) 0 e) s) 0 (receiveOf (rulesBy mode) l f p k)
+    seeks-short past s es n = rw es (rw (plan-short (rulesBy mode) f all (getD (p .heads) 0 e) t (λ z. n (es ∙ z))) at (at-none past))
 
     -- a slot: then the PGN is listed, and the frame is no message by itself
     module _ (low : i < poolLimit) where
@@ -319,48 +320,48 @@ module _ (l : List ℕ) (f : Heard) (p : Pool) (k : Counters) (w : Whole p) (eig
       slot-listed true e = refl
       slot-listed false e = absurd (omega (arith, low, rw e at ei))
 
-      at-slot : Does f p k (planOf false true true base f (getD (p .heads) i e)) i (receiveOf base l f p k)
+      at-slot : Does f p k (planOf false true true (rulesBy mode) f (getD (p .heads) i e)) i (receiveOf (rulesBy mode) l f p k)
       unfolding withinLimit pick
       at-slot = rw (lt-ltb i poolLimit low, slot-listed t refl) at at-place
 
-      pub seeks-slot : (d : Plan) → d ≡ planOf false true true base f (getD (p .heads) i e) → Does f p k d i (receiveOf base l f p k)
+      pub seeks-slot : (d : Plan) → d ≡ planOf false true true (rulesBy mode) f (getD (p .heads) i e) → Does f p k d i (receiveOf (rulesBy mode) l f p k)
       seeks-slot d ed = rw ed at-slot
 
-      pub seeks-running : (b : Bool) → b ≡ runsOn f (getD (p .heads) i e) → b ≡ true → Does f p k (runPlan base f (getD (p .heads) i e)) i (receiveOf base l f p k)
-      seeks-running b eb y = rw (plan-runs base f all (getD (p .heads) i e) (sym eb ∙ y)) at at-slot
+      pub seeks-running : (b : Bool) → b ≡ runsOn f (getD (p .heads) i e) → b ≡ true → Does f p k (runPlan (rulesBy mode) f (getD (p .heads) i e)) i (receiveOf (rulesBy mode) l f p k)
+      seeks-running b eb y = rw (plan-runs (rulesBy mode) f all (getD (p .heads) i e) (sym eb ∙ y)) at at-slot
 
       slot-loud : eqb (indexOf f) 0 ≡ true → (y : Bool) → quiet f ≡ y → y ≡ false
       unfolding sought pick
       slot-loud z true q = absurd (omega (arith, low, rw (slot-listed t refl, z, q) at ei))
       slot-loud z false q = refl
 
-      slot-index : (h : Head) (b : Bool) → eqb (indexOf f) 0 ≡ b → planIndex b true base f h .short ≡ 0
+      slot-index : (h : Head) (b : Bool) → eqb (indexOf f) 0 ≡ b → planIndex b true (rulesBy mode) f h .short ≡ 0
       unfolding planIndex planFirst
-      slot-index h true z = loud-sized base f h (slot-loud z (quiet f) refl) (badFirst f)
+      slot-index h true z = loud-sized (rulesBy mode) f h (slot-loud z (quiet f) refl) (badFirst f)
       slot-index h false z = next-short f h
 
-      pub slot-alone : (d : Plan) (h : Head) → d ≡ planOf false true true base f h → d .short ≡ 0
+      pub slot-alone : (d : Plan) (h : Head) → d ≡ planOf false true true (rulesBy mode) f h → d .short ≡ 0
       unfolding planOf planListed planSent
       slot-alone d h ed = ap (λ (x : Plan). x .short) ed ∙ rw (eight-sent f all) (slot-index h (eqb (indexOf f) 0) refl)
 
 -- ---- a possible pool stays possible
 
-module _ (l : List ℕ) (f : Heard) (p : Pool) (k : Counters) (w : Whole p) (eight : length (f .«data») ≡ 8) (byte : getD (f .«data») 0 0 < 256) (fine : impossible base (slotsOf p) ≡ false) where
-  pub call-possible : impossible base (slotsOf (receiveOf base l f p k .pool)) ≡ false
+module _ (mode : Mode) (l : List ℕ) (f : Heard) (p : Pool) (k : Counters) (w : Whole p) (eight : length (f .«data») ≡ 8) (byte : getD (f .«data») 0 0 < 256) (fine : impossible (rulesBy mode) (slotsOf p) ≡ false) where
+  pub call-possible : impossible (rulesBy mode) (slotsOf (receiveOf (rulesBy mode) l f p k .pool)) ≡ false
   unfolding receiveOf shown
   call-possible =
-      let kept = keeps base (slotsOf p) k (record { pgns = l; heard = f }) (record { eight = eight; byte = byte }) fine in
+      let kept = keeps (rulesBy mode) (slotsOf p) k (record { pgns = l; heard = f }) (record { eight = eight; byte = byte }) fine in
       let all : Sized (slotsOf p .slots) = unfold slotsOf in sized-view (p .heads) (p .bytes) (omega (arith, w .heads, w .bytes)) in
-      rw (view-forth (step base (slotsOf p) k (record { pgns = l; heard = f }) .pool) (kept .sized all)) (kept .possible)
+      rw (view-forth (p .mode) (step (rulesBy mode) (slotsOf p) k (record { pgns = l; heard = f }) .pool) (kept .sized all)) (kept .possible)
 
-  pub stays-possible : (d : Plan) (g : ℕ) → Does f p k d g (receiveOf base l f p k) → (bs : List ℕ) → bs ≡ paste (p .bytes) (g * 223 + d .at) (drop (d .from) (f .«data»)) (d .count)
-      → impossible base (slotsOf (record { size = p .size; heads = set (p .heads) g (d .head); bytes = bs })) ≡ false
+  pub stays-possible : (d : Plan) (g : ℕ) → Does f p k d g (receiveOf (rulesBy mode) l f p k) → (bs : List ℕ) → bs ≡ paste (p .bytes) (g * 223 + d .at) (drop (d .from) (f .«data»)) (d .count)
+      → impossible (rulesBy mode) (slotsOf (record { mode = p .mode; size = p .size; heads = set (p .heads) g (d .head); bytes = bs })) ≡ false
   unfolding carried
   stays-possible d g does bs eb =
-      let after : record { size = p .size; heads = set (p .heads) g (d .head); bytes = bs } ≡ receiveOf base l f p k .pool = rw eb (ap (λ (a : Received). a .pool) (does .is)) in
+      let after : record { mode = p .mode; size = p .size; heads = set (p .heads) g (d .head); bytes = bs } ≡ receiveOf (rulesBy mode) l f p k .pool = rw eb (ap (λ (a : Received). a .pool) (does .is)) in
       rw after call-possible
 
-  pub runs-possible : (e : Head) (g : ℕ) → Does f p k (runPlan base f (getD (p .heads) g e)) g (receiveOf base l f p k) → (t : Head) → t ≡ copiedHead f (getD (p .heads) g e)
-      → (bs : List ℕ) → bs ≡ paste (p .bytes) (g * 223 + getD (p .heads) g e .«current_size») (drop 1 (f .«data»)) 7 → impossible base (slotsOf (record { size = p .size; heads = set (p .heads) g t; bytes = bs })) ≡ false
+  pub runs-possible : (e : Head) (g : ℕ) → Does f p k (runPlan (rulesBy mode) f (getD (p .heads) g e)) g (receiveOf (rulesBy mode) l f p k) → (t : Head) → t ≡ copiedHead f (getD (p .heads) g e)
+      → (bs : List ℕ) → bs ≡ paste (p .bytes) (g * 223 + getD (p .heads) g e .«current_size») (drop 1 (f .«data»)) 7 → impossible (rulesBy mode) (slotsOf (record { mode = p .mode; size = p .size; heads = set (p .heads) g t; bytes = bs })) ≡ false
   unfolding runPlan
-  runs-possible e g does t et bs ebs = rw et (stays-possible (runPlan base f (getD (p .heads) g e)) g does bs ebs)
+  runs-possible e g does t et bs ebs = rw et (stays-possible (runPlan (rulesBy mode) f (getD (p .heads) g e)) g does bs ebs)

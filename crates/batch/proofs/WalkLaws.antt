@@ -11,7 +11,9 @@ use borrow.Author.Tests.{lt-ltb, le-ltb, eq-eqb, ne-eqb}
 use Rattle.base.specs.Pick.{pick}
 use Rattle.base.proofs.Bools.{or-left, or-right}
 use Rattle.base.proofs.Cases.{less?}
-use Rattle.session.specs.Rules.{poolLimit, silence}
+use Rattle.session.specs.declared.Mode.{Mode}
+use Rattle.session.specs.declared.Mode.the-variants.{AsOriginal, SetBackIsSilence}
+use Rattle.session.specs.Rules.{poolLimit, silence, silentBy}
 use Rattle.session.specs.inner.Search.{firstOf}
 use Rattle.session.proofs.SearchLaws.{first-here}
 use Rattle.batch.specs.declared.walks.Stop.{Stop}
@@ -21,32 +23,41 @@ use Rattle.batch.specs.inner.Walks.{ownerAt, inFour, Past, Stops, keyed,
 -- ---- tests of one place
 
 module _ (time last : ℕ) where
-  pub silent-since : (b : ℕ) → b ≡ time - 500 → ltb last b ≡ silence time last
+  late-since : (b : ℕ) → b ≡ time - 500 → ltb last b ≡ silence time last
   unfolding silence
-  silent-since b e =
+  late-since b e =
       rw e
       (less? last (time - 500)
       (λ l. lt-ltb last (time - 500) l ∙ sym (lt-ltb 500 (time - last) (omega arith)))
       (λ l. le-ltb last (time - 500) l ∙ sym (le-ltb 500 (time - last) (omega arith))))
 
-  pub open-is : (k : ℕ) (b : Bool) → b ≡ silence time last → (eqb k 0 || b) ≡ (eqb k 0 || silence time last)
-  open-is k b e = rw e
+  pub silent-since : (mode : Mode) → mode ≡ AsOriginal → (b : ℕ) → b ≡ time - 500 → ltb last b ≡ silentBy mode time last
+  unfolding silentBy
+  silent-since mode m b e = rw m (late-since b e)
 
-  pub own-is : (k o s : ℕ) (b : Bool) → b ≡ (eqb k 0 || silence time last) → (b && eqb o s) ≡ ((eqb k 0 || silence time last) && eqb o s)
-  own-is k o s b e = rw e
+  pub silent-or-back : (mode : Mode) → mode ≡ SetBackIsSilence → (b : ℕ) → b ≡ time - 500 → (ltb last b || ltb time last) ≡ silentBy mode time last
+  unfolding silentBy
+  silent-or-back mode m b e = rw (m, late-since b e)
+
+  module _ (mode : Mode) where
+    pub open-is : (k : ℕ) (b : Bool) → b ≡ silentBy mode time last → (eqb k 0 || b) ≡ (eqb k 0 || silentBy mode time last)
+    open-is k b e = rw e
+
+    pub own-is : (k o s : ℕ) (b : Bool) → b ≡ (eqb k 0 || silentBy mode time last) → (b && eqb o s) ≡ ((eqb k 0 || silentBy mode time last) && eqb o s)
+    own-is k o s b e = rw e
 
 -- whether the place is live with the key
-module _ (keys lasts : List ℕ) (key time j : ℕ) where
-  pub live-other : (getD keys j 0 ≡ key → ⊥) → liveAt keys lasts key time j ≡ false
+module _ (mode : Mode) (keys lasts : List ℕ) (key time j : ℕ) where
+  pub live-other : (getD keys j 0 ≡ key → ⊥) → liveAt mode keys lasts key time j ≡ false
   unfolding liveAt
   live-other n = rw (ne-eqb (getD keys j 0) key n)
 
-  module _ (e : getD keys j 0 ≡ key) (b : Bool) (eb : b ≡ silence time (getD lasts j 0)) where
-    pub live-here : not b ≡ true → liveAt keys lasts key time j ≡ true
+  module _ (e : getD keys j 0 ≡ key) (b : Bool) (eb : b ≡ silentBy mode time (getD lasts j 0)) where
+    pub live-here : not b ≡ true → liveAt mode keys lasts key time j ≡ true
     unfolding liveAt
     live-here y = rw (eq-eqb (getD keys j 0) key e, ← eb) y
 
-    pub live-gone : not b ≡ false → liveAt keys lasts key time j ≡ false
+    pub live-gone : not b ≡ false → liveAt mode keys lasts key time j ≡ false
     unfolding liveAt
     live-gone y = rw (eq-eqb (getD keys j 0) key e, ← eb) y
 
@@ -61,24 +72,24 @@ module _ (keys : List ℕ) (key j : ℕ) where
   key-gone n = ne-eqb (getD keys j 0) key n
 
 -- a place of this source that is open is of this source, and is open
-module _ (keys owners lasts : List ℕ) (source time j : ℕ) where
-  pub own-fails : (b : Bool) → b ≡ ((eqb (getD keys j 0) 0 || silence time (getD lasts j 0)) && eqb (getD owners j 0) source) → b ≡ false → ownAt keys owners lasts source time j ≡ false
+module _ (mode : Mode) (keys owners lasts : List ℕ) (source time j : ℕ) where
+  pub own-fails : (b : Bool) → b ≡ ((eqb (getD keys j 0) 0 || silentBy mode time (getD lasts j 0)) && eqb (getD owners j 0) source) → b ≡ false → ownAt mode keys owners lasts source time j ≡ false
   unfolding ownAt openAt
   own-fails b e y = sym e ∙ y
 
-  pub own-owner : ownerAt owners source j ≡ false → ownAt keys owners lasts source time j ≡ false
+  pub own-owner : ownerAt owners source j ≡ false → ownAt mode keys owners lasts source time j ≡ false
   unfolding ownerAt ownAt
-  own-owner e = rw e (and-false (openAt keys lasts time j))
+  own-owner e = rw e (and-false (openAt mode keys lasts time j))
     where
       and-false : (b : Bool) → (b && false) ≡ false
       and-false true = refl
       and-false false = refl
 
-  pub own-open : openAt keys lasts time j ≡ false → ownAt keys owners lasts source time j ≡ false
+  pub own-open : openAt mode keys lasts time j ≡ false → ownAt mode keys owners lasts source time j ≡ false
   unfolding ownAt
   own-open e = rw e
 
-pub ruleset places = (silent-since, open-is, own-is)
+pub ruleset places = (open-is, own-is)
 
 -- ---- how far a walk has come
 
@@ -111,11 +122,11 @@ pub past-with : (t u : ℕ → Bool) (i r : ℕ) → ((j : ℕ) → t j ≡ fals
 past-with t u i r both p = record { low = p .low; fails = λ j l h. both j (p .fails j l h) }
 
 -- a walk for an open place of the source, that leapt from place s to place r
-module _ (keys owners lasts : List ℕ) (source time : ℕ) (i s r : ℕ) where
-  pub past-leap : Past (ownAt keys owners lasts source time) i s → ownAt keys owners lasts source time s ≡ false → Past (ownerAt owners source) (s + 1) r → Past (ownAt keys owners lasts source time) i r
+module _ (mode : Mode) (keys owners lasts : List ℕ) (source time : ℕ) (i s r : ℕ) where
+  pub past-leap : Past (ownAt mode keys owners lasts source time) i s → ownAt mode keys owners lasts source time s ≡ false → Past (ownerAt owners source) (s + 1) r → Past (ownAt mode keys owners lasts source time) i r
   past-leap p e q =
-      let t = ownAt keys owners lasts source time in
-      past-join t i (s + 1) r (past-turn t i s p e) (past-with (ownerAt owners source) t (s + 1) r (λ j. own-owner keys owners lasts source time j) q)
+      let t = ownAt mode keys owners lasts source time in
+      past-join t i (s + 1) r (past-turn t i s p e) (past-with (ownerAt owners source) t (s + 1) r (λ j. own-owner mode keys owners lasts source time j) q)
 
 -- a walk that came to the end
 pub past-all : (k t : ℕ → Bool) (i s n : ℕ) → s ≤ n → n ≤ s → Past k i s → Past t i s → Stops k t i n (record { at = poolLimit; keyed = false })
@@ -209,22 +220,22 @@ module _ (k t : ℕ → Bool) (i n : ℕ) (small : n ≤ poolLimit) (r : Stop) w
 
 -- ---- the one walk's choice is that of a walk for each candidate
 
-module _ (keys owners lasts : List ℕ) (n key source time : ℕ) (small : n ≤ poolLimit) where
+module _ (mode : Mode) (keys owners lasts : List ℕ) (n key source time : ℕ) (small : n ≤ poolLimit) where
   abbrev k : ℕ → Bool
   k = keyAt keys key
 
   abbrev o : ℕ → Bool
-  o = ownAt keys owners lasts source time
+  o = ownAt mode keys owners lasts source time
 
   abbrev v : ℕ → Bool
-  v = openAt keys lasts time
+  v = openAt mode keys lasts time
 
   abbrev chosen : ℕ
-  chosen = chosenIn keys owners lasts n key source time
+  chosen = chosenIn mode keys owners lasts n key source time
 
   -- where no place is open, none is open and of the source
   own-past : (i r : ℕ) → Past v i r → Past o i r
-  own-past i r p = past-with v o i r (own-open keys owners lasts source time) p
+  own-past i r p = past-with v o i r (own-open mode keys owners lasts source time) p
 
   at-first-key : (s : ℕ) → s < n → Past k 0 s → k s ≡ true → s ≡ chosen
   unfolding chosenIn

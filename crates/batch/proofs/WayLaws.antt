@@ -112,6 +112,8 @@ module _ (R : Rules) (f : Heard) (h : Head) where
   short-sized true es n = rw (ne-eqb (sizeOf f) 0 n, le-ltb 223 (sizeOf f) (omega (arith, leb-true (sizeOf f) 6 es)), es)
   short-sized false es n = absurd (n refl)
 
+-- a frame that runs on
+module _ (f : Heard) (h : Head) where
   run-turn : runsOn f h ≡ true → inTurn f h ≡ true
   unfolding runsOn
   run-turn e = and-left (inTurn f h) _ e
@@ -160,4 +162,4 @@ module _ (R : Rules) (f : Heard) (all : f .length ≡ 8) (h : Head) where
 
   pub plan-runs : runsOn f h ≡ true → planOf false true true R f h ≡ runPlan R f h
   unfolding planOf planListed planSent planIndex planNext planTurn planCopy runPlan
-  plan-runs e = rw (eight-sent f all, run-later R f h e, eight-next f all h, run-turn R f h e, run-more R f h e, run-seven R f h e)
+  plan-runs e = rw (eight-sent f all, run-later f h e, eight-next f all h, run-turn f h e, run-more f h e, run-seven f h e)

@@ -1,6 +1,6 @@
 // The batch call.
 ghost use mathlib.Core.Path.{_≡_};
-ghost use Rattle.session.specs.Rules.{base};
+ghost use Rattle.session.specs.Rules.{rulesBy};
 ghost use Rattle.session.specs.inner.Search.{foundIn};
 ghost use Rattle.batch.specs.Lengths.{tooShort};
 ghost use Rattle.batch.specs.Rows.{Batches};
@@ -31,6 +31,7 @@ use session::FRAGMENT_CONSUMED;
 use session::Head;
 use session::Heard;
 use session::MESSAGE_COMPLETE;
+use session::Mode;
 use session::POOL_LIMIT;
 use session::decide;
 
@@ -49,6 +50,7 @@ fn blank() -> Heard
 
 // The refusal, if there is one: of an impossible pool before that of a row that is too short for its n frames.
 fn refusal(
+    mode: Mode,
     heads: [Head; POOL_LIMIT],
     size: usize,
     n: usize,
@@ -58,9 +60,9 @@ fn refusal(
     kinds: usize,
     lengths: usize,
 ) -> Batched
-    ensures { λ r. ⌜ r ≡ refusalOf (foundIn base blankHeard size heads .bad) (tooShort n pgns sources bytes kinds lengths) ⌝ }
+    ensures { λ r. ⌜ r ≡ refusalOf (foundIn (rulesBy mode) blankHeard size heads .bad) (tooShort n pgns sources bytes kinds lengths) ⌝ }
 {
-    let before = walk(heads, size, blank());
+    let before = walk(mode, heads, size, blank());
     if before.bad {
         return Batched::ImpossiblePool;
     }
@@ -97,9 +99,12 @@ pub fn process_frames(
         (now (kinds .entry)) (now (lengths .entry)) (now (arena .entry)) r (now (kinds .exit)) (now (lengths .exit)) (now (arena .exit)) ⌝ }
 {
     let mut q = pool;
+    // no frame changes the mode
+    let mode = q.mode;
     let heads = q.heads;
     let n = times.len();
     let result = refusal(
+        mode,
         heads,
         q.size,
         n,
@@ -133,7 +138,7 @@ pub fn process_frames(
         let heard = frame_at(times, frame_pgns, sources, data, i);
         let listed = looked_up(pgns, &mut asked, &mut known, heard.pgn);
         let key = key_of_frame(heard);
-        let g = seek(&keys, &owners, &lasts, q.size, listed, key, heard);
+        let g = seek(mode, &keys, &owners, &lasts, q.size, listed, key, heard);
         let frame = heard.data;
         // a frame that takes no slot leaves the pool as it is
         if POOL_LIMIT <= g {
@@ -173,7 +178,7 @@ pub fn process_frames(
             i += 1;
             continue;
         }
-        let d = decide(false, true, true, h, heard);
+        let d = decide(mode, false, true, true, h, heard);
         if no_room(arena.len(), used, d.whole) {
             return Batch {
                 result: Batched::Done,

@@ -2,7 +2,7 @@
 ghost use mathlib.Core.Path.{_≡_};
 ghost use Prim.Native.Nat.{_/_, _≤_, _<_};
 ghost use lib.ListN.{length, getD};
-ghost use Rattle.session.specs.Rules.{base, poolLimit};
+ghost use Rattle.session.specs.Rules.{rulesBy, poolLimit};
 ghost use Rattle.session.specs.Frames.{sizeOf};
 ghost use Rattle.session.specs.inner.Search.{foundIn};
 ghost use Rattle.batch.specs.inner.Mirror.{InRange, Mirrors, packed, keyNumber, frameKey, sought};
@@ -13,13 +13,14 @@ use session::FIRST_FRAME_PAYLOAD;
 use session::Found;
 use session::Head;
 use session::Heard;
+use session::Mode;
 use session::POOL_LIMIT;
 use session::look;
 use session::nothing_found;
 
 // What the single call's walk sees. The batch asks it once, whether the pool is possible.
-pub(crate) fn walk(heads: [Head; POOL_LIMIT], size: usize, heard: Heard) -> Found
-    ensures { λ r. ⌜ r ≡ foundIn base heard size heads ⌝ }
+pub(crate) fn walk(mode: Mode, heads: [Head; POOL_LIMIT], size: usize, heard: Heard) -> Found
+    ensures { λ r. ⌜ r ≡ foundIn (rulesBy mode) heard size heads ⌝ }
 {
     if POOL_LIMIT < size {
         return nothing_found(true);
@@ -28,7 +29,7 @@ pub(crate) fn walk(heads: [Head; POOL_LIMIT], size: usize, heard: Heard) -> Foun
     let mut i = size;
     while 0 < i {
         i -= 1;
-        s = look(heads[i], s, i, heard);
+        s = look(mode, heads[i], s, i, heard);
     }
     s
 }
@@ -107,6 +108,7 @@ fn first_size(heard: Heard) -> usize
 
 // The place that the frame takes, or POOL_LIMIT.
 pub(crate) fn seek(
+    mode: Mode,
     keys: &[u64; POOL_LIMIT],
     owners: &[u8; POOL_LIMIT],
     lasts: &[u64; POOL_LIMIT],
@@ -116,14 +118,14 @@ pub(crate) fn seek(
     heard: Heard,
 ) -> usize
     requires { ⌜ (length (now keys) ≡ poolLimit) × (length (now owners) ≡ poolLimit) × (length (now lasts) ≡ poolLimit) × (size ≤ poolLimit) ⌝ }
-    ensures { λ r. ⌜ r ≡ sought (now (keys .entry)) (now (owners .entry)) (now (lasts .entry)) size listed key heard ⌝ }
+    ensures { λ r. ⌜ r ≡ sought mode (now (keys .entry)) (now (owners .entry)) (now (lasts .entry)) size listed key heard ⌝ }
 {
     if !listed {
         return POOL_LIMIT;
     }
     let data = heard.data;
     if data[0] % 32 != 0 {
-        return first_live(keys, lasts, size, key, heard.now_ms);
+        return first_live(mode, keys, lasts, size, key, heard.now_ms);
     }
     let announced = first_size(heard);
     if announced <= FIRST_FRAME_PAYLOAD {
@@ -133,6 +135,7 @@ pub(crate) fn seek(
         return POOL_LIMIT;
     }
     choose(
+        mode,
         keys,
         owners,
         lasts,

@@ -4,10 +4,11 @@ ghost use mathlib.Core.Bool.{false, _&&_, _||_};
 ghost use Prim.Native.Nat.{_+_, _-_, _≤_, _<_};
 ghost use lib.ListN.{length};
 ghost use lib.Dec.{eqb};
-ghost use Rattle.session.specs.Rules.{poolLimit, silence};
+ghost use Rattle.session.specs.Rules.{poolLimit, silentBy};
 ghost use Rattle.session.specs.inner.Search.{firstOf};
 ghost use Rattle.batch.specs.inner.Mirror.{firstFrom, keyAt, openAt, ownAt, chosenIn, liveIn};
 ghost use Rattle.batch.specs.inner.Walks.{ownerAt, inFour, Past, Stops};
+use session::Mode;
 use session::POOL_LIMIT;
 use session::SESSION_TIMEOUT_MS;
 
@@ -24,23 +25,27 @@ fn silent_before(time: u64) -> u64
     }
 }
 
-// A clock that was set back means no silence. One comparison a place: what it is compared with stays the same on a walk.
-fn is_silent(time: u64, last: u64) -> bool
-    ensures { λ r. ⌜ r ≡ silence time last ⌝ }
+// One comparison a place, or two: what it is compared with stays the same on a walk.
+fn is_silent(mode: Mode, time: u64, last: u64) -> bool
+    ensures { λ r. ⌜ r ≡ silentBy mode time last ⌝ }
 {
-    last < silent_before(time)
+    let late = last < silent_before(time);
+    match mode {
+        Mode::AsOriginal => late,
+        Mode::SetBackIsSilence => late | (time < last),
+    }
 }
 
-fn is_open(key: u64, time: u64, last: u64) -> bool
-    ensures { λ r. ⌜ r ≡ (eqb key 0 || silence time last) ⌝ }
+fn is_open(mode: Mode, key: u64, time: u64, last: u64) -> bool
+    ensures { λ r. ⌜ r ≡ (eqb key 0 || silentBy mode time last) ⌝ }
 {
-    (key == 0) | is_silent(time, last)
+    (key == 0) | is_silent(mode, time, last)
 }
 
-fn is_own(key: u64, time: u64, last: u64, owner: u8, source: u8) -> bool
-    ensures { λ r. ⌜ r ≡ ((eqb key 0 || silence time last) && eqb owner source) ⌝ }
+fn is_own(mode: Mode, key: u64, time: u64, last: u64, owner: u8, source: u8) -> bool
+    ensures { λ r. ⌜ r ≡ ((eqb key 0 || silentBy mode time last) && eqb owner source) ⌝ }
 {
-    is_open(key, time, last) & (owner == source)
+    is_open(mode, key, time, last) & (owner == source)
 }
 
 fn first_of(a: usize, b: usize) -> usize
@@ -115,6 +120,7 @@ struct Stop {
 
 // Until a place is open.
 fn first_stop(
+    mode: Mode,
     keys: &[u64; POOL_LIMIT],
     lasts: &[u64; POOL_LIMIT],
     size: usize,
@@ -122,7 +128,7 @@ fn first_stop(
     time: u64,
 ) -> Stop
     requires { ⌜ (length (now keys) ≡ poolLimit) × (length (now lasts) ≡ poolLimit) × (size ≤ poolLimit) ⌝ }
-    ensures { λ r. ⌜ Stops (keyAt (now (keys .entry)) key) (openAt (now (keys .entry)) (now (lasts .entry)) time) 0 size r ⌝ }
+    ensures { λ r. ⌜ Stops (keyAt (now (keys .entry)) key) (openAt mode (now (keys .entry)) (now (lasts .entry)) time) 0 size r ⌝ }
 {
     let mut s: usize = 0;
     while s < size {
@@ -130,7 +136,7 @@ fn first_stop(
         if here == key {
             return Stop { at: s, keyed: true };
         }
-        if is_open(here, time, lasts[s]) {
+        if is_open(mode, here, time, lasts[s]) {
             return Stop {
                 at: s,
                 keyed: false,
@@ -146,6 +152,7 @@ fn first_stop(
 
 // On from the first open place, which does not have the key, until an open place is of the source.
 fn own_stop(
+    mode: Mode,
     keys: &[u64; POOL_LIMIT],
     owners: &[u8; POOL_LIMIT],
     lasts: &[u64; POOL_LIMIT],
@@ -156,11 +163,11 @@ fn own_stop(
     time: u64,
 ) -> Stop
     requires { ⌜ (length (now keys) ≡ poolLimit) × (length (now owners) ≡ poolLimit) × (length (now lasts) ≡ poolLimit) × (from < size) × (size ≤ poolLimit) × (keyAt (now keys) key from ≡ false) ⌝ }
-    ensures { λ r. ⌜ Stops (keyAt (now (keys .entry)) key) (ownAt (now (keys .entry)) (now (owners .entry)) (now (lasts .entry)) source time) from size r ⌝ }
+    ensures { λ r. ⌜ Stops (keyAt (now (keys .entry)) key) (ownAt mode (now (keys .entry)) (now (owners .entry)) (now (lasts .entry)) source time) from size r ⌝ }
 {
     let mut s = from;
     loop {
-        if is_own(keys[s], time, lasts[s], owners[s], source) {
+        if is_own(mode, keys[s], time, lasts[s], owners[s], source) {
             return Stop {
                 at: s,
                 keyed: false,
@@ -196,6 +203,7 @@ fn next_key(keys: &[u64; POOL_LIMIT], from: usize, size: usize, key: u64) -> usi
 
 // One walk for all three: each candidate that is found stays, and from there on less is asked of a place. The key ends it.
 pub(crate) fn choose(
+    mode: Mode,
     keys: &[u64; POOL_LIMIT],
     owners: &[u8; POOL_LIMIT],
     lasts: &[u64; POOL_LIMIT],
@@ -205,16 +213,16 @@ pub(crate) fn choose(
     time: u64,
 ) -> usize
     requires { ⌜ (length (now keys) ≡ poolLimit) × (length (now owners) ≡ poolLimit) × (length (now lasts) ≡ poolLimit) × (size ≤ poolLimit) ⌝ }
-    ensures { λ r. ⌜ r ≡ chosenIn (now (keys .entry)) (now (owners .entry)) (now (lasts .entry)) size key source time ⌝ }
+    ensures { λ r. ⌜ r ≡ chosenIn mode (now (keys .entry)) (now (owners .entry)) (now (lasts .entry)) size key source time ⌝ }
 {
-    let free = first_stop(keys, lasts, size, key, time);
+    let free = first_stop(mode, keys, lasts, size, key, time);
     if free.keyed {
         return free.at;
     }
     if POOL_LIMIT <= free.at {
         return POOL_LIMIT;
     }
-    let own = own_stop(keys, owners, lasts, free.at, size, key, source, time);
+    let own = own_stop(mode, keys, owners, lasts, free.at, size, key, source, time);
     if own.keyed {
         return own.at;
     }
@@ -228,6 +236,7 @@ pub(crate) fn choose(
 
 // A message's frames come close together: the first live place with the key ends the walk.
 pub(crate) fn first_live(
+    mode: Mode,
     keys: &[u64; POOL_LIMIT],
     lasts: &[u64; POOL_LIMIT],
     size: usize,
@@ -235,7 +244,7 @@ pub(crate) fn first_live(
     time: u64,
 ) -> usize
     requires { ⌜ (length (now keys) ≡ poolLimit) × (length (now lasts) ≡ poolLimit) × (size ≤ poolLimit) ⌝ }
-    ensures { λ r. ⌜ r ≡ liveIn (now (keys .entry)) (now (lasts .entry)) size key time ⌝ }
+    ensures { λ r. ⌜ r ≡ liveIn mode (now (keys .entry)) (now (lasts .entry)) size key time ⌝ }
 {
     let mut i: usize = 0;
     while i < size {
@@ -244,7 +253,7 @@ pub(crate) fn first_live(
             i += 1;
             continue;
         }
-        if !is_silent(time, lasts[i]) {
+        if !is_silent(mode, time, lasts[i]) {
             return i;
         }
         i += 1;

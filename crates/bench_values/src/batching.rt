@@ -45,7 +45,14 @@ fn wide(x: u8) -> u64 {
     x as u64
 }
 
-pub(crate) fn show(pool: Pool, counters: Counters, arrival: Arrival) {
+// What a batch of one frame leaves beside the answer, which is shown.
+struct Answered {
+    length: u64,
+    counters: Counters,
+    pool: Pool,
+}
+
+fn show_answer(pool: Pool, counters: Counters, arrival: Arrival) -> Answered {
     let mut kinds = [0u8; 1];
     let mut lengths = [0u8; 1];
     let r = batch_of(pool, counters, arrival, &mut kinds, &mut lengths);
@@ -54,7 +61,27 @@ pub(crate) fn show(pool: Pool, counters: Counters, arrival: Arrival) {
     let after = r.pool;
     say::text(b"  in a batch: ");
     show_result(result, kinds[0]);
-    left::show(wide(lengths[0]), counted, after);
+    Answered {
+        length: wide(lengths[0]),
+        counters: counted,
+        pool: after,
+    }
+}
+
+pub(crate) fn show(pool: Pool, counters: Counters, arrival: Arrival) {
+    let r = show_answer(pool, counters, arrival);
+    let counted = r.counters;
+    let after = r.pool;
+    left::show(r.length, counted, after);
+}
+
+// The same with the slot's time.
+pub(crate) fn show_with_time(pool: Pool, counters: Counters, arrival: Arrival) {
+    say::text(b"  ");
+    let r = show_answer(pool, counters, arrival);
+    let counted = r.counters;
+    let after = r.pool;
+    left::show_with_time(r.length, counted, after);
 }
 
 fn without_kinds(words: &[u8], pool: Pool) {

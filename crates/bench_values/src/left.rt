@@ -37,11 +37,24 @@ fn tell_slot(pool: Pool) {
     } else {
         say::text(b"idle");
     }
-    say::counted(b", source ", head.source_address as u64);
+    say::text(b", source ");
+    say::number(head.source_address as u64);
 }
 
-pub(crate) fn show(length: u64, counters: Counters, pool: Pool) {
+fn tell_all(length: u64, counters: Counters, pool: Pool) {
     tell(b", length ", length);
     tell_counters(counters);
     tell_slot(pool);
+}
+
+pub(crate) fn show(length: u64, counters: Counters, pool: Pool) {
+    tell_all(length, counters, pool);
+    say::line();
+}
+
+// The same with the time at which the slot was last heard.
+pub(crate) fn show_with_time(length: u64, counters: Counters, pool: Pool) {
+    tell_all(length, counters, pool);
+    let head = pool.heads[0];
+    say::counted(b", time ", head.last_seen_ms);
 }

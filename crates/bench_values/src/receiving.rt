@@ -4,16 +4,18 @@ use crate::left;
 use crate::say;
 use assembler::Arrival;
 use assembler::Made;
+use assembler::MadePool;
 use assembler::Pool;
 use assembler::Received;
 use assembler::receive;
 use session::Counters;
 use session::Kind;
+use session::Mode;
 
 const PGN: u32 = 127489;
 
 // A frame of sequence 0; of a first frame, index 0, the byte after it is the announced size.
-fn frame(now_ms: u64, source_address: u8, index: u8, next: u8) -> Arrival {
+pub(crate) fn frame(now_ms: u64, source_address: u8, index: u8, next: u8) -> Arrival {
     Arrival {
         now_ms: now_ms,
         pgn: PGN,
@@ -90,21 +92,48 @@ pub(crate) fn continuations() {
     heard_by_one(b"a continuation after 501 ms: ", frame(501, 35, 1, 7));
 }
 
-fn show_made(words: &[u8], size: usize) {
-    say::text(words);
-    let made = Pool::new(size);
+fn show_made(made: MadePool) {
     let result = made.result;
     let pool = made.pool;
     match result {
         Made::Fresh => say::text(b"fresh"),
         Made::ImpossiblePool => say::refused_by(1),
     }
-    say::counted(b", size ", pool.size as u64);
+    say::text(b", size ");
+    say::number(pool.size as u64);
+}
+
+pub(crate) fn show_mode(mode: Mode) {
+    match mode {
+        Mode::AsOriginal => say::text(b"as the original"),
+        Mode::SetBackIsSilence => say::text(b"set back is silence"),
+    }
+}
+
+fn made_as_original(words: &[u8], size: usize) {
+    say::text(words);
+    show_made(Pool::new(size));
+    say::line();
+}
+
+fn made_in_a_mode(words: &[u8], size: usize, mode: Mode) {
+    say::text(words);
+    let made = Pool::with_mode(size, mode);
+    show_made(made);
+    let pool = made.pool;
+    let kept = pool.mode;
+    say::text(b", ");
+    show_mode(kept);
+    say::line();
 }
 
 pub(crate) fn made() {
-    show_made(b"a pool of 32: ", 32);
-    show_made(b"a pool of 33: ", 33);
+    made_as_original(b"a pool of 32: ", 32);
+    made_as_original(b"a pool of 33: ", 33);
+    made_in_a_mode(b"a pool of 32 in a mode: ", 32, Mode::AsOriginal);
+    made_in_a_mode(b"a pool of 32 in a mode: ", 32, Mode::SetBackIsSilence);
+    made_in_a_mode(b"a pool of 33 in a mode: ", 33, Mode::AsOriginal);
+    made_in_a_mode(b"a pool of 33 in a mode: ", 33, Mode::SetBackIsSilence);
 }
 
 fn heard_by_size(words: &[u8], size: usize, arrival: Arrival) {

@@ -9,14 +9,15 @@ use assembler::receive;
 use assembler::receive_with_length;
 use session::Counters;
 use session::Kind;
+use session::Mode;
 
 struct Gateway {
     pool: Pool,
     counters: Counters,
 }
 
-fn started(size: usize) -> Gateway {
-    let made = Pool::new(size);
+fn started_in(mode: Mode, size: usize) -> Gateway {
+    let made = Pool::with_mode(size, mode);
     let pool = made.pool;
     let counters = Counters {
         expired_sessions: 0,
@@ -31,6 +32,10 @@ fn started(size: usize) -> Gateway {
     }
 }
 
+fn started(size: usize) -> Gateway {
+    started_in(Mode::AsOriginal, size)
+}
+
 fn show_message(r: Received) {
     let payload = r.payload;
     say::text(b"MessageComplete: ");
@@ -38,7 +43,7 @@ fn show_message(r: Received) {
 }
 
 // The name says why a frame was not taken; beside it, the counter that went up.
-fn show_answer(r: Received) {
+fn tell_answer(r: Received) {
     let kind = r.kind;
     let c = r.counters;
     match kind {
@@ -50,6 +55,10 @@ fn show_answer(r: Received) {
         Kind::FragmentConsumed => say::text(b"FragmentConsumed"),
         Kind::MessageComplete => show_message(r),
     }
+}
+
+fn show_answer(r: Received) {
+    tell_answer(r);
     say::text(b"\n");
 }
 
@@ -111,18 +120,23 @@ fn hear_whole(g: Gateway, now_ms: u64, source: u8, sequence: u8, hours: u32) -> 
 }
 
 fn later(now_ms: u64) -> u64 {
-    if now_ms < 1000000 {
+    if now_ms < 10000000 {
         now_ms + 10
     } else {
         now_ms
     }
 }
 
-fn show_counters(g: Gateway) {
+fn tell_counters(g: Gateway) {
     let c = g.counters;
-    say::told(b"  expired_sessions ", c.expired_sessions as u64);
+    say::told(b"expired_sessions ", c.expired_sessions as u64);
     say::told(b", pool_exhausted ", c.pool_exhausted as u64);
     say::told(b", lost_fragments ", c.lost_fragments as u64);
+}
+
+fn show_counters(g: Gateway) {
+    say::text(b"  ");
+    tell_counters(g);
     say::text(b"\n");
 }
 
@@ -191,13 +205,71 @@ fn show_full_pool() {
     show_counters(g);
 }
 
+// The same bus heard in both modes.
+struct Both {
+    as_original: Gateway,
+    set_back_is_silence: Gateway,
+}
+
+fn both_started(size: usize) -> Both {
+    Both {
+        as_original: started_in(Mode::AsOriginal, size),
+        set_back_is_silence: started_in(Mode::SetBackIsSilence, size),
+    }
+}
+
+// One frame, and the two answers side by side.
+fn both_hear(b: Both, now_ms: u64, sequence: u8, index: u8, hours: u32) -> Both {
+    show_frame(now_ms, 35, sequence, index);
+    let arrival = arrived_frame(now_ms, 35, sequence, index, hours);
+    let as_original = b.as_original;
+    let set_back_is_silence = b.set_back_is_silence;
+    let one = received(as_original, arrival);
+    tell_answer(one);
+    say::text(b" | ");
+    let other = received(set_back_is_silence, arrival);
+    show_answer(other);
+    Both {
+        as_original: after(one),
+        set_back_is_silence: after(other),
+    }
+}
+
+fn both_hear_tail(b: Both, now_ms: u64, sequence: u8, hours: u32) -> Both {
+    let c = both_hear(b, now_ms, sequence, 2, hours);
+    both_hear(c, later(now_ms), sequence, 3, hours)
+}
+
+fn both_hear_head(b: Both, now_ms: u64, sequence: u8, hours: u32) -> Both {
+    let c = both_hear(b, now_ms, sequence, 0, hours);
+    both_hear(c, later(now_ms), sequence, 1, hours)
+}
+
+fn show_both_counters(b: Both) {
+    let as_original = b.as_original;
+    let set_back_is_silence = b.set_back_is_silence;
+    say::text(b"  ");
+    tell_counters(as_original);
+    say::text(b" | ");
+    tell_counters(set_back_is_silence);
+    say::text(b"\n");
+}
+
+fn say_set_back() {
+    say::text(b"The clock is set back by an hour after half of a message;");
+    say::text(b" of the next with its number only the tail arrives\n");
+    say::text(b"  (as the original | where a clock that was set back is silence)\n");
+}
+
+// The tail comes half an hour after the clock was set back.
 fn show_clock_set_back() {
-    say::text(b"The clock is set back after a first frame\n");
-    let mut g = started(4);
-    g = hear(g, 1000, 35, 0, 0, 7200);
-    g = hear(g, 0, 35, 0, 1, 7200);
-    g = hear_tail(g, 10, 35, 0, 7200);
-    show_counters(g);
+    say_set_back();
+    let mut b = both_started(4);
+    b = both_hear_head(b, 7200000, 5, 0x12_FFF0);
+    b = both_hear_tail(b, 5400000, 5, 0x13_0000);
+    b = both_hear_head(b, 5404000, 5, 0x13_0004);
+    b = both_hear_tail(b, 5404020, 5, 0x13_0004);
+    show_both_counters(b);
 }
 
 // A first frame with a PGN that is not in the list.

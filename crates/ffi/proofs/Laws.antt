@@ -15,7 +15,7 @@ use Rattle.builder.specs.declared.FrameIterator.{FrameIterator}
 use Rattle.builder.specs.declared.FastPacketBuilder.{FastPacketBuilder}
 use Rattle.session.specs.declared.Heard.{Heard}
 use Rattle.session.specs.declared.Counters.{Counters}
-use Rattle.assembler.specs.Making.{freshPool, ofMade}
+use Rattle.assembler.specs.Making.{freshPool, freshPoolIn, ofMade}
 use Rattle.assembler.specs.View.{receiveOf}
 use Rattle.assembler.specs.declared.Arrival.{Arrival}
 use Rattle.assembler.specs.declared.ArrivalWithLength.{ArrivalWithLength}
@@ -117,38 +117,38 @@ made-by {b = b} {p} {before = before} {after} {code} h e f =
     subst (λ (x : Pool). PoolLeft b x before code after) f (subst (λ (x : Answer ℕ). PoolLeft x p before code after) e h)
 
 pub default-by : {p : Pool} → p ≡ freshPool 4 → ofMade Fresh (p .size) ≡ gives 4
-unfolding ofMade freshPool
+unfolding ofMade freshPool freshPoolIn
 default-by e = ap (λ (p : Pool). gives (p .size)) e
 
 -- ---- the receive call on a pool and counters from numbers
-module _ (size : ℕ) (pgns : List ℕ) (before : CallMemory) {p : Pool} {k : Counters} {r : Received} (e : p ≡ poolFrom size (before .heads) (before .bytes)) (f : k ≡ countersFrom (before .counters)) where
-  heard-by : (f : Heard) → ReceivesHeard pgns f p k r → r ≡ receiveOf (rulesOf (poolIn size before)) pgns f (poolIn size before) (countersFrom (before .counters))
+module _ (size mode : ℕ) (pgns : List ℕ) (before : CallMemory) {p : Pool} {k : Counters} {r : Received} (e : p ≡ poolFrom size mode (before .heads) (before .bytes)) (f : k ≡ countersFrom (before .counters)) where
+  heard-by : (f : Heard) → ReceivesHeard pgns f p k r → r ≡ receiveOf (rulesOf (poolIn size mode before)) pgns f (poolIn size mode before) (countersFrom (before .counters))
   unfolding poolIn
   heard-by h q =
       equation pgns h p k q
       ∙ ap (λ (x : Pool). receiveOf (rulesOf x) pgns h x k) e
-      ∙ ap (λ (x : Counters). receiveOf (rulesOf (poolFrom size (before .heads) (before .bytes))) pgns h (poolFrom size (before .heads) (before .bytes)) x) f
+      ∙ ap (λ (x : Counters). receiveOf (rulesOf (poolFrom size mode (before .heads) (before .bytes))) pgns h (poolFrom size mode (before .heads) (before .bytes)) x) f
 
-  pub received-by : (a : Arrival) → Receives pgns a p k r → r ≡ receivedIn size pgns a before
+  pub received-by : (a : Arrival) → Receives pgns a p k r → r ≡ receivedIn size mode pgns a before
   unfolding receivedIn
   received-by a q = heard-by (heardOf a) q
 
-  pub received-with-length-by : (x : ArrivalWithLength) → ReceivesWithLength pgns x p k r → r ≡ receivedWithLengthIn size pgns x before
+  pub received-with-length-by : (x : ArrivalWithLength) → ReceivesWithLength pgns x p k r → r ≡ receivedWithLengthIn size mode pgns x before
   unfolding receivedWithLengthIn
   received-with-length-by x q = heard-by (heardWithLength x) q
 
 -- ---- a batch on a pool and counters from numbers, and what it leaves
-module _ (size : ℕ) (pgns : List ℕ) (rows : Rows) (before : BatchMemory) {p : Pool} {k : Counters} (e : p ≡ poolFrom size (before .heads) (before .bytes)) (f : k ≡ countersFrom (before .counters)) where
-  batch-same : batchOf (rulesOf p) pgns rows p k (before .kinds) (before .lengths) (before .arena) ≡ batchIn size pgns rows before
+module _ (size mode : ℕ) (pgns : List ℕ) (rows : Rows) (before : BatchMemory) {p : Pool} {k : Counters} (e : p ≡ poolFrom size mode (before .heads) (before .bytes)) (f : k ≡ countersFrom (before .counters)) where
+  batch-same : batchOf (rulesOf p) pgns rows p k (before .kinds) (before .lengths) (before .arena) ≡ batchIn size mode pgns rows before
   unfolding batchIn
   batch-same =
       ap (λ (x : Pool). batchOf (rulesOf x) pgns rows x k (before .kinds) (before .lengths) (before .arena)) e
-      ∙ ap (λ (x : Counters). batchOf (rulesOf (poolFrom size (before .heads) (before .bytes))) pgns rows (poolFrom size (before .heads) (before .bytes)) x (before .kinds) (before .lengths) (before .arena)) f
+      ∙ ap (λ (x : Counters). batchOf (rulesOf (poolFrom size mode (before .heads) (before .bytes))) pgns rows (poolFrom size mode (before .heads) (before .bytes)) x (before .kinds) (before .lengths) (before .arena)) f
 
   pub batch-left : {r : Batch} {heads bytes counters kinds lengths arena counts : List ℕ} {code : ℕ}
       → Batches pgns (rows .times) (rows .pgns) (rows .sources) (rows .bytes) p k (before .kinds) (before .lengths) (before .arena) r kinds lengths arena
       → PoolAfter r (before .heads) code heads bytes counters counts
-      → FramesLeft size pgns rows before code (record { heads = heads; bytes = bytes; counters = counters; kinds = kinds; lengths = lengths; arena = arena; counts = counts })
+      → FramesLeft size mode pgns rows before code (record { heads = heads; bytes = bytes; counters = counters; kinds = kinds; lengths = lengths; arena = arena; counts = counts })
   batch-left {r} {heads} {bytes} {counters} {kinds} {lengths} {arena} {counts} {code} g h =
       let left = g .leaves-these in
       subst

@@ -1,4 +1,5 @@
--- A refusal changes no lent memory: the heads laid back over the numbers that they were read from leave every number as it was. Assumes nothing.
+-- A refusal changes no lent memory: the heads laid back over the numbers that they were read from leave every number as it was. A number that is no mode is
+-- refused by 1. Assumes nothing.
 use Prim.Native.Nat.{ℕ, zero, suc, _+_, _*_, _%_, _<_, _≤_}
 use mathlib.Core.Bool.{Bool, true, false}
 use mathlib.Core.List.{List, [], _∷_}
@@ -7,21 +8,22 @@ use lib.ListN.{getD, length, length-append, List·getD-append}
 use lib.Seq.{sets, getD-at}
 use native.Mathlib.Nat.{add-zero}
 use native.Mathlib.Omega.{arith}
+use borrow.Author.Tests.{lt-ltb, ne-eqb}
 use Rattle.base.specs.Answer.{Answer, gives, refuses}
 use Rattle.base.specs.Pick.{pick}
 use Rattle.base.proofs.Cases.{when-eq, pick-all, same?}
 use Rattle.can_id.specs.Read.{readOf}
 use Rattle.can_id.specs.declared.CanIdParts.{CanIdParts}
 use Rattle.session.specs.Kinds.{kindNumber}
-use Rattle.session.specs.Rules.{Rules, poolLimit}
+use Rattle.session.specs.Rules.{Rules, rulesBy, poolLimit}
 use Rattle.session.specs.Heads.{freshHead}
 use Rattle.session.specs.declared.Head.{Head}
 use Rattle.session.specs.declared.Heard.{Heard}
 use Rattle.session.specs.declared.Kind.the-variants.{ImpossiblePool}
 use Rattle.session.specs.declared.Counters.{Counters}
 use Rattle.assembler.specs.Call.{Call}
-use Rattle.assembler.specs.Making.{poolBytes, sizeMade}
-use Rattle.assembler.specs.Slots.{within}
+use Rattle.assembler.specs.Making.{poolBytes, sizeMade, poolMade, freshPoolIn}
+use Rattle.assembler.specs.Slots.{within, impossible}
 use Rattle.assembler.specs.Step.{unlisted, badFrame, noSlot, lost, Said, ignored, consumed, complete, saidOf, eventOf, step, stepIf, outcome}
 use Rattle.assembler.specs.View.{slotsOf, poolOf, zeros, whyKind, replyKind, replyPayload, replyLength, shown, receiveOf}
 use Rattle.assembler.specs.declared.Pool.{Pool}
@@ -33,10 +35,10 @@ use Rattle.assembler.specs.declared.Received.{Received}
 use Rattle.assembler.proofs.Views.{view-back}
 use Rattle.batch.specs.Rows.{Rows, Run, batchOf, leaves, refusedBy, takenIn, BatchLeft}
 use Rattle.numbers.specs.Numbers.{isSet, laidOn, partsWith, ToldInFour}
-use Rattle.numbers.specs.Pool.{headAt, headOver, headsTo, headsFrom, laidTo, laidOver, poolFrom, countersFrom, counterNumbers, CallMemory, CallLeft, PoolMemory, PoolLeft}
+use Rattle.numbers.specs.Pool.{headAt, headOver, headsTo, headsFrom, laidTo, laidOver, modeNumber, modeFrom, sizeUnder, poolFrom, countersFrom, counterNumbers, CallMemory, CallLeft, PoolMemory, PoolLeft}
 use Rattle.numbers.proofs.Sets.{sets-same}
 use Rattle.ffi.specs.Ids.{IdRead}
-use Rattle.ffi.specs.Calls.{NewPoolLeft, poolIn, receivedIn, receivedWithLengthIn, FrameLeft, FrameWithLengthLeft}
+use Rattle.ffi.specs.Calls.{NewPoolLeft, PoolWithModeLeft, poolIn, receivedIn, receivedWithLengthIn, FrameLeft, FrameWithLengthLeft}
 use Rattle.ffi.specs.Batches.{BatchMemory, BatchMemoryLeft, batchIn, FramesLeft}
 
 -- ---- what was read from a number leaves it
@@ -119,7 +121,8 @@ given (ignored lost) h = omega arith
 given consumed h = omega arith
 given (complete bytes n) h = omega arith
 
-refused-if : (R : Rules) (b : Bool) (p : Pool) (k : Counters) (c : Call) → kindNumber (shown (stepIf b R (slotsOf p) k c) .kind) < 100 → shown (stepIf b R (slotsOf p) k c) ≡ refusal (poolOf (slotsOf p)) k
+refused-if : (R : Rules) (b : Bool) (p : Pool) (k : Counters) (c : Call)
+    → kindNumber (shown (p .mode) (stepIf b R (slotsOf p) k c) .kind) < 100 → shown (p .mode) (stepIf b R (slotsOf p) k c) ≡ refusal (poolOf (p .mode) (slotsOf p)) k
 unfolding shown stepIf outcome refusal replyKind replyPayload replyLength
 refused-if R true p k c h = refl
 refused-if R false p k c h = absurd (given (saidOf (c .heard) (within (slotsOf p)) (eventOf R (within (slotsOf p)) c)) h)
@@ -132,13 +135,14 @@ pub record Untouched (before after : CallMemory) : Type 0 where
   pub payload-kept : after .payload ≡ before .payload
   pub no-message : after .length ≡ 0
 
-pool-back : (size : ℕ) (heads bytes : List ℕ) → length bytes ≡ poolBytes → poolOf (slotsOf (poolFrom size heads bytes)) ≡ poolFrom size heads bytes
+pool-back : (size mode : ℕ) (heads bytes : List ℕ) → length bytes ≡ poolBytes
+    → poolOf (poolFrom size mode heads bytes .mode) (slotsOf (poolFrom size mode heads bytes)) ≡ poolFrom size mode heads bytes
 unfolding poolFrom headsFrom
-pool-back size heads bytes long = view-back (poolFrom size heads bytes) (record { heads = heads-long poolLimit heads; bytes = long })
+pool-back size mode heads bytes long = view-back (poolFrom size mode heads bytes) (record { heads = heads-long poolLimit heads; bytes = long })
 
-module _ (size : ℕ) (pgns : List ℕ) (before : CallMemory) (long : length (before .bytes) ≡ poolBytes) (five : length (before .counters) ≡ 5) where
+module _ (size mode : ℕ) (pgns : List ℕ) (before : CallMemory) (long : length (before .bytes) ≡ poolBytes) (five : length (before .counters) ≡ 5) where
   abbrev pool : Pool
-  pool = poolFrom size (before .heads) (before .bytes)
+  pool = poolFrom size mode (before .heads) (before .bytes)
 
   abbrev counts : Counters
   counts = countersFrom (before .counters)
@@ -160,16 +164,16 @@ module _ (size : ℕ) (pgns : List ℕ) (before : CallMemory) (long : length (be
       untouched
       (subst (λ (r : Received). CallLeft r before code after)
       (refused-if (rulesOf pool) _ pool counts (record { pgns = pgns; heard = heard }) (subst (λ (n : ℕ). n < 100) (l .told) below)
-      ∙ ap (λ (p : Pool). refusal p counts) (pool-back size (before .heads) (before .bytes) long))
+      ∙ ap (λ (p : Pool). refusal p counts) (pool-back size mode (before .heads) (before .bytes) long))
       l)
 
   -- `hf_raw_process_frame` and `hf_raw_receive`
-  pub refused-leaves : (a : Arrival) {code : ℕ} {after : CallMemory} → FrameLeft size pgns a before code after → code < 100 → Untouched before after
+  pub refused-leaves : (a : Arrival) {code : ℕ} {after : CallMemory} → FrameLeft size mode pgns a before code after → code < 100 → Untouched before after
   unfolding receivedIn poolIn
   refused-leaves a = by-call (heardOf a)
 
   -- `hf_raw_process_frame_with_length`
-  pub refused-with-length-leaves : (x : ArrivalWithLength) {code : ℕ} {after : CallMemory} → FrameWithLengthLeft size pgns x before code after → code < 100 → Untouched before after
+  pub refused-with-length-leaves : (x : ArrivalWithLength) {code : ℕ} {after : CallMemory} → FrameWithLengthLeft size mode pgns x before code after → code < 100 → Untouched before after
   unfolding receivedWithLengthIn poolIn
   refused-with-length-leaves x = by-call (heardWithLength x)
 
@@ -188,8 +192,8 @@ module _ (before : BatchMemory) (code : ℕ) (after : BatchMemory) where
   abbrev pub Leaves : BatchLeft → Type 0
   Leaves l = BatchMemoryLeft l before code after → (code ≡ 0 → ⊥) → BatchUntouched before after
 
-  module _ (size : ℕ) (five : length (before .counters) ≡ 5) where
-    by-refusal : (n : ℕ) → Leaves (refusedBy n (poolFrom size (before .heads) (before .bytes)) (countersFrom (before .counters)) (before .kinds) (before .lengths) (before .arena))
+  module _ (size mode : ℕ) (five : length (before .counters) ≡ 5) where
+    by-refusal : (n : ℕ) → Leaves (refusedBy n (poolFrom size mode (before .heads) (before .bytes)) (countersFrom (before .counters)) (before .kinds) (before .lengths) (before .arena))
     unfolding refusedBy poolFrom takenIn
     by-refusal n l h =
         record {
@@ -207,18 +211,72 @@ module _ (before : BatchMemory) (code : ℕ) (after : BatchMemory) where
     by-run z l h = absurd (h (l .told))
 
     -- `hf_raw_process_frames`
-    pub refused-batch-leaves : (pgns : List ℕ) (rows : Rows) → FramesLeft size pgns rows before code after → (code ≡ 0 → ⊥) → BatchUntouched before after
+    pub refused-batch-leaves : (pgns : List ℕ) (rows : Rows) → FramesLeft size mode pgns rows before code after → (code ≡ 0 → ⊥) → BatchUntouched before after
     unfolding batchIn batchOf
     refused-batch-leaves pgns rows = pick-all Leaves _ (by-refusal 1) (pick-all Leaves _ (by-refusal 27) (by-run _))
 
--- ---- making a pool: `hf_raw_pool_new`
-pub refused-making-leaves : (wanted : ℕ) (before : PoolMemory) (code : ℕ) (after : PoolMemory) → NewPoolLeft wanted before code after → (code ≡ 0 → ⊥)
-    → (after .heads ≡ before .heads) × (after .bytes ≡ before .bytes)
-refused-making-leaves wanted before code after = by-answer (sizeMade wanted)
-  where
-    by-answer : (a : Answer ℕ) {p : Pool} → PoolLeft a p before code after → (code ≡ 0 → ⊥) → (after .heads ≡ before .heads) × (after .bytes ≡ before .bytes)
-    by-answer (gives size) l h = absurd (h (l .told))
-    by-answer (refuses n carried) l h = (l .kept, l .stored)
+-- ---- making a pool
+module _ (before : PoolMemory) (code : ℕ) (after : PoolMemory) where
+  by-answer : (a : Answer ℕ) {p : Pool} → PoolLeft a p before code after → (code ≡ 0 → ⊥) → (after .heads ≡ before .heads) × (after .bytes ≡ before .bytes)
+  by-answer (gives size) l h = absurd (h (l .told))
+  by-answer (refuses n carried) l h = (l .kept, l .stored)
+
+  -- `hf_raw_pool_new`
+  pub refused-making-leaves : (wanted : ℕ) → NewPoolLeft wanted before code after → (code ≡ 0 → ⊥) → (after .heads ≡ before .heads) × (after .bytes ≡ before .bytes)
+  refused-making-leaves wanted = by-answer (sizeMade wanted)
+
+  -- `hf_raw_pool_with_mode`
+  pub refused-making-with-mode-leaves : (wanted asked : ℕ) → PoolWithModeLeft wanted asked before code after → (code ≡ 0 → ⊥)
+      → (after .heads ≡ before .heads) × (after .bytes ≡ before .bytes)
+  refused-making-with-mode-leaves wanted asked = by-answer (sizeMade (sizeUnder asked wanted))
+
+-- ---- a number that is no mode: every call refuses the pool by 1, and none is made with it
+module _ (size mode : ℕ) (none : 1 < mode) where
+  no-mode : (heads bytes : List ℕ) → impossible (rulesOf (poolFrom size mode heads bytes)) (slotsOf (poolFrom size mode heads bytes)) ≡ true
+  unfolding poolFrom sizeUnder pick impossible rulesOf rulesBy slotsOf
+  no-mode heads bytes = rw (lt-ltb 1 mode none) refl
+
+  module _ (pgns : List ℕ) (before : CallMemory) {code : ℕ} {after : CallMemory} where
+    unheard : (heard : Heard) → CallLeft (receiveOf (rulesOf (poolIn size mode before)) pgns heard (poolIn size mode before) (countersFrom (before .counters))) before code after → code ≡ 1
+    unfolding receiveOf step poolIn shown stepIf replyKind kindNumber
+    unheard heard l = l .told ∙ rw (no-mode (before .heads) (before .bytes)) refl
+
+    -- `hf_raw_process_frame` and `hf_raw_receive`
+    pub no-mode-refused : (a : Arrival) → FrameLeft size mode pgns a before code after → code ≡ 1
+    unfolding receivedIn
+    no-mode-refused a = unheard (heardOf a)
+
+    -- `hf_raw_process_frame_with_length`
+    pub no-mode-with-length-refused : (x : ArrivalWithLength) → FrameWithLengthLeft size mode pgns x before code after → code ≡ 1
+    unfolding receivedWithLengthIn
+    no-mode-with-length-refused x = unheard (heardWithLength x)
+
+  -- `hf_raw_process_frames`
+  pub no-mode-batch-refused : (pgns : List ℕ) (rows : Rows) (before : BatchMemory) {code : ℕ} {after : BatchMemory} → FramesLeft size mode pgns rows before code after → code ≡ 1
+  unfolding batchIn batchOf refusedBy pick
+  no-mode-batch-refused pgns rows before l = l .told ∙ rw (no-mode (before .heads) (before .bytes)) refl
+
+-- what is left where none is made: the lent memory, and the size and the mode of the fresh pool beside the refusal
+pub record NoneMade (before : PoolMemory) (code : ℕ) (after : PoolMemory) : Type 0 where
+  pub refused : code ≡ 1
+  pub heads-kept : after .heads ≡ before .heads
+  pub bytes-kept : after .bytes ≡ before .bytes
+  pub no-slots : after .size ≡ 0
+  pub as-original : after .mode ≡ 0
+
+-- `hf_raw_pool_with_mode`
+pub no-mode-not-made : (wanted asked : ℕ) {before : PoolMemory} {code : ℕ} {after : PoolMemory} → 1 < asked → PoolWithModeLeft wanted asked before code after → NoneMade before code after
+unfolding sizeMade sizeUnder poolMade freshPoolIn modeFrom modeNumber pick
+no-mode-not-made wanted asked none l =
+    let over = lt-ltb 1 asked none in
+    let other = ne-eqb asked 1 (λ e. omega arith) in
+    record {
+      refused = l .told ∙ rw over refl;
+      heads-kept = l .kept ∙ rw over refl;
+      bytes-kept = l .stored ∙ rw over refl;
+      no-slots = l .sized ∙ rw over refl;
+      as-original = l .moded ∙ rw (over, other) refl;
+    }
 
 -- ---- reading an identifier: `hf_can_id_read`
 pub refused-reading-leaves : (id : ℕ) (before : List ℕ) (code : ℕ) (after : List ℕ) → IdRead id before code after → (code ≡ 0 → ⊥) → after ≡ before

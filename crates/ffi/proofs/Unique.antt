@@ -18,7 +18,7 @@ use Rattle.numbers.specs.Pool.{CallMemory, PoolMemory}
 use Rattle.numbers.proofs.Unique.{leave-unique, pool-left-unique}
 use Rattle.ffi.specs.Ids.{IdRead, PartsBuilt, SetBuilt, BothBuilt}
 use Rattle.ffi.specs.Frames.{NewBuilderLeft, sequenceSet, prioritySet, destinationSet, startedPlace, FrameMemory, NextFrameLeft, TurnLeft}
-use Rattle.ffi.specs.Calls.{NewPoolLeft, DefaultPoolLeft, FrameLeft, FrameWithLengthLeft}
+use Rattle.ffi.specs.Calls.{NewPoolLeft, PoolWithModeLeft, DefaultPoolLeft, FrameLeft, FrameWithLengthLeft}
 use Rattle.ffi.specs.Batches.{BatchMemory, FramesLeft}
 use Rattle.ffi.specs.BenchEntries.{ReassemblesInNumbers, SplitsInNumbers, ChecksTxInNumbers}
 
@@ -92,16 +92,20 @@ hf-fill-short-unique len bytes r s = determined
 pub hf-raw-pool-new-unique : (wanted : ℕ) (before : PoolMemory) (r s : ℕ) (a b : PoolMemory) → NewPoolLeft wanted before r a → NewPoolLeft wanted before s b → (r ≡ s) × (a ≡ b)
 hf-raw-pool-new-unique wanted before r s a b = pool-left-unique _ _ before r s a b
 
+pub hf-raw-pool-with-mode-unique : (wanted asked : ℕ) (before : PoolMemory) (r s : ℕ) (a b : PoolMemory)
+    → PoolWithModeLeft wanted asked before r a → PoolWithModeLeft wanted asked before s b → (r ≡ s) × (a ≡ b)
+hf-raw-pool-with-mode-unique wanted asked before r s a b = pool-left-unique _ _ before r s a b
+
 pub hf-raw-pool-default-unique : (before : PoolMemory) (r s : ℕ) (a b : PoolMemory) → DefaultPoolLeft before r a → DefaultPoolLeft before s b → (r ≡ s) × (a ≡ b)
 hf-raw-pool-default-unique before r s a b = pool-left-unique _ _ before r s a b
 
-module _ (size : ℕ) (pgns : List ℕ) (before : CallMemory) (r s : ℕ) (a b : CallMemory) where
+module _ (size mode : ℕ) (pgns : List ℕ) (before : CallMemory) (r s : ℕ) (a b : CallMemory) where
   -- of `hf_raw_receive` too
-  pub hf-raw-process-frame-unique : (arrival : Arrival) → FrameLeft size pgns arrival before r a → FrameLeft size pgns arrival before s b → (r ≡ s) × (a ≡ b)
+  pub hf-raw-process-frame-unique : (arrival : Arrival) → FrameLeft size mode pgns arrival before r a → FrameLeft size mode pgns arrival before s b → (r ≡ s) × (a ≡ b)
   hf-raw-process-frame-unique arrival = leave-unique _ before r s a b
 
   pub hf-raw-process-frame-with-length-unique : (x : ArrivalWithLength)
-      → FrameWithLengthLeft size pgns x before r a → FrameWithLengthLeft size pgns x before s b → (r ≡ s) × (a ≡ b)
+      → FrameWithLengthLeft size mode pgns x before r a → FrameWithLengthLeft size mode pgns x before s b → (r ≡ s) × (a ≡ b)
   hf-raw-process-frame-with-length-unique x = leave-unique _ before r s a b
 
 batches-same : (a b : BatchMemory) → a .heads ≡ b .heads → a .bytes ≡ b .bytes → a .counters ≡ b .counters → a .kinds ≡ b .kinds → a .lengths ≡ b .lengths → a .arena ≡ b .arena → a .counts ≡ b .counts → a ≡ b
@@ -114,9 +118,9 @@ batches-same a b h y c k l r t =
     ∙ ap (λ (x : List ℕ). record { heads = b .heads; bytes = b .bytes; counters = b .counters; kinds = b .kinds; lengths = b .lengths; arena = x; counts = a .counts }) r
     ∙ ap (λ (x : List ℕ). record { heads = b .heads; bytes = b .bytes; counters = b .counters; kinds = b .kinds; lengths = b .lengths; arena = b .arena; counts = x }) t
 
-pub hf-raw-process-frames-unique : (size : ℕ) (pgns : List ℕ) (rows : Rows) (before : BatchMemory) (r s : ℕ) (a b : BatchMemory)
-    → FramesLeft size pgns rows before r a → FramesLeft size pgns rows before s b → (r ≡ s) × (a ≡ b)
-hf-raw-process-frames-unique size pgns rows before r s a b p q = (
+pub hf-raw-process-frames-unique : (size mode : ℕ) (pgns : List ℕ) (rows : Rows) (before : BatchMemory) (r s : ℕ) (a b : BatchMemory)
+    → FramesLeft size mode pgns rows before r a → FramesLeft size mode pgns rows before s b → (r ≡ s) × (a ≡ b)
+hf-raw-process-frames-unique size mode pgns rows before r s a b p q = (
   determined (p .told) (q .told),
   batches-same a b (determined (p .kept) (q .kept)) (determined (p .stored) (q .stored)) (determined (p .counted) (q .counted)) (determined (p .answered) (q .answered)) (determined (p .measured) (q .measured)) (determined (p .delivered) (q .delivered)) (determined (p .taken) (q .taken)),
 )

@@ -56,6 +56,7 @@ fn leave_batch(
 #[no_mangle]
 pub extern "C" fn hf_raw_process_frames(
     size: usize,
+    mode: u32,
     heads: &mut [u64; HEAD_NUMBERS],
     bytes: &mut [u8; POOL_BYTES],
     counters: &mut [u32; 5],
@@ -69,11 +70,11 @@ pub extern "C" fn hf_raw_process_frames(
     arena: &mut [u8],
     counts: &mut [u64; 2],
 ) -> u32
-    ensures { λ code. ⌜ FramesLeft size (now (pgns .entry)) (record { times = now (times .entry); pgns = now («frame_pgns» .entry); sources = now (sources .entry); bytes = now («data» .entry) })
+    ensures { λ code. ⌜ FramesLeft size mode (now (pgns .entry)) (record { times = now (times .entry); pgns = now («frame_pgns» .entry); sources = now (sources .entry); bytes = now («data» .entry) })
         (record { heads = now (heads .entry); bytes = now (bytes .entry); counters = now (counters .entry); kinds = now (kinds .entry); lengths = now (lengths .entry); arena = now (arena .entry); counts = now (counts .entry) })
         code (record { heads = now (heads .exit); bytes = now (bytes .exit); counters = now (counters .exit); kinds = now (kinds .exit); lengths = now (lengths .exit); arena = now (arena .exit); counts = now (counts .exit) }) ⌝ }
 {
-    let p = pool_from(size, heads, bytes);
+    let p = pool_from(size, mode, heads, bytes);
     let c = counters_from(counters);
     let r = process_frames(
         p,

@@ -1,5 +1,6 @@
-// The receive call: a pool as its size, eight numbers for each head of its slots and their bytes, the counters as five numbers.
-ghost use Rattle.ffi.specs.Calls.{NewPoolLeft, DefaultPoolLeft, FrameLeft, FrameWithLengthLeft};
+// The receive call: a pool as its size, the number of its mode, eight numbers for each head of its slots and their bytes, the counters as five numbers. A
+// mode is 0, as the original, or 1, where a clock that was set back is silence; any other number is no mode, and makes the pool impossible.
+ghost use Rattle.ffi.specs.Calls.{NewPoolLeft, PoolWithModeLeft, DefaultPoolLeft, FrameLeft, FrameWithLengthLeft};
 use assembler::Arrival;
 use assembler::ArrivalWithLength;
 use assembler::Made;
@@ -14,44 +15,64 @@ use numbers::HEAD_NUMBERS;
 use numbers::counters_from;
 use numbers::leave;
 use numbers::leave_made;
+use numbers::pool_asked;
 use numbers::pool_from;
 
-// 0, or 1 and heads and bytes as they were; `size` is the pool's.
+// 0, or 1 and heads and bytes as they were; `size` and `mode` are the pool's, which is as the original.
 #[no_mangle]
 pub extern "C" fn hf_raw_pool_new(
     wanted: usize,
     heads: &mut [u64; HEAD_NUMBERS],
     bytes: &mut [u8; POOL_BYTES],
     size: &mut usize,
+    mode: &mut u32,
 ) -> u32
-    ensures { λ code. ⌜ NewPoolLeft wanted (record { heads = now (heads .entry); bytes = now (bytes .entry); size = now (size .entry) })
-        code (record { heads = now (heads .exit); bytes = now (bytes .exit); size = now (size .exit) }) ⌝ }
+    ensures { λ code. ⌜ NewPoolLeft wanted (record { heads = now (heads .entry); bytes = now (bytes .entry); size = now (size .entry); mode = now (mode .entry) })
+        code (record { heads = now (heads .exit); bytes = now (bytes .exit); size = now (size .exit); mode = now (mode .exit) }) ⌝ }
 {
-    leave_made(Pool::new(wanted), heads, bytes, size)
+    leave_made(Pool::new(wanted), heads, bytes, size, mode)
 }
 
-// The pool of the default size; returns 0.
+// The same in the mode whose number is asked for; 1 too for a number that is no mode, and the mode is then 0.
+#[no_mangle]
+pub extern "C" fn hf_raw_pool_with_mode(
+    wanted: usize,
+    asked: u32,
+    heads: &mut [u64; HEAD_NUMBERS],
+    bytes: &mut [u8; POOL_BYTES],
+    size: &mut usize,
+    mode: &mut u32,
+) -> u32
+    ensures { λ code. ⌜ PoolWithModeLeft wanted asked (record { heads = now (heads .entry); bytes = now (bytes .entry); size = now (size .entry); mode = now (mode .entry) })
+        code (record { heads = now (heads .exit); bytes = now (bytes .exit); size = now (size .exit); mode = now (mode .exit) }) ⌝ }
+{
+    leave_made(pool_asked(wanted, asked), heads, bytes, size, mode)
+}
+
+// The pool of the default size, as the original; returns 0.
 #[no_mangle]
 pub extern "C" fn hf_raw_pool_default(
     heads: &mut [u64; HEAD_NUMBERS],
     bytes: &mut [u8; POOL_BYTES],
     size: &mut usize,
+    mode: &mut u32,
 ) -> u32
-    ensures { λ code. ⌜ DefaultPoolLeft (record { heads = now (heads .entry); bytes = now (bytes .entry); size = now (size .entry) })
-        code (record { heads = now (heads .exit); bytes = now (bytes .exit); size = now (size .exit) }) ⌝ }
+    ensures { λ code. ⌜ DefaultPoolLeft (record { heads = now (heads .entry); bytes = now (bytes .entry); size = now (size .entry); mode = now (mode .entry) })
+        code (record { heads = now (heads .exit); bytes = now (bytes .exit); size = now (size .exit); mode = now (mode .exit) }) ⌝ }
 {
     let pool = Pool::default();
     let made = MadePool {
         result: Made::Fresh,
         pool: pool,
     };
-    leave_made(made, heads, bytes, size)
+    leave_made(made, heads, bytes, size, mode)
 }
 
 // Refusal 1 for an impossible pool, 102 FragmentConsumed, 103 MessageComplete, 104 NotListed, 105 Rejected, 106 PoolFull or 107 Lost.
 #[no_mangle]
 pub extern "C" fn hf_raw_process_frame(
     size: usize,
+    mode: u32,
     heads: &mut [u64; HEAD_NUMBERS],
     bytes: &mut [u8; POOL_BYTES],
     counters: &mut [u32; 5],
@@ -63,11 +84,11 @@ pub extern "C" fn hf_raw_process_frame(
     payload: &mut [u8; MAX_FAST_PACKET_PAYLOAD],
     length: &mut usize,
 ) -> u32
-    ensures { λ code. ⌜ FrameLeft size (now (pgns .entry)) (record { «now_ms» = «now_ms»; pgn = pgn; «source_address» = «source_address»; «data» = now («data» .entry) })
+    ensures { λ code. ⌜ FrameLeft size mode (now (pgns .entry)) (record { «now_ms» = «now_ms»; pgn = pgn; «source_address» = «source_address»; «data» = now («data» .entry) })
         (record { heads = now (heads .entry); bytes = now (bytes .entry); counters = now (counters .entry); payload = now (payload .entry); length = now (length .entry) })
         code (record { heads = now (heads .exit); bytes = now (bytes .exit); counters = now (counters .exit); payload = now (payload .exit); length = now (length .exit) }) ⌝ }
 {
-    let p = pool_from(size, heads, bytes);
+    let p = pool_from(size, mode, heads, bytes);
     let c = counters_from(counters);
     let d = *data;
     let arrival = Arrival {
@@ -84,6 +105,7 @@ pub extern "C" fn hf_raw_process_frame(
 #[no_mangle]
 pub extern "C" fn hf_raw_receive(
     size: usize,
+    mode: u32,
     heads: &mut [u64; HEAD_NUMBERS],
     bytes: &mut [u8; POOL_BYTES],
     counters: &mut [u32; 5],
@@ -95,11 +117,11 @@ pub extern "C" fn hf_raw_receive(
     payload: &mut [u8; MAX_FAST_PACKET_PAYLOAD],
     length: &mut usize,
 ) -> u32
-    ensures { λ code. ⌜ FrameLeft size (now (pgns .entry)) (record { «now_ms» = «now_ms»; pgn = pgn; «source_address» = «source_address»; «data» = now («data» .entry) })
+    ensures { λ code. ⌜ FrameLeft size mode (now (pgns .entry)) (record { «now_ms» = «now_ms»; pgn = pgn; «source_address» = «source_address»; «data» = now («data» .entry) })
         (record { heads = now (heads .entry); bytes = now (bytes .entry); counters = now (counters .entry); payload = now (payload .entry); length = now (length .entry) })
         code (record { heads = now (heads .exit); bytes = now (bytes .exit); counters = now (counters .exit); payload = now (payload .exit); length = now (length .exit) }) ⌝ }
 {
-    let p = pool_from(size, heads, bytes);
+    let p = pool_from(size, mode, heads, bytes);
     let c = counters_from(counters);
     let d = *data;
     let arrival = Arrival {
@@ -116,6 +138,7 @@ pub extern "C" fn hf_raw_receive(
 #[no_mangle]
 pub extern "C" fn hf_raw_process_frame_with_length(
     size: usize,
+    mode: u32,
     heads: &mut [u64; HEAD_NUMBERS],
     bytes: &mut [u8; POOL_BYTES],
     counters: &mut [u32; 5],
@@ -128,11 +151,11 @@ pub extern "C" fn hf_raw_process_frame_with_length(
     payload: &mut [u8; MAX_FAST_PACKET_PAYLOAD],
     length: &mut usize,
 ) -> u32
-    ensures { λ code. ⌜ FrameWithLengthLeft size (now (pgns .entry)) (record { arrival = record { «now_ms» = «now_ms»; pgn = pgn; «source_address» = «source_address»; «data» = now («data» .entry) }; length = «frame_length» })
+    ensures { λ code. ⌜ FrameWithLengthLeft size mode (now (pgns .entry)) (record { arrival = record { «now_ms» = «now_ms»; pgn = pgn; «source_address» = «source_address»; «data» = now («data» .entry) }; length = «frame_length» })
         (record { heads = now (heads .entry); bytes = now (bytes .entry); counters = now (counters .entry); payload = now (payload .entry); length = now (length .entry) })
         code (record { heads = now (heads .exit); bytes = now (bytes .exit); counters = now (counters .exit); payload = now (payload .exit); length = now (length .exit) }) ⌝ }
 {
-    let p = pool_from(size, heads, bytes);
+    let p = pool_from(size, mode, heads, bytes);
     let c = counters_from(counters);
     let d = *data;
     let arrival = Arrival {

@@ -11,7 +11,9 @@ use Rattle.base.specs.Pick.{pick}
 use Rattle.base.proofs.Bools.{and-false}
 use Rattle.session.specs.declared.Counters.{Counters}
 use Rattle.session.specs.declared.Heard.{Heard}
-use Rattle.session.specs.Rules.{Rules}
+use Rattle.session.specs.declared.Mode.{Mode}
+use Rattle.session.specs.declared.Mode.the-variants.{AsOriginal}
+use Rattle.session.specs.Rules.{Rules, rulesBy, base}
 use Rattle.session.specs.Frames.{indexOf, sizeOf, badSize, isEmpty, cutFirst, badFirst}
 use Rattle.session.specs.Heads.{inTurn, cutNext, isNext}
 use Rattle.session.proofs.Cuts.{eight-sent, eight-first, eight-cut}
@@ -45,7 +47,7 @@ said-as f ss (completed i) = refl
 
 -- an outcome of the steps, read
 abbrev readOutcome : Outcome → Original
-readOutcome o = record { answer = readReply (o .reply); pool = poolOf (o .pool); counters = o .counters }
+readOutcome o = record { answer = readReply (o .reply); pool = poolOf AsOriginal (o .pool); counters = o .counters }
 
 -- ---- where no byte that is needed was cut, the event is that of document 01's own steps
 
@@ -106,38 +108,50 @@ module _ (R : Rules) (p : Slots) (k : Counters) (c : Call) (whole : neededCut R 
 abbrev pub Cut : Rules → List ℕ → Heard → Pool → Bool
 Cut R pgns f p = neededCut R (within (slotsOf p)) (record { pgns = pgns; heard = f })
 
-pub call-as : (R : Rules) (pgns : List ℕ) (f : Heard) (p : Pool) (k : Counters) → Cut R pgns f p ≡ false → asOriginal (receiveOf R pgns f p k) ≡ originalOf R pgns f p k
+-- what is shown of an outcome, in the original's mode
+shown-as : (m : Mode) (o : Outcome) → m ≡ AsOriginal → record { answer = readReply (o .reply); pool = shown m o .pool; counters = shown m o .counters } ≡ readOutcome o
+unfolding shown
+shown-as m o old = rw old
+
+pub call-as : (R : Rules) (pgns : List ℕ) (f : Heard) (p : Pool) (k : Counters) → p .mode ≡ AsOriginal → Cut R pgns f p ≡ false → asOriginal (receiveOf R pgns f p k) ≡ originalOf R pgns f p k
 unfolding asOriginal
-call-as R pgns f p k whole =
+call-as R pgns f p k old whole =
     rw (replied R pgns f p k)
-    (unfold receiveOf shown step originalOf in step-as R (slotsOf p) k (record { pgns = pgns; heard = f }) whole (impossible R (slotsOf p)))
+    (unfold receiveOf step originalOf in
+    shown-as (p .mode) (step R (slotsOf p) k (record { pgns = pgns; heard = f })) old
+    ∙ step-as R (slotsOf p) k (record { pgns = pgns; heard = f }) whole (impossible R (slotsOf p)))
 
-all-sent : (pgns : List ℕ) (a : Arrival) (p : Pool) → Cut (rulesOf p) pgns (heardOf a) p ≡ false
+all-sent : (pgns : List ℕ) (a : Arrival) (p : Pool) → Cut base pgns (heardOf a) p ≡ false
 unfolding heardOf
-all-sent pgns a p = none-cut (rulesOf p) (within (slotsOf p)) (record { pgns = pgns; heard = heardOf a }) refl
+all-sent pgns a p = none-cut base (within (slotsOf p)) (record { pgns = pgns; heard = heardOf a }) refl
 
-module _ {pgns : List ℕ} {p : Pool} {k : Counters} where
-  heard-as : (f : Heard) {r : Received} → Cut (rulesOf p) pgns f p ≡ false → ReceivesHeard pgns f p k r → asOriginal r ≡ originalOf (rulesOf p) pgns f p k
-  heard-as f whole h = ap asOriginal (received-by pgns f p k h) ∙ call-as (rulesOf p) pgns f p k whole
+pub original-rules : (p : Pool) → p .mode ≡ AsOriginal → rulesOf p ≡ base
+unfolding rulesOf base
+original-rules p old = ap rulesBy old
 
-  heard-as-lent : (f : Heard) {r : Processed} {after : Counters} → Cut (rulesOf p) pgns f p ≡ false → ProcessesHeard pgns f p k r after → asOriginal (receivedOf r after) ≡ originalOf (rulesOf p) pgns f p k
+-- "Demand 2's equality with the Rust speaks of the old mode alone": the pool is in the original's mode
+module _ {pgns : List ℕ} {p : Pool} {k : Counters} (old : p .mode ≡ AsOriginal) where
+  heard-as : (f : Heard) {r : Received} → Cut base pgns f p ≡ false → ReceivesHeard pgns f p k r → asOriginal r ≡ originalOf base pgns f p k
+  heard-as f whole h = ap asOriginal (received-by pgns f p k h) ∙ rw (original-rules p old) (call-as base pgns f p k old whole)
+
+  heard-as-lent : (f : Heard) {r : Processed} {after : Counters} → Cut base pgns f p ≡ false → ProcessesHeard pgns f p k r after → asOriginal (receivedOf r after) ≡ originalOf base pgns f p k
   heard-as-lent f whole h =
       let is = processed-by pgns f p k h in
-      rw (is .0, is .1) (call-as (rulesOf p) pgns f p k whole)
+      rw (is .0, is .1, original-rules p old) (call-as base pgns f p k old whole)
 
   -- the theorem: eight bytes by value
-  pub demand-2 : (a : Arrival) {r : Received} → Receives pgns a p k r → asOriginal r ≡ originalOf (rulesOf p) pgns (heardOf a) p k
+  pub demand-2 : (a : Arrival) {r : Received} → Receives pgns a p k r → asOriginal r ≡ originalOf base pgns (heardOf a) p k
   demand-2 a h = heard-as (heardOf a) (all-sent pgns a p) h
 
   -- with the counters lent
-  pub demand-2-lent : (a : Arrival) {r : Processed} {after : Counters} → Processes pgns a p k r after → asOriginal (receivedOf r after) ≡ originalOf (rulesOf p) pgns (heardOf a) p k
+  pub demand-2-lent : (a : Arrival) {r : Processed} {after : Counters} → Processes pgns a p k r after → asOriginal (receivedOf r after) ≡ originalOf base pgns (heardOf a) p k
   demand-2-lent a h = heard-as-lent (heardOf a) (all-sent pgns a p) h
 
   -- and with a length, the original being given the frame filled up
-  pub demand-2-with-length : (x : ArrivalWithLength) {r : Received} → Cut (rulesOf p) pgns (heardWithLength x) p ≡ false → ReceivesWithLength pgns x p k r
-      → asOriginal r ≡ originalOf (rulesOf p) pgns (heardWithLength x) p k
+  pub demand-2-with-length : (x : ArrivalWithLength) {r : Received} → Cut base pgns (heardWithLength x) p ≡ false → ReceivesWithLength pgns x p k r
+      → asOriginal r ≡ originalOf base pgns (heardWithLength x) p k
   demand-2-with-length x whole h = heard-as (heardWithLength x) whole h
 
-  pub demand-2-with-length-lent : (x : ArrivalWithLength) {r : Processed} {after : Counters} → Cut (rulesOf p) pgns (heardWithLength x) p ≡ false → ProcessesWithLength pgns x p k r after
-      → asOriginal (receivedOf r after) ≡ originalOf (rulesOf p) pgns (heardWithLength x) p k
+  pub demand-2-with-length-lent : (x : ArrivalWithLength) {r : Processed} {after : Counters} → Cut base pgns (heardWithLength x) p ≡ false → ProcessesWithLength pgns x p k r after
+      → asOriginal (receivedOf r after) ≡ originalOf base pgns (heardWithLength x) p k
   demand-2-with-length-lent x whole h = heard-as-lent (heardWithLength x) whole h

@@ -8,7 +8,7 @@ use Prim.Native.Nat.{ℕ, _≤_}
 use lib.ListN.{length, replicate}
 use Rattle.session.specs.declared.Heard.{Heard}
 use Rattle.session.specs.declared.Counters.{Counters}
-use Rattle.session.specs.Rules.{Rules, base}
+use Rattle.session.specs.Rules.{Rules, rulesBy}
 use Rattle.session.specs.Counting.{most}
 use Rattle.assembler.specs.declared.Pool.{Pool}
 use Rattle.assembler.specs.declared.Processed.{Processed}
@@ -19,6 +19,7 @@ use Rattle.assembler.specs.Step.{step}
 use Rattle.assembler.specs.Runs.{freshWorld, callAll}
 use Rattle.assembler.specs.View.{slotsOf, receiveOf}
 use Rattle.assembler.specs.Promises.{rulesOf, ReceivesHeard, ProcessesHeard}
+use Rattle.assembler.proofs.Views.{mode-kept}
 use Rattle.assembler.proofs.Promised.{received-by, processed-by}
 use Rattle.assembler.proofs.ByCalls.{filled-ok}
 use Rattle.ledger.specs.Ledger.{ledgerOf}
@@ -57,11 +58,11 @@ demand-3-rules R p e h cs oks l =
 -- ---- a run of the public calls is a run of the receive call
 
 taken-one : (z : State) (pgns : List ℕ) (f : Heard) (r : Received) → CallOk (call pgns f) → ReceivesHeard pgns f (z .pool) (z .counters) r → Taken z (afterCall z r) (call pgns f ∷ [])
-unfolding receives rulesOf
+unfolding receives
 taken-one z pgns f r ok h = record { is = ap (afterCall z) (received-by pgns f (z .pool) (z .counters) h); oks = more ok none }
 
 taken-lent : (z : State) (pgns : List ℕ) (f : Heard) (r : Processed) (after : Counters) → CallOk (call pgns f) → ProcessesHeard pgns f (z .pool) (z .counters) r after → Taken z (afterLent z r after) (call pgns f ∷ [])
-unfolding receives rulesOf afterLent afterCall sayingOf
+unfolding receives afterLent afterCall sayingOf
 taken-lent z pgns f r after ok h =
     let e = processed-by pgns f (z .pool) (z .counters) h in
     record { is = rw (e .0, e .1); oks = more ok none }
@@ -82,29 +83,55 @@ unfolding receives
 receives-append f z [] ds = refl
 receives-append f z (c ∷ cs) ds = receives-append f (afterCall z (f (c .pgns) (c .heard) (z .pool) (z .counters))) cs ds
 
+-- ---- no call changes the mode, and no run
+
+receives-mode : (R : Rules) (z : State) (cs : List Call) → receives (receiveOf R) z cs .pool .mode ≡ z .pool .mode
+unfolding receives afterCall
+receives-mode R z [] = refl
+receives-mode R z (c ∷ cs) =
+    let r = receiveOf R (c .pgns) (c .heard) (z .pool) (z .counters) in
+    receives-mode R (afterCall z r) cs ∙ mode-kept R (c .pgns) (c .heard) (z .pool) (z .counters)
+
+taken-mode : {z y : State} {cs : List Call} → Taken z y cs → y .pool .mode ≡ z .pool .mode
+taken-mode {z} {cs = cs} t = ap (λ (u : State). u .pool .mode) (t .is) ∙ receives-mode (rulesOf (z .pool)) z cs
+
+same-rules : (p q : Pool) → p .mode ≡ q .mode → rulesOf p ≡ rulesOf q
+unfolding rulesOf
+same-rules p q e = ap rulesBy e
+
 pub ran-taken : {z y : State} {cs : List Call} → Ran z cs y → Taken z y cs
 ran-taken stop = record { is = unfold receives in refl; oks = none }
 ran-taken (on {z} {x} {y} {cs} {ds} c r) =
     let one = taken c in
     let rest = ran-taken r in
+    let R = rulesOf (z .pool) in
     record {
-      is = rest .is ∙ ap (λ (u : State). receives (receiveOf base) u ds) (one .is) ∙ sym (receives-append (receiveOf base) z cs ds);
+      is =
+          rest .is
+          ∙ ap (λ (S : Rules). receives (receiveOf S) x ds) (same-rules (x .pool) (z .pool) (taken-mode one))
+          ∙ ap (λ (u : State). receives (receiveOf R) u ds) (one .is)
+          ∙ sym (receives-append (receiveOf R) z cs ds);
       oks = ok-both (one .oks) (rest .oks);
     }
 
--- Demand 3: wherever up to 4,294,967,295 frames come to by public calls that keep their promises, from an empty pool and zero counters, what is seen there agrees
--- with the ledger of those frames, and the next call is admitted as it should be
-pub demand-3 : (p : Pool) → Empty p → {cs : List Call} {y : State} → Ran (start p) cs y → length cs ≤ 4294967295 → Closes base (seenIn y) (ledgerOf base (sourcesOf p) cs)
+pub ran-mode : {z y : State} {cs : List Call} → Ran z cs y → y .pool .mode ≡ z .pool .mode
+ran-mode r = taken-mode (ran-taken r)
+
+-- Demand 3: wherever up to 4,294,967,295 frames come to by public calls that keep their promises, from an empty pool in either mode and zero counters, what is
+-- seen there agrees with the ledger of those frames, and the next call is admitted as it should be
+pub demand-3 : (p : Pool) → Empty p → {cs : List Call} {y : State} → Ran (start p) cs y → length cs ≤ 4294967295 → Closes (rulesOf p) (seenIn y) (ledgerOf (rulesOf p) (sourcesOf p) cs)
+unfolding start
 demand-3 p e {cs} r l =
     let t = ran-taken r in
-    rw (t .is) (unfold Demand3 seenAfter in demand-3-rules base p e (unfold base in e .size) cs (t .oks) l)
+    rw (t .is) (unfold Demand3 seenAfter in demand-3-rules (rulesOf p) p e (unfold rulesOf rulesBy in e .size) cs (t .oks) l)
 
 -- the pool that a run leaves is possible
-pub pool-possible : (p : Pool) → Empty p → {cs : List Call} {y : State} → Ran (start p) cs y → length cs ≤ 4294967295 → impossible base (slotsOf (y .pool)) ≡ false
-unfolding most
-pool-possible p e {cs} r l =
+pub pool-possible : (p : Pool) → Empty p → {cs : List Call} {y : State} → Ran (start p) cs y → length cs ≤ 4294967295 → impossible (rulesOf (y .pool)) (slotsOf (y .pool)) ≡ false
+unfolding most start
+pool-possible p e {cs} {y} r l =
     let t = ran-taken r in
-    let begins = empty-follows base p e (unfold base in e .size) in
-    let same = run-same base p (empty-sized p e) begins (t .oks) l in
-    let fine = never-impossible base (callAll (step base) (begun (slotsOf p)) cs) (ledgerOf base (sourcesOf p) cs) (follows base (slotsOf p) (sourcesOf p) begins (t .oks) l) in
-    ap (λ (z : State). impossible base (slotsOf (z .pool))) (t .is) ∙ ap (impossible base) (same .pool) ∙ fine
+    let R = rulesOf p in
+    let begins = empty-follows R p e (unfold rulesOf rulesBy in e .size) in
+    let same = run-same R p (empty-sized p e) begins (t .oks) l in
+    let fine = never-impossible R (callAll (step R) (begun (slotsOf p)) cs) (ledgerOf R (sourcesOf p) cs) (follows R (slotsOf p) (sourcesOf p) begins (t .oks) l) in
+    ap (λ (S : Rules). impossible S (slotsOf (y .pool))) (same-rules (y .pool) p (taken-mode t)) ∙ ap (λ (z : State). impossible R (slotsOf (z .pool))) (t .is) ∙ ap (impossible R) (same .pool) ∙ fine

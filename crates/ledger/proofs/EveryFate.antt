@@ -8,14 +8,14 @@ use Rattle.base.specs.Lists.{nextPlace, here, orElse, firstAt, any, total}
 use Rattle.fast_packet.specs.FastPacket.{listedIn}
 use Rattle.session.specs.declared.Kind.{Kind}
 use Rattle.session.specs.declared.Kind.the-variants as kind
-use Rattle.session.specs.Rules.{base, silence, keysEqual}
+use Rattle.session.specs.Rules.{silence, silentBy, keysEqual, rulesBy, base}
 use Rattle.session.specs.Frames.{sequenceOf, indexOf, sizeOf, firstBytes, nextBytes, badSize, keyOf, sentBytes, isEmpty, cutFirst, badFirst}
 use Rattle.session.specs.Heads.{freshHead, headKey, impossibleHead, hasKey, isSilent, isFree, isFreeOfSource, hasLiveKey, isExpired, inTurn, cutNext, isNext, openedHead, resetHead, wanted, copiedHead, allThere}
 use Rattle.session.specs.Counting.{freshCounters, most, raise, raised, expiredMark}
 use Rattle.assembler.specs.Call.{Call}
 use Rattle.assembler.specs.Slots.{freshSlot, freshSlots, impossible, chosen, live, openedSlot, resetSlot, copiedSlot}
 use Rattle.assembler.specs.Step.{opensAt, continuesAt, eventOf, slotsAfter, markOf, padded, message, saidOf, outcome, stepIf, step}
-use Rattle.assembler.specs.Making.{freshPool}
+use Rattle.assembler.specs.Making.{freshPoolIn, freshPool}
 use Rattle.assembler.specs.View.{slotsFrom, slotsOf, headOf, flat, poolOf, zeros, whyKind, replyKind, replyPayload, replyLength, shown, receiveOf}
 use Rattle.ledger.specs.Ledger.{Ledger, Saying, ledgerOf, tells, tell, written, numbered, blank, tellOne, nothingMoved, opensIn, continuesIn, given, heldIn, openingAt, newMessage, left, full, itsTurn, lacks, awaited, grown, takenBy, keyHeld, late, free, sourceAt, freeOfSource, liveHeld, latestOf, ownBytes, framesBytes, announced, briefly, delivery, kindDue, saying, sayingDue}
 use Rattle.ledger.specs.Ledger.{deedNumber, isOneOf, opens, begins, copies, ends, asNumber, howMany, did, openings, isSome, held, Delivered, Broken, Restarting, Reclaiming, NoSlot, Stray, BadFrame, Unlisted, AtOnce}
@@ -26,7 +26,7 @@ use Rattle.ledger.specs.Runs as run
 
 -- to unfold `ran` is to unfold all that its line names
 unfoldable pub ran : ℕ → List Call → Seen
-unfolding base silence keysEqual listedIn sequenceOf indexOf sizeOf firstBytes nextBytes badSize keyOf isEmpty cutFirst badFirst nextPlace here orElse firstAt any total pick freshHead headKey impossibleHead hasKey isSilent isFree isFreeOfSource hasLiveKey isExpired inTurn cutNext isNext openedHead resetHead wanted copiedHead allThere freshCounters most raise raised expiredMark freshSlot freshSlots impossible chosen live openedSlot resetSlot copiedSlot opensAt continuesAt eventOf slotsAfter markOf padded message saidOf outcome stepIf step slotsFrom slotsOf headOf flat poolOf zeros whyKind replyKind replyPayload replyLength shown receiveOf freshPool start sayingOf run.afterCall receives seenIn seenAfter inProgress howMany asNumber
+unfolding base rulesBy silentBy silence keysEqual listedIn sequenceOf indexOf sizeOf firstBytes nextBytes badSize keyOf isEmpty cutFirst badFirst nextPlace here orElse firstAt any total pick freshHead headKey impossibleHead hasKey isSilent isFree isFreeOfSource hasLiveKey isExpired inTurn cutNext isNext openedHead resetHead wanted copiedHead allThere freshCounters most raise raised expiredMark freshSlot freshSlots impossible chosen live openedSlot resetSlot copiedSlot opensAt continuesAt eventOf slotsAfter markOf padded message saidOf outcome stepIf step slotsFrom slotsOf headOf flat poolOf zeros whyKind replyKind replyPayload replyLength shown receiveOf freshPoolIn freshPool start sayingOf run.afterCall receives seenIn seenAfter inProgress howMany asNumber
 ran n cs = seenAfter (receiveOf base) (freshPool n) cs
 
 -- to unfold `told` is to unfold all that tells a ledger

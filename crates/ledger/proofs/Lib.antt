@@ -18,3 +18,5 @@ pub mod Keys
 pub mod Mixed
 pub mod Demand2
 pub mod Names
+pub mod SetBack
+pub mod SetBackRuns

@@ -11,7 +11,6 @@ use Rattle.base.specs.Lists.{fill}
 use Rattle.fast_packet.specs.FastPacket.{filledFrom}
 use Rattle.session.specs.declared.Kind.the-variants.{FragmentConsumed, MessageComplete}
 use Rattle.session.specs.Kinds.{kindNumber}
-use Rattle.session.specs.Rules.{base}
 use Rattle.assembler.specs.declared.Arrival.{Arrival}
 use Rattle.assembler.specs.declared.ArrivalWithLength.{ArrivalWithLength}
 use Rattle.assembler.specs.declared.Received.{Received}
@@ -53,15 +52,15 @@ third = record { times = 2 ∷ []; pgns = 127489 ∷ []; sources = 35 ∷ []; by
 -- the state after each of the three
 unfoldable pub afterFirst : State
 afterFirst =
-    let r : Received = receiveOf base list (heardOf first) (freshPool 1) (start (freshPool 1) .counters) in afterLent (start (freshPool 1)) (processedOf r) (r .counters)
+    let r : Received = receiveOf (rulesOf (freshPool 1)) list (heardOf first) (freshPool 1) (start (freshPool 1) .counters) in afterLent (start (freshPool 1)) (processedOf r) (r .counters)
 
 unfoldable pub afterSecond : State
-afterSecond = afterCall afterFirst (receiveOf base list (heardWithLength second) (afterFirst .pool) (afterFirst .counters))
+afterSecond = afterCall afterFirst (receiveOf (rulesOf (afterFirst .pool)) list (heardWithLength second) (afterFirst .pool) (afterFirst .counters))
 
 -- to unfold `batch` is to unfold all that its line names
 unfoldable pub batch : BatchLeft
-unfolding ran afterSecond afterFirst first second third arrives heardOf heardWithLength filledFrom fill afterLent kindNumber batchOf runFrom runOf took answerIn over leaves refusedBy tooShort frameInRows rows.emptyRun
-batch = batchOf base list third (afterSecond .pool) (afterSecond .counters) (0 ∷ []) (0 ∷ []) (replicate 20 0)
+unfolding ran rulesOf afterSecond afterFirst first second third arrives heardOf heardWithLength filledFrom fill afterLent kindNumber batchOf runFrom runOf took answerIn over leaves refusedBy tooShort frameInRows rows.emptyRun
+batch = batchOf (rulesOf (afterSecond .pool)) list third (afterSecond .pool) (afterSecond .counters) (0 ∷ []) (0 ∷ []) (replicate 20 0)
 
 -- one frame was taken, and its message has 20 bytes
 unfoldable pub answer : Batch
@@ -104,14 +103,14 @@ unfolding batch
 twenty-used = refl
 
 kept : Batches list (third .times) (third .pgns) (third .sources) (third .bytes) (afterSecond .pool) (afterSecond .counters) (0 ∷ []) (0 ∷ []) (replicate 20 0) answer (batch .kinds) (batch .lengths) (batch .arena)
-unfolding answer
+unfolding answer rulesOf
 kept = batched (left-by batch 1 20 one-taken twenty-used ∙ is)
   where
-    is : batch ≡ batchOf base list (record { times = third .times; pgns = third .pgns; sources = third .sources; bytes = third .bytes }) (afterSecond .pool) (afterSecond .counters) (0 ∷ []) (0 ∷ []) (replicate 20 0)
+    is : batch ≡ batchOf (rulesOf (afterSecond .pool)) list (record { times = third .times; pgns = third .pgns; sources = third .sources; bytes = third .bytes }) (afterSecond .pool) (afterSecond .counters) (0 ∷ []) (0 ∷ []) (replicate 20 0)
     is = unfold batch in refl
 
 pub mixed : Ran (start (freshPool 1)) calls afterThird
-unfolding calls afterThird afterSecond afterFirst answer rulesOf start
+unfolding calls afterThird afterSecond afterFirst answer start
 mixed =
     on (processed list first (unfold heardOf first arrives in record { eight = refl; byte = lit< tt }) (process-promised list (heardOf first) (freshPool 1) _ refl refl))
     (on (receivedWithLength list second (unfold heardOf second arrives in record { eight = refl; byte = lit< tt }) (promised list (heardWithLength second) _ _ refl))

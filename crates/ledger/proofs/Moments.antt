@@ -14,7 +14,7 @@ use Rattle.base.specs.Lists.{any}
 use Rattle.session.specs.declared.Counters.{Counters}
 use Rattle.session.specs.declared.Kind.{Kind}
 use Rattle.session.specs.declared.Kind.the-variants as kind
-use Rattle.session.specs.Rules.{Rules, base}
+use Rattle.session.specs.Rules.{Rules}
 use Rattle.assembler.specs.declared.Pool.{Pool}
 use Rattle.assembler.specs.Call.{Call}
 use Rattle.assembler.specs.Slots.{impossible}
@@ -45,7 +45,7 @@ ran-one : {z x : State} {cs : List Call} → Called z cs x → Ran z cs x
 ran-one {z} {x} {cs} c = subst (λ (l : List Call). Ran z l x) (append-nil cs) (on c stop)
 
 -- demand 3 at the end of the first calls of any run
-pub at-every-moment : (p : Pool) → Empty p → {cs ds : List Call} {x y : State} → Ran (start p) cs x → Ran x ds y → length (cs ++ ds) ≤ 4294967295 → Closes base (seenIn x) (ledgerOf base (sourcesOf p) cs)
+pub at-every-moment : (p : Pool) → Empty p → {cs ds : List Call} {x y : State} → Ran (start p) cs x → Ran x ds y → length (cs ++ ds) ≤ 4294967295 → Closes (rulesOf p) (seenIn x) (ledgerOf (rulesOf p) (sourcesOf p) cs)
 at-every-moment p e {cs} {ds} r s l = demand-3 p e r (omega (arith, length-append cs ds))
 
 -- ---- nothing is taken back
@@ -78,16 +78,16 @@ said-kept f z (d ∷ ds) =
 
 -- and so have its answers
 pub answers-kept : {z y : State} {ds : List Call} → Ran z ds y → drop (length ds) (y .said) ≡ z .said
-answers-kept {z} {ds = ds} r = rw (ran-taken r .is) (said-kept (receiveOf base) z ds)
+answers-kept {z} {ds = ds} r = rw (ran-taken r .is) (said-kept (receiveOf (rulesOf (z .pool))) z ds)
 
 -- ---- what follows
 
 -- of a possible pool a batch is refused by 27 or not at all
-by-length : (list : List ℕ) (w : Rows) (p : Pool) (k : Counters) (kinds lengths arena : List ℕ) → impossible base (slotsOf p) ≡ false → batchOf base list w p k kinds lengths arena .answer ≡ refuses 1 [] → ⊥
+by-length : (R : Rules) (list : List ℕ) (w : Rows) (p : Pool) (k : Counters) (kinds lengths arena : List ℕ) → impossible R (slotsOf p) ≡ false → batchOf R list w p k kinds lengths arena .answer ≡ refuses 1 [] → ⊥
 unfolding batchOf pick refusedBy leaves
-by-length list w p k kinds lengths arena e = rw e (go (tooShort (length (w .times)) (length (w .pgns)) (length (w .sources)) (length (w .bytes)) (length kinds) (length lengths)))
+by-length R list w p k kinds lengths arena e = rw e (go (tooShort (length (w .times)) (length (w .pgns)) (length (w .sources)) (length (w .bytes)) (length kinds) (length lengths)))
   where
-    go : (b : Bool) → pick false (refusedBy 1 p k kinds lengths arena) (pick b (refusedBy 27 p k kinds lengths arena) (leaves (runOf base list w (length arena) p k) kinds lengths arena)) .answer ≡ refuses 1 [] → ⊥
+    go : (b : Bool) → pick false (refusedBy 1 p k kinds lengths arena) (pick b (refusedBy 27 p k kinds lengths arena) (leaves (runOf R list w (length arena) p k) kinds lengths arena)) .answer ≡ refuses 1 [] → ⊥
     go true one = omega (arith, ap codeOf one)
     go false one = omega (arith, ap codeOf one)
 
@@ -140,11 +140,10 @@ never-refused {L = L} a = rw (a .answers) (none-refused (L .entries))
 pub batch-not-impossible : (p : Pool) → Empty p → {cs : List Call} {y : State} → Ran (start p) cs y → length cs ≤ 4294967295
     → {list times pgns sources bytes kinds lengths arena : List ℕ} {r : Batch} {kinds′ lengths′ arena′ : List ℕ}
     → Batches list times pgns sources bytes (y .pool) (y .counters) kinds lengths arena r kinds′ lengths′ arena′ → r .result ≡ ImpossiblePool → ⊥
-unfolding rulesOf
 batch-not-impossible p e {cs} {y} run l {list} {times} {pgns} {sources} {bytes} {kinds} {lengths} {arena} {r} h one =
     let w : Rows = record { times = times; pgns = pgns; sources = sources; bytes = bytes } in
-    let refused : batchOf base list w (y .pool) (y .counters) kinds lengths arena .answer ≡ refuses 1 [] = sym (h .leaves-these .answer) ∙ ap (λ (b : Batched). ofBatched b (r .taken)) one ∙ (unfold ofBatched in refl) in
-    by-length list w (y .pool) (y .counters) kinds lengths arena (pool-possible p e run l) refused
+    let refused : batchOf (rulesOf (y .pool)) list w (y .pool) (y .counters) kinds lengths arena .answer ≡ refuses 1 [] = sym (h .leaves-these .answer) ∙ ap (λ (b : Batched). ofBatched b (r .taken)) one ∙ (unfold ofBatched in refl) in
+    by-length (rulesOf (y .pool)) list w (y .pool) (y .counters) kinds lengths arena (pool-possible p e run l) refused
 
 -- a batch after any run: what is seen then closes with the ledger of its frames too, and its rows of kinds and lengths and its arena hold what the ledger's
 -- newest entries call for
@@ -152,7 +151,7 @@ pub demand-3-batch : (p : Pool) → Empty p → {cs : List Call} {y : State} →
     → {list times pgns sources bytes kinds lengths arena : List ℕ} {r : Batch} {kinds′ lengths′ arena′ : List ℕ} → ((i : ℕ) → getD bytes i 0 < 256)
     → Batches list times pgns sources bytes (y .pool) (y .counters) kinds lengths arena r kinds′ lengths′ arena′
     → (ds : List Call) → ds ≡ cs ++ callsOf list (record { times = times; pgns = pgns; sources = sources; bytes = bytes }) (r .taken) 0 → length ds ≤ 4294967295
-    → Closes base (seenIn (afterBatch y r kinds′ lengths′ arena′)) (ledgerOf base (sourcesOf p) ds) × RowsDue (r .taken) (map sayingDue (ledgerOf base (sourcesOf p) ds .entries)) kinds lengths arena kinds′ lengths′ arena′
+    → Closes (rulesOf p) (seenIn (afterBatch y r kinds′ lengths′ arena′)) (ledgerOf (rulesOf p) (sourcesOf p) ds) × RowsDue (r .taken) (map sayingDue (ledgerOf (rulesOf p) (sourcesOf p) ds .entries)) kinds lengths arena kinds′ lengths′ arena′
 unfolding seenIn
 demand-3-batch p e {y = y} run {r = r} {kinds′ = kinds′} {lengths′ = lengths′} {arena′ = arena′} small h ds is l =
     let whole : Ran (start p) ds (afterBatch y r kinds′ lengths′ arena′) = rw is (ran-append run (ran-one (batched small h))) in

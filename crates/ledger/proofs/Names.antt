@@ -15,6 +15,7 @@ use Rattle.session.specs.declared.Counters.{Counters}
 use Rattle.session.specs.declared.Heard.{Heard}
 use Rattle.session.specs.declared.Kind.{Kind}
 use Rattle.session.specs.declared.Kind.the-variants.{NotListed, Rejected, PoolFull, Lost}
+use Rattle.session.specs.declared.Mode.{Mode}
 use Rattle.session.specs.Rules.{Rules}
 use Rattle.session.specs.Counting.{raise, raised, expiredMark}
 use Rattle.session.specs.Kinds.{kindNumber}
@@ -46,14 +47,14 @@ module _ (f : Heard) (ss : List Slot) (k : Counters) where
   event-alike (copied i) = record { unknown = refl; rejected = refl; exhausted = refl; lost = refl; expired = λ n. refl }
   event-alike (completed i) = record { unknown = refl; rejected = refl; exhausted = refl; lost = refl; expired = λ n. refl }
 
-step-alike : (b : Bool) (R : Rules) (p : Slots) (k : Counters) (c : Call) → TellsAlike (shown (stepIf b R p k c) .kind) k (shown (stepIf b R p k c) .counters)
+step-alike : (b : Bool) (m : Mode) (R : Rules) (p : Slots) (k : Counters) (c : Call) → TellsAlike (shown m (stepIf b R p k c) .kind) k (shown m (stepIf b R p k c) .counters)
 unfolding stepIf shown
-step-alike true R p k c = unfold replyKind raisedBy kindNumber pick in record { unknown = refl; rejected = refl; exhausted = refl; lost = refl; expired = λ n. refl }
-step-alike false R p k c = unfold outcome in event-alike (c .heard) (within p) k (eventOf R (within p) c)
+step-alike true m R p k c = unfold replyKind raisedBy kindNumber pick in record { unknown = refl; rejected = refl; exhausted = refl; lost = refl; expired = λ n. refl }
+step-alike false m R p k c = unfold outcome in event-alike (c .heard) (within p) k (eventOf R (within p) c)
 
 call-alike : (R : Rules) (pgns : List ℕ) (f : Heard) (p : Pool) (k : Counters) → TellsAlike (receiveOf R pgns f p k .kind) k (receiveOf R pgns f p k .counters)
 unfolding receiveOf step
-call-alike R pgns f p k = step-alike (impossible R (slotsOf p)) R (slotsOf p) k (record { pgns = pgns; heard = f })
+call-alike R pgns f p k = step-alike (impossible R (slotsOf p)) (p .mode) R (slotsOf p) k (record { pgns = pgns; heard = f })
 
 -- by value, with a length or without
 pub tells-alike : {pgns : List ℕ} {f : Heard} {p : Pool} {k : Counters} {r : Received} → ReceivesHeard pgns f p k r → TellsAlike (r .kind) k (r .counters)

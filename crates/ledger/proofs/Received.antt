@@ -60,7 +60,7 @@ module _ (R : Rules) where
   next-same : (z : State) (w : World) (c : Call) → Same z w → Sized (callOne (step R) w c .pool .slots) → Same (afterCall z (receiveOf R (c .pgns) (c .heard) (z .pool) (z .counters))) (callOne (step R) w c)
   unfolding afterCall callOne afterOutcome receiveOf shown sayingOf replySays
   next-same z w c s h =
-      rw (s .pool, s .counters) (record { pool = view-forth (step R (w .pool) (w .counters) c .pool) h; counters = refl; said = ap (_∷_ (replySays (step R (w .pool) (w .counters) c .reply))) (s .said) })
+      rw (s .pool, s .counters) (record { pool = view-forth (z .pool .mode) (step R (w .pool) (w .counters) c .pool) h; counters = refl; said = ap (_∷_ (replySays (step R (w .pool) (w .counters) c .reply))) (s .said) })
 
   runs-same : (z : State) (w : World) (L : Ledger) {cs : List Call} → AllOk cs → Follows R w L → Sized (rest (w .pool)) → Same z w → numbered L + length cs ≤ most → Same (receives (receiveOf R) z cs) (callAll (step R) w cs)
   unfolding receives callAll

@@ -17,7 +17,7 @@ use Rattle.session.specs.declared.Counters.{Counters}
 use Rattle.session.specs.declared.Kind.{Kind}
 use Rattle.session.specs.declared.Kind.the-variants.{ImpossiblePool, NotListed, Rejected, PoolFull, Lost, FragmentConsumed, MessageComplete}
 use Rattle.session.specs.Kinds.{kindNumber}
-use Rattle.session.specs.Rules.{Rules, base}
+use Rattle.session.specs.Rules.{Rules}
 use Rattle.assembler.specs.declared.Pool.{Pool}
 use Rattle.assembler.specs.declared.Received.{Received}
 use Rattle.assembler.specs.Call.{Call, CallOk}
@@ -188,8 +188,9 @@ long-enough : (n pgns sources bytes kinds lengths : ℕ) → tooShort n pgns sou
 unfolding tooShort
 long-enough n pgns sources bytes kinds lengths e = ltb-false bytes (n * 8) (or-left (ltb bytes (n * 8)) _ (or-right (ltb sources n) _ (or-right (ltb pgns n) _ e)))
 
+-- under the rules of the pool that they begin with, which no call changes
 pub record Taken (z y : State) (cs : List Call) : Type 0 where
-  pub is : y ≡ receives (receiveOf base) z cs
+  pub is : y ≡ receives (receiveOf (rulesOf (z .pool))) z cs
   pub oks : AllOk cs
 
 -- ... and what the rows of a batch then hold
@@ -201,25 +202,25 @@ module _ (l : List ℕ) (w : Rows) (z : State) (kinds lengths arena : List ℕ) 
   after b = afterBatch z (answerFrom b) (b .kinds) (b .lengths) (b .arena)
 
   abbrev Good : BatchLeft → Type 0
-  Good b = Taken z (after b) (callsOf l w (takenIn (b .answer)) 0) × RowsAfter (receives (receiveOf base) z (callsOf l w (takenIn (b .answer)) 0)) b kinds lengths arena
+  Good b = Taken z (after b) (callsOf l w (takenIn (b .answer)) 0) × RowsAfter (receives (receiveOf (rulesOf (z .pool))) z (callsOf l w (takenIn (b .answer)) 0)) b kinds lengths arena
 
   good-refused : (n : ℕ) → Good (refusedBy n (z .pool) (z .counters) kinds lengths arena)
   unfolding after answerFrom takenIn refusedBy afterBatch callsOf receives saidInRows newestRow over
   good-refused n = (record { is = refl; oks = none }, record { told = refl; measured = refl; delivered = refl })
 
   good-run : tooShort (length (w .times)) (length (w .pgns)) (length (w .sources)) (length (w .bytes)) (length kinds) (length lengths) ≡ false
-      → Good (leaves (runOf base l w (length arena) (z .pool) (z .counters)) kinds lengths arena)
+      → Good (leaves (runOf (rulesOf (z .pool)) l w (length arena) (z .pool) (z .counters)) kinds lengths arena)
   unfolding after answerFrom takenIn leaves afterBatch over
   good-run e =
-      let y : rows.Run = runOf base l w (length arena) (z .pool) (z .counters) in
+      let y : rows.Run = runOf (rulesOf (z .pool)) l w (length arena) (z .pool) (z .counters) in
       let t : ℕ = length (y .kinds) in
-      let far = as-far base l w (length arena) (z .pool) (z .counters) in
-      let same = rows-say base l w t 0 z (drop t kinds) (drop (length (y .lengths)) lengths) (drop (length (y .messages)) arena) in
+      let far = as-far (rulesOf (z .pool)) l w (length arena) (z .pool) (z .counters) in
+      let same = rows-say (rulesOf (z .pool)) l w t 0 z (drop t kinds) (drop (length (y .lengths)) lengths) (drop (length (y .messages)) arena) in
       let long = long-enough (length (w .times)) (length (w .pgns)) (length (w .sources)) (length (w .bytes)) (length kinds) (length lengths) e in
-      let held = rows-all base l w 0 t 0 (rows.emptyRun (z .pool) (z .counters)) z (rows-none base l w z) in
+      let held = rows-all (rulesOf (z .pool)) l w 0 t 0 (rows.emptyRun (z .pool) (z .counters)) z (rows-none (rulesOf (z .pool)) l w z) in
       let zero-add : 0 + t ≡ t = omega arith in (
         record {
-          is = subst (λ (x : rows.Run). record { pool = x .pool; counters = x .counters; said = saidInRows t (x .kinds ++ drop t kinds) (x .lengths ++ drop (length (y .lengths)) lengths) (x .messages ++ drop (length (y .messages)) arena) (z .said) } ≡ receives (receiveOf base) z (callsOf l w t 0)) (sym (far .same)) same;
+          is = subst (λ (x : rows.Run). record { pool = x .pool; counters = x .counters; said = saidInRows t (x .kinds ++ drop t kinds) (x .lengths ++ drop (length (y .lengths)) lengths) (x .messages ++ drop (length (y .messages)) arena) (z .said) } ≡ receives (receiveOf (rulesOf (z .pool))) z (callsOf l w t 0)) (sym (far .same)) same;
           oks = rows-ok l w small t 0 (omega (arith, long, far .few));
         },
         record {
@@ -229,12 +230,12 @@ module _ (l : List ℕ) (w : Rows) (z : State) (kinds lengths arena : List ℕ) 
         },
       )
 
-  good-batch : Good (batchOf base l w (z .pool) (z .counters) kinds lengths arena)
+  good-batch : Good (batchOf (rulesOf (z .pool)) l w (z .pool) (z .counters) kinds lengths arena)
   unfolding batchOf pick
-  good-batch = go (impossible base (slotsOf (z .pool))) (tooShort (length (w .times)) (length (w .pgns)) (length (w .sources)) (length (w .bytes)) (length kinds) (length lengths)) refl
+  good-batch = go (impossible (rulesOf (z .pool)) (slotsOf (z .pool))) (tooShort (length (w .times)) (length (w .pgns)) (length (w .sources)) (length (w .bytes)) (length kinds) (length lengths)) refl
     where
       go : (a b : Bool) → tooShort (length (w .times)) (length (w .pgns)) (length (w .sources)) (length (w .bytes)) (length kinds) (length lengths) ≡ b
-          → Good (pick a (refusedBy 1 (z .pool) (z .counters) kinds lengths arena) (pick b (refusedBy 27 (z .pool) (z .counters) kinds lengths arena) (leaves (runOf base l w (length arena) (z .pool) (z .counters)) kinds lengths arena)))
+          → Good (pick a (refusedBy 1 (z .pool) (z .counters) kinds lengths arena) (pick b (refusedBy 27 (z .pool) (z .counters) kinds lengths arena) (leaves (runOf (rulesOf (z .pool)) l w (length arena) (z .pool) (z .counters)) kinds lengths arena)))
       go true b e = good-refused 1
       go false true e = good-refused 27
       go false false e = good-run e
@@ -245,10 +246,10 @@ module _ {l times pgns sources bytes : List ℕ} (z : State) {kinds lengths aren
   abbrev heardRows : Rows
   heardRows = record { times = times; pgns = pgns; sources = sources; bytes = bytes }
 
-  abbrev promise : AreLeft (batchOf base l heardRows (z .pool) (z .counters) kinds lengths arena) r kinds′ lengths′ arena′
-  promise = unfold rulesOf in h .leaves-these
+  abbrev promise : AreLeft (batchOf (rulesOf (z .pool)) l heardRows (z .pool) (z .counters) kinds lengths arena) r kinds′ lengths′ arena′
+  promise = h .leaves-these
 
-  batch-after : afterBatch z r kinds′ lengths′ arena′ ≡ after l heardRows z kinds lengths arena small (batchOf base l heardRows (z .pool) (z .counters) kinds lengths arena)
+  batch-after : afterBatch z r kinds′ lengths′ arena′ ≡ after l heardRows z kinds lengths arena small (batchOf (rulesOf (z .pool)) l heardRows (z .pool) (z .counters) kinds lengths arena)
   unfolding after afterBatch answerFrom
   batch-after = rw (promise .left, promise .counted, promise .taken, promise .told, promise .measured, promise .delivered) refl
 

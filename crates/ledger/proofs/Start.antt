@@ -14,11 +14,12 @@ use Rattle.base.specs.Pick.{pick}
 use Rattle.base.specs.Lists.{total}
 use Rattle.base.proofs.Paired.{All2, nil, cons}
 use Rattle.session.specs.declared.Head.{Head}
+use Rattle.session.specs.declared.Mode.{Mode}
 use Rattle.session.specs.Rules.{Rules, poolLimit}
 use Rattle.session.specs.Heads.{freshHead}
 use Rattle.assembler.specs.declared.Pool.{Pool}
 use Rattle.assembler.specs.Slots.{freshSlot, freshSlots}
-use Rattle.assembler.specs.Making.{poolBytes, freshPool, sizeMade, poolMade}
+use Rattle.assembler.specs.Making.{poolBytes, freshPoolIn, sizeMade, poolMade}
 use Rattle.assembler.specs.View.{slotsFrom, slotsOf}
 use Rattle.assembler.proofs.Views.{Sized, sized-view, slots-long}
 use Rattle.ledger.specs.Ledger.{idle, asNumber, howMany, blank}
@@ -57,19 +58,19 @@ all-idle zero m = refl
 all-idle (suc n) zero = refl
 all-idle (suc n) (suc m) = omega (arith, all-idle n m)
 
-pub fresh-empty : (n : ℕ) → n ≤ poolLimit → Empty (freshPool n)
-unfolding freshPool
-fresh-empty n h = record { size = h; idle = all-idle n poolLimit; heads = length-replicate poolLimit freshHead; bytes = length-replicate {A = ℕ} poolBytes 0 }
+pub fresh-empty : (mode : Mode) (n : ℕ) → n ≤ poolLimit → Empty (freshPoolIn mode n)
+unfolding freshPoolIn
+fresh-empty mode n h = record { size = h; idle = all-idle n poolLimit; heads = length-replicate poolLimit freshHead; bytes = length-replicate {A = ℕ} poolBytes 0 }
 
-made-by : (b : Bool) (n : ℕ) → ltb poolLimit n ≡ b → Empty (poolMade (pick b (refuses 1 []) (gives n)))
+made-by : (mode : Mode) (b : Bool) (n : ℕ) → ltb poolLimit n ≡ b → Empty (poolMade mode (pick b (refuses 1 []) (gives n)))
 unfolding poolMade pick
-made-by true n e = fresh-empty 0 (omega arith)
-made-by false n e = fresh-empty n (ltb-false poolLimit n e)
+made-by mode true n e = fresh-empty mode 0 (omega arith)
+made-by mode false n e = fresh-empty mode n (ltb-false poolLimit n e)
 
--- whatever size is asked for
-pub made-empty : (n : ℕ) → Empty (poolMade (sizeMade n))
+-- whatever mode and size is asked for
+pub made-empty : (mode : Mode) (n : ℕ) → Empty (poolMade mode (sizeMade n))
 unfolding sizeMade
-made-empty n = made-by (ltb poolLimit n) n refl
+made-empty mode n = made-by mode (ltb poolLimit n) n refl
 
 -- ---- fresh slots, at every limit
 

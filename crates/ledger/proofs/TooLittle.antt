@@ -12,13 +12,14 @@ use Rattle.session.specs.declared.Heard.{Heard}
 use Rattle.session.specs.declared.Kind.{Kind}
 use Rattle.session.specs.declared.Kind.the-variants as kind
 use Rattle.session.specs.declared.Mark.the-variants.{Lost}
+use Rattle.session.specs.declared.Mode.the-variants.{AsOriginal}
 use Rattle.session.specs.Rules.{base}
 use Rattle.session.specs.Heads.{openedHead, copiedHead}
 use Rattle.session.specs.Counting.{freshCounters}
 use Rattle.assembler.specs.declared.Received.{Received}
 use Rattle.assembler.specs.Call.{Call}
 use Rattle.assembler.specs.Slots.{Slot, within, resetSlot}
-use Rattle.assembler.specs.Making.{freshPool}
+use Rattle.assembler.specs.Making.{freshPoolIn, freshPool}
 use Rattle.assembler.specs.View.{slotsOf, replyBy, replyOf, receiveOf}
 use Rattle.ledger.specs.Demand2.{originalEvent, continuedAt, neededCut, Answered, Ignored, FragmentConsumed, MessageComplete, whole, answerOf, Original, happens, originalIf, originalOf, asIgnored, readReply, asOriginal}
 use Rattle.ledger.specs.Assemblers.{Receive, Demand2, AlwaysIgnores, OneKind, NeverStores}
@@ -35,7 +36,7 @@ first f c = f (c .pgns) (c .heard) (freshPool 4) freshCounters
 
 pub meets-demand-2 : Demand2 (receiveOf base)
 unfolding Demand2
-meets-demand-2 pgns heard pool counters whole = call-as base pgns heard pool counters whole
+meets-demand-2 pgns heard pool counters old whole = call-as base pgns heard pool counters old whole
 
 -- ---- one fixed kind of answer
 
@@ -79,7 +80,7 @@ announces-whole n = none-cut base (within (slotsOf (freshPool 4))) (announces n 
 module _ (f : Receive) (meets : Demand2 f) where
   as-steps : (c : Call) → Whole c → asOriginal (first f c) ≡ firstly c
   unfolding Demand2
-  as-steps c whole = meets (c .pgns) (c .heard) (freshPool 4) freshCounters whole
+  as-steps c whole = meets (c .pgns) (c .heard) (freshPool 4) freshCounters (unfold freshPoolIn freshPool in refl) whole
 
   answers-as : (c : Call) → Whole c → readReply (replyOf (first f c)) ≡ firstly c .answer
   answers-as c whole = unfold asOriginal in ap (λ (o : Original). o .answer) (as-steps c whole)
@@ -116,7 +117,7 @@ unfolding ran announces frame originalOf originalIf originalEvent continuedAt ha
 seven-stores = refl
 
 fresh-byte : getD (freshPool 4 .bytes) 0 0 ≡ 0
-unfolding freshPool
+unfolding freshPoolIn freshPool
 fresh-byte = refl
 
 pub rejects-never-stores : (f : Receive) → Demand2 f → NeverStores f → ⊥
@@ -159,10 +160,14 @@ steps-say : lastOf (originalOf base (goes-on 1 1 35 .pgns) (goes-on 1 1 35 .hear
 unfolding ran announces goes-on frame by stepBy outcomeBy slotsBy markBy saidBy untouched storesNothing halfway originalOf originalIf originalEvent continuedAt happens answerOf whole lastOf
 steps-say = refl
 
+halfway-old : halfway .pool .mode ≡ AsOriginal
+unfolding ran announces frame by stepBy outcomeBy halfway
+halfway-old = refl
+
 pub rejects-stores-nothing : Demand2 (by storesNothing) → ⊥
 unfolding Demand2
 rejects-stores-nothing meets =
     let c : Call = goes-on 1 1 35 in
     let same : lastOf (readReply (replyOf (by storesNothing (c .pgns) (c .heard) (halfway .pool) (halfway .counters)))) ≡ lastOf (originalOf base (c .pgns) (c .heard) (halfway .pool) (halfway .counters) .answer) =
-    unfold asOriginal in ap (λ (o : Original). lastOf (o .answer)) (meets (c .pgns) (c .heard) (halfway .pool) (halfway .counters) (none-cut base (within (slotsOf (halfway .pool))) c (unfold goes-on frame in refl))) in
+    unfold asOriginal in ap (λ (o : Original). lastOf (o .answer)) (meets (c .pgns) (c .heard) (halfway .pool) (halfway .counters) halfway-old (none-cut base (within (slotsOf (halfway .pool))) c (unfold goes-on frame in refl))) in
     omega (arith, same, nothing-says, steps-say)

@@ -59,7 +59,7 @@ marker =
     }
 
 unfoldable pub marked : Bool → Received → Received
-marked true a = record { kind = a .kind; payload = a .payload; length = a .length; pool = record { size = a .pool .size; heads = set (a .pool .heads) 7 marker; bytes = a .pool .bytes }; counters = a .counters }
+marked true a = record { kind = a .kind; payload = a .payload; length = a .length; pool = record { mode = a .pool .mode; size = a .pool .size; heads = set (a .pool .heads) 7 marker; bytes = a .pool .bytes }; counters = a .counters }
 marked false a = a
 
 unfoldable pub isMarked : Pool → Bool

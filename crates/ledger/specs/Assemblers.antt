@@ -8,6 +8,7 @@ use Rattle.base.specs.Answer.{gives}
 use Rattle.session.specs.declared.Heard.{Heard}
 use Rattle.session.specs.declared.Counters.{Counters}
 use Rattle.session.specs.declared.Kind.{Kind}
+use Rattle.session.specs.declared.Mode.the-variants.{AsOriginal}
 use Rattle.session.specs.Rules.{Rules, base}
 use Rattle.assembler.specs.declared.Pool.{Pool}
 use Rattle.assembler.specs.declared.Received.{Received}
@@ -28,10 +29,10 @@ Receive = List ℕ → Heard → Pool → Counters → Received
 -- ---- demand 2, and the assemblers that document 01 says must not pass it: "an assembler that always says Ignored, or one fixed answer (demand 2, on a six-byte
 -- message); one that never stores a fragment (2, on seven bytes)"
 
--- its answer, with the four names of document 02's No. 2 read as Ignored, its pool and its counters are those of document 01's steps, at every input of which no
--- byte that is needed was cut
+-- its answer, with the four names of document 02's No. 2 read as Ignored, its pool and its counters are those of document 01's steps, at every pool in the
+-- original's mode and every frame of which no byte that is needed was cut
 unfoldable pub Demand2 : Receive → Type 0
-Demand2 f = (pgns : List ℕ) (heard : Heard) (pool : Pool) (counters : Counters) → neededCut base (within (slotsOf pool)) (record { pgns = pgns; heard = heard }) ≡ false
+Demand2 f = (pgns : List ℕ) (heard : Heard) (pool : Pool) (counters : Counters) → pool .mode ≡ AsOriginal → neededCut base (within (slotsOf pool)) (record { pgns = pgns; heard = heard }) ≡ false
     → asOriginal (f pgns heard pool counters) ≡ originalOf base pgns heard pool counters
 
 -- it says Ignored, by whichever of the four names, whatever it hears

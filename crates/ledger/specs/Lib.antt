@@ -5,3 +5,4 @@ pub mod Runs
 pub mod Rows
 pub mod Assemblers
 pub mod Names
+pub mod SetBack

@@ -36,7 +36,7 @@ by-step e h = by (ap (λ (s : Step). nextCode (s .kind)) e) h
 
 -- an answer of the receive call
 by-reply : (pgns : List ℕ) (f : Heard) (p : Pool) (k : Counters) {kind : Kind} {payload : List ℕ} {n : ℕ} {left : Pool}
-    → Answers (outcomeOn pgns f p k) kind payload n left → Other (replyBy kind payload n)
+    → Answers (p .mode) (outcomeOn pgns f p k) kind payload n left → Other (replyBy kind payload n)
 unfolding outcomeOn
 by-reply pgns f p k h = by-answer (h .told) (step-other (rulesOf p) (slotsOf p) k (record { pgns = pgns; heard = f }))
 
@@ -53,7 +53,8 @@ no-three =
       fast-packet-builder-next-frame = λ b index sent payload r h. by-step h (next-other b index sent payload);
       frame-iterator-next = λ t payload r h. by-step (ap (λ (x : Turn). x .answer) h) (next-other (t .builder) (t .«frame_index») (t .«bytes_sent») payload);
       pool-new = λ wanted r h. by-answer (h .answer) (size-other wanted);
-      decide = λ bad listed found h heard r e. kind-other (r .kind);
+      pool-with-mode = λ mode wanted r h. by-answer (h .answer) (size-other wanted);
+      decide = λ mode bad listed found h heard r e. kind-other (r .kind);
       receive = λ pgns a p k r h. by-reply pgns _ p k (h .answer);
       receive-with-length = λ pgns x p k r h. by-reply pgns _ p k (h .answer);
       process-frame = λ pgns a p before after r h. by-reply pgns _ p before (h .answer);
@@ -80,11 +81,12 @@ no-three =
       hf-raw-next-frame = λ builder payload index sent code after h. by (h .asked .told) (next-other (builderFrom builder) index sent payload);
       hf-raw-frame-iterator-next = λ builder payload place code after h. by (h .asked .told) (next-other _ _ _ payload);
       hf-raw-pool-new = λ wanted code before after h. by (h .told) (size-other wanted);
+      hf-raw-pool-with-mode = λ wanted asked code before after h. by (h .told) (size-other _);
       hf-raw-pool-default = λ code before after h. by (h .told) (omega arith);
-      hf-raw-process-frame = λ size code pgns a before after h. by (h .told) (kind-other _);
-      hf-raw-receive = λ size code pgns a before after h. by (h .told) (kind-other _);
-      hf-raw-process-frame-with-length = λ size code pgns x before after h. by (h .told) (kind-other _);
-      hf-raw-process-frames = λ size code pgns rows before after h.
+      hf-raw-process-frame = λ size mode code pgns a before after h. by (h .told) (kind-other _);
+      hf-raw-receive = λ size mode code pgns a before after h. by (h .told) (kind-other _);
+      hf-raw-process-frame-with-length = λ size mode code pgns x before after h. by (h .told) (kind-other _);
+      hf-raw-process-frames = λ size mode code pgns rows before after h.
           (by (h .told) (batch-other _ pgns rows _ _ _ _ _ .0), by-row (ap (λ (l : List ℕ). getD l 0 0) (h .taken)) (h .answered) (batch-other _ pgns rows _ _ _ _ _ .1));
       hf-reassemble = λ ids bytes lens list arena list′ arena′ values source pgn code h. by (h .answer .told) (delivered-other list arena _ source pgn);
       hf-fast-packet-frames = λ id sequence code frames payload ids bytes lens ids′ bytes′ lens′ h. by (h .told) (counted-other _ (split-other id sequence payload _));
@@ -95,6 +97,7 @@ no-three =
       told-reassembled = λ r code values h. by (h .told) (reassembled-case-other r);
       split-number = λ s code h. by h (split-case-other s);
       told-checked = λ c code values h. by (h .told) (checked-case-other c);
+      pool-asked = λ wanted asked r h. by-answer (h .answer) (size-other _);
       leave = λ r before after code h. by (h .told) (kind-other (r .kind));
       leave-made = λ made before after code h. by (h .told) (made-other (made .result) (made .pool .size));
     }

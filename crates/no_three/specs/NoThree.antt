@@ -19,14 +19,15 @@ use Rattle.builder.specs.declared.FastPacketBuilder.{FastPacketBuilder}
 use Rattle.builder.specs.declared.FrameIterator.{FrameIterator}
 use Rattle.builder.specs.declared.Next.{Next}
 use Rattle.builder.specs.declared.Item.{Item}
-use Rattle.session.specs.Rules.{base}
+use Rattle.session.specs.Rules.{rulesBy}
 use Rattle.session.specs.Kinds.{kindNumber}
 use Rattle.session.specs.inner.Plan.{planOf}
 use Rattle.session.specs.declared.Counters.{Counters}
 use Rattle.session.specs.declared.Head.{Head}
 use Rattle.session.specs.declared.Heard.{Heard}
+use Rattle.session.specs.declared.Mode.{Mode}
 use Rattle.session.specs.declared.Plan.{Plan}
-use Rattle.assembler.specs.Making.{ofMade, MakesPool}
+use Rattle.assembler.specs.Making.{ofMade, MakesPoolIn, MakesPool}
 use Rattle.assembler.specs.View.{replyBy}
 use Rattle.assembler.specs.Promises.{Receives, ReceivesWithLength, Processes, ProcessesWithLength}
 use Rattle.assembler.specs.declared.Pool.{Pool}
@@ -49,10 +50,10 @@ use Rattle.oracle.specs.declared.Checked.{Checked}
 use Rattle.numbers.specs.Numbers.{BuiltLeft, ReadLeft}
 use Rattle.numbers.specs.Fives.{ToldInFive}
 use Rattle.numbers.specs.Frames.{nextCode, NextLeft}
-use Rattle.numbers.specs.Pool.{CallMemory, CallLeft, PoolMemory, MadePoolLeft}
+use Rattle.numbers.specs.Pool.{CallMemory, CallLeft, PoolMemory, MadePoolLeft, MakesPoolAsked}
 use Rattle.ffi.specs.Ids.{IdRead, PartsBuilt, SetBuilt, BothBuilt}
 use Rattle.ffi.specs.Frames.{FrameMemory, NextFrameLeft, TurnLeft}
-use Rattle.ffi.specs.Calls.{NewPoolLeft, DefaultPoolLeft, FrameLeft, FrameWithLengthLeft}
+use Rattle.ffi.specs.Calls.{NewPoolLeft, PoolWithModeLeft, DefaultPoolLeft, FrameLeft, FrameWithLengthLeft}
 use Rattle.ffi.specs.Batches.{BatchMemory, FramesLeft}
 use Rattle.ffi.specs.BenchEntries.{ReassemblesInNumbers, SplitsInNumbers, ChecksTxInNumbers}
 
@@ -73,7 +74,8 @@ pub record NoThree : Type 0 where
   pub frame-iterator-next : (t : FrameIterator) (payload : List ℕ) (r : Item) → turnOf r ≡ nextTurn t payload → NotThree (nextCode (ofNextKind (r .kind)))
   -- ---- pools and the receive call
   pub pool-new : (wanted : ℕ) (r : MadePool) → MakesPool wanted r → NotThree (codeOf (ofMade (r .result) (r .pool .size)))
-  pub decide : (bad listed found : Bool) (h : Head) (heard : Heard) (r : Plan) → r ≡ planOf bad listed found base heard h → NotThree (kindNumber (r .kind))
+  pub pool-with-mode : (mode : Mode) (wanted : ℕ) (r : MadePool) → MakesPoolIn mode wanted r → NotThree (codeOf (ofMade (r .result) (r .pool .size)))
+  pub decide : (mode : Mode) (bad listed found : Bool) (h : Head) (heard : Heard) (r : Plan) → r ≡ planOf bad listed found (rulesBy mode) heard h → NotThree (kindNumber (r .kind))
   pub receive : (pgns : List ℕ) (a : Arrival) (p : Pool) (k : Counters) (r : Received)
       → Receives pgns a p k r → NotThree (codeOf (replyBy (r .kind) (r .payload) (r .length)))
   pub receive-with-length : (pgns : List ℕ) (x : ArrivalWithLength) (p : Pool) (k : Counters) (r : Received)
@@ -116,14 +118,15 @@ pub record NoThree : Type 0 where
   pub hf-raw-next-frame : (builder payload : List ℕ) (index sent code : ℕ) (after : FrameMemory) → NextFrameLeft builder index sent payload code after → NotThree code
   pub hf-raw-frame-iterator-next : (builder payload place : List ℕ) (code : ℕ) (after : FrameMemory) → TurnLeft builder payload place code after → NotThree code
   pub hf-raw-pool-new : (wanted code : ℕ) (before after : PoolMemory) → NewPoolLeft wanted before code after → NotThree code
+  pub hf-raw-pool-with-mode : (wanted asked code : ℕ) (before after : PoolMemory) → PoolWithModeLeft wanted asked before code after → NotThree code
   pub hf-raw-pool-default : (code : ℕ) (before after : PoolMemory) → DefaultPoolLeft before code after → NotThree code
-  pub hf-raw-process-frame : (size code : ℕ) (pgns : List ℕ) (a : Arrival) (before after : CallMemory) → FrameLeft size pgns a before code after → NotThree code
-  pub hf-raw-receive : (size code : ℕ) (pgns : List ℕ) (a : Arrival) (before after : CallMemory) → FrameLeft size pgns a before code after → NotThree code
-  pub hf-raw-process-frame-with-length : (size code : ℕ) (pgns : List ℕ) (x : ArrivalWithLength) (before after : CallMemory)
-      → FrameWithLengthLeft size pgns x before code after → NotThree code
+  pub hf-raw-process-frame : (size mode code : ℕ) (pgns : List ℕ) (a : Arrival) (before after : CallMemory) → FrameLeft size mode pgns a before code after → NotThree code
+  pub hf-raw-receive : (size mode code : ℕ) (pgns : List ℕ) (a : Arrival) (before after : CallMemory) → FrameLeft size mode pgns a before code after → NotThree code
+  pub hf-raw-process-frame-with-length : (size mode code : ℕ) (pgns : List ℕ) (x : ArrivalWithLength) (before after : CallMemory)
+      → FrameWithLengthLeft size mode pgns x before code after → NotThree code
   -- and each kind that is written into the row, of which the first of the counts says how many
-  pub hf-raw-process-frames : (size code : ℕ) (pgns : List ℕ) (rows : Rows) (before after : BatchMemory)
-      → FramesLeft size pgns rows before code after → NotThree code × NoneIsThree (getD (after .counts) 0 0) (after .kinds)
+  pub hf-raw-process-frames : (size mode code : ℕ) (pgns : List ℕ) (rows : Rows) (before after : BatchMemory)
+      → FramesLeft size mode pgns rows before code after → NotThree code × NoneIsThree (getD (after .counts) 0 0) (after .kinds)
   pub hf-reassemble : (ids bytes lens list arena list′ arena′ values : List ℕ) (source pgn code : ℕ)
       → ReassemblesInNumbers ids bytes lens source pgn list arena code list′ arena′ values → NotThree code
   pub hf-fast-packet-frames : (id sequence code frames : ℕ) (payload ids bytes lens ids′ bytes′ lens′ : List ℕ)
@@ -137,6 +140,7 @@ pub record NoThree : Type 0 where
   pub told-reassembled : (r : Reassembled) (code : ℕ) (values : List ℕ) → ToldInFive (ofReassembled r) code values → NotThree code
   pub split-number : (s : Split) (code : ℕ) → code ≡ codeOf (ofSplit s) → NotThree code
   pub told-checked : (c : Checked) (code : ℕ) (values : List ℕ) → ToldInFive (ofChecked c) code values → NotThree code
+  pub pool-asked : (wanted asked : ℕ) (r : MadePool) → MakesPoolAsked wanted asked r → NotThree (codeOf (ofMade (r .result) (r .pool .size)))
   pub leave : (r : Received) (before after : CallMemory) (code : ℕ) → CallLeft r before code after → NotThree code
   pub leave-made : (made : MadePool) (before after : PoolMemory) (code : ℕ) → MadePoolLeft made before code after → NotThree code
 

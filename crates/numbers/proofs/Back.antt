@@ -1,4 +1,4 @@
--- Heads that fit their fields, laid over any numbers, are read back as they are. Assumes nothing.
+-- Heads that fit their fields, laid over any numbers, are read back as they are, and so is their pool. Assumes nothing.
 use Prim.Native.Nat.{ℕ, zero, suc, _+_, _*_, _%_, _<_, _≤_}
 use mathlib.Core.Bool.{Bool, true, false}
 use mathlib.Core.List.{List, [], _∷_}
@@ -10,10 +10,13 @@ use native.Mathlib.Nat.{add-zero}
 use Rattle.base.specs.Pick.{pick}
 use Rattle.base.proofs.Cases.{when-eq, when-ne, same?}
 use Rattle.session.specs.declared.Head.{Head}
+use Rattle.session.specs.declared.Mode.{Mode}
+use Rattle.session.specs.declared.Mode.the-variants.{AsOriginal, SetBackIsSilence}
 use Rattle.session.specs.Rules.{poolLimit}
 use Rattle.session.specs.Heads.{freshHead}
+use Rattle.assembler.specs.declared.Pool.{Pool}
 use Rattle.numbers.specs.Numbers.{isSet, laidOn}
-use Rattle.numbers.specs.Pool.{headAt, headOver, headsTo, headsFrom, laidTo, laidOver}
+use Rattle.numbers.specs.Pool.{headAt, headOver, headsTo, headsFrom, laidTo, laidOver, modeNumber, modeFrom, sizeUnder, poolFrom}
 use Rattle.numbers.proofs.Sets.{sets-away, sets-at}
 
 -- ---- one number
@@ -113,3 +116,25 @@ module _ (heads : List Head) (n : List ℕ) (m : ℕ) (long : length n ≡ 8 * m
 pub read-back : (heads : List Head) (n : List ℕ) → length heads ≡ poolLimit → length n ≡ 8 * poolLimit → ((k : ℕ) → Fits (getD heads k freshHead)) → headsFrom (laidOver n heads) ≡ heads
 unfolding headsFrom laidOver
 read-back heads n count long fits = heads-to heads n poolLimit long fits count poolLimit (omega arith) ∙ take-all poolLimit heads (omega (arith, count))
+
+-- ---- a pool
+
+pub mode-back : (m : Mode) → modeFrom (modeNumber m) ≡ m
+unfolding modeFrom modeNumber pick
+mode-back AsOriginal = refl
+mode-back SetBackIsSilence = refl
+
+pub size-back : (m : Mode) (size : ℕ) → sizeUnder (modeNumber m) size ≡ size
+unfolding sizeUnder modeNumber pick
+size-back AsOriginal size = refl
+size-back SetBackIsSilence size = refl
+
+module _ (p : Pool) (n : List ℕ) (count : length (p .heads) ≡ poolLimit) (long : length n ≡ 8 * poolLimit) (fits : (k : ℕ) → Fits (getD (p .heads) k freshHead)) where
+  -- a pool of the size and mode that two numbers stand for is read back with these numbers, so that the next call with them sees the pool that this one answered
+  pub pool-read-back : (size mode : ℕ) → sizeUnder mode size ≡ p .size → modeFrom mode ≡ p .mode → poolFrom size mode (laidOver n (p .heads)) (p .bytes) ≡ p
+  unfolding poolFrom
+  pool-read-back size mode s m = rw (s, m, read-back (p .heads) n count long fits) refl
+
+  -- and with its size and the number of its mode, which making it leaves
+  pub made-read-back : poolFrom (p .size) (modeNumber (p .mode)) (laidOver n (p .heads)) (p .bytes) ≡ p
+  made-read-back = pool-read-back (p .size) (modeNumber (p .mode)) (size-back (p .mode) (p .size)) (mode-back (p .mode))

@@ -2,7 +2,7 @@
 use Prim.Native.Nat.{ℕ, _+_, _*_, _%_, _<_}
 use mathlib.Core.Bool.{Bool}
 use mathlib.Core.List.{List, [], _∷_}
-use mathlib.Core.Path.{_≡_, refl, sym, ap, _∙_}
+use mathlib.Core.Path.{_≡_, refl, sym, ap, subst, _∙_}
 use lib.ListN.{getD, set, take, length}
 use lib.Seq.{sets, take-suc, take-suc-set, take-all, length-take-le}
 use native.Mathlib.Numerals.{add-one}
@@ -11,8 +11,11 @@ use Rattle.base.specs.Pick.{pick}
 use Rattle.session.specs.Rules.{poolLimit}
 use Rattle.session.specs.Heads.{freshHead}
 use Rattle.session.specs.declared.Head.{Head}
+use Rattle.session.specs.declared.Mode.{Mode}
+use Rattle.assembler.specs.Making.{MakesPoolIn}
+use Rattle.assembler.specs.declared.MadePool.{MadePool}
 use Rattle.numbers.specs.Numbers.{isSet, laidOn}
-use Rattle.numbers.specs.Pool.{headAt, headOver, headsTo, headsFrom, laidTo, laidOver, poolFrom}
+use Rattle.numbers.specs.Pool.{headAt, headOver, headsTo, headsFrom, laidTo, laidOver, modeFrom, sizeUnder, poolFrom, MakesPoolAsked}
 use Rattle.numbers.proofs.Sets.{sets-snoc}
 
 -- ---- a head and a pool read field by field
@@ -23,9 +26,14 @@ pub head-by : (n : List ℕ) (at : ℕ) {b c d e w f g h : ℕ}
 unfolding headAt
 head-by n at w b c d e f g h = rw (w, b, c, d, e, f, g, h) refl
 
-pub pool-by : (size : ℕ) (heads bytes : List ℕ) {h : List Head} → h ≡ headsFrom heads → record { size = size; heads = h; bytes = bytes } ≡ poolFrom size heads bytes
+pub pool-by : (size mode : ℕ) (heads bytes : List ℕ) {h : List Head} {m : Mode} {s : ℕ} → h ≡ headsFrom heads → m ≡ modeFrom mode → s ≡ sizeUnder mode size
+    → record { mode = m; size = s; heads = h; bytes = bytes } ≡ poolFrom size mode heads bytes
 unfolding poolFrom
-pool-by size heads bytes h = rw h refl
+pool-by size mode heads bytes h m s = rw (h, m, s) refl
+
+-- ---- a pool made, of the size and the mode that the numbers stand for
+pub asked-by : (wanted asked : ℕ) {s : ℕ} {m : Mode} {r : MadePool} → s ≡ sizeUnder asked wanted → m ≡ modeFrom asked → MakesPoolIn m s r → MakesPoolAsked wanted asked r
+asked-by wanted asked {s} {r = r} e f h = subst (λ (n : ℕ). MakesPoolIn (modeFrom asked) n r) e (subst (λ (x : Mode). MakesPoolIn x s r) f h)
 
 -- ---- heads read one after the other
 pub read-turn : (n : List ℕ) (k : ℕ) (hs : List Head) (h : Head) → take k hs ≡ headsTo k n → k < length hs → h ≡ headAt n (8 * k) → take (k + 1) (set hs k h) ≡ headsTo (k + 1) n

@@ -2,6 +2,7 @@
 use Prim.Native.Nat.{ℕ, zero, suc, _+_, _*_, _%_}
 use mathlib.Core.List.{List, [], _∷_, _++_}
 use mathlib.Core.Path.{_≡_}
+use lib.Dec.{ltb, eqb}
 use lib.ListN.{getD, replicate}
 use lib.Seq.{sets}
 use Rattle.base.specs.Answer.{Answer, gives, refuses, codeOf}
@@ -13,7 +14,9 @@ use Rattle.session.specs.declared.Head.{Head}
 use Rattle.session.specs.declared.Counters.{Counters}
 use Rattle.session.specs.declared.Kind.{Kind}
 use Rattle.session.specs.declared.Kind.the-variants.{ImpossiblePool, NotListed, Rejected, PoolFull, Lost, FragmentConsumed, MessageComplete}
-use Rattle.assembler.specs.Making.{ofMade}
+use Rattle.session.specs.declared.Mode.{Mode}
+use Rattle.session.specs.declared.Mode.the-variants.{AsOriginal, SetBackIsSilence}
+use Rattle.assembler.specs.Making.{ofMade, MakesPoolIn}
 use Rattle.assembler.specs.declared.Pool.{Pool}
 use Rattle.assembler.specs.declared.MadePool.{MadePool}
 use Rattle.assembler.specs.declared.Received.{Received}
@@ -63,9 +66,22 @@ headsFrom n = headsTo poolLimit n
 unfoldable pub laidOver : List ℕ → List Head → List ℕ
 laidOver n heads = laidTo poolLimit n heads
 
--- a pool is a size, eight numbers for each head and the bytes of its slots
-unfoldable pub poolFrom : ℕ → List ℕ → List ℕ → Pool
-poolFrom size heads bytes = record { size = size; heads = headsFrom heads; bytes = bytes }
+-- document 02, No. 10: "a mode, chosen when the pool is made": 0 is as the original, 1 counts a clock that was set back as silence
+unfoldable pub modeNumber : Mode → ℕ
+modeNumber AsOriginal = 0
+modeNumber SetBackIsSilence = 1
+
+-- and back; any other number is read as the original's mode
+unfoldable pub modeFrom : ℕ → Mode
+modeFrom n = pick (eqb n 1) SetBackIsSilence AsOriginal
+
+-- but a number above 1 is no mode: with it a pool is of more slots than the limit, so that making one and every call on one is refusal 1
+unfoldable pub sizeUnder : ℕ → ℕ → ℕ
+sizeUnder mode size = pick (ltb 1 mode) (poolLimit + 1) size
+
+-- a pool is a size, the number of its mode, eight numbers for each head and the bytes of its slots
+unfoldable pub poolFrom : ℕ → ℕ → List ℕ → List ℕ → Pool
+poolFrom size mode heads bytes = record { mode = modeFrom mode; size = sizeUnder mode size; heads = headsFrom heads; bytes = bytes }
 
 -- the counters are five numbers, in the Rust's order
 unfoldable pub countersFrom : List ℕ → Counters
@@ -113,6 +129,7 @@ pub record PoolMemory : Type 0 where
   pub heads : List ℕ
   pub bytes : List ℕ
   pub size : ℕ
+  pub mode : ℕ
 
 -- a fresh pool is laid on zeros
 unfoldable pub blankHeads : List ℕ
@@ -123,13 +140,19 @@ abbrev pub madeOn : List ℕ → Answer ℕ → List ℕ → List ℕ
 madeOn old (gives size) made = made
 madeOn old (refuses n carried) made = old
 
--- what making a pool leaves, by its answer and the pool beside it: what is returned; without a refusal the pool's heads and bytes; and its size
+-- what making a pool leaves, by its answer and the pool beside it: what is returned; without a refusal the pool's heads and bytes; its size;
+-- and the number of its mode
 pub record PoolLeft (a : Answer ℕ) (p : Pool) (before : PoolMemory) (code : ℕ) (after : PoolMemory) : Type 0 where
   pub told : code ≡ codeOf a
   pub kept : after .heads ≡ madeOn (before .heads) a (laidOver blankHeads (p .heads))
   pub stored : after .bytes ≡ madeOn (before .bytes) a (p .bytes)
   pub sized : after .size ≡ p .size
+  pub moded : after .mode ≡ modeNumber (p .mode)
 
 -- the same of a pool that the code made
 abbrev pub MadePoolLeft : MadePool → PoolMemory → ℕ → PoolMemory → Type 0
 MadePoolLeft m before code after = PoolLeft (ofMade (m .result) (m .pool .size)) (m .pool) before code after
+
+-- what making a pool by numbers promises: of the size that is wanted, in the mode whose number is asked for
+abbrev pub MakesPoolAsked : ℕ → ℕ → MadePool → Type 0
+MakesPoolAsked wanted asked r = MakesPoolIn (modeFrom asked) (sizeUnder asked wanted) r

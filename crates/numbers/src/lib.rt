@@ -25,5 +25,6 @@ pub use pools::counter_numbers;
 pub use pools::counters_from;
 pub use pools::leave;
 pub use pools::leave_made;
+pub use pools::pool_asked;
 pub use pools::pool_from;
 pub use pools::put_heads;

@@ -1,11 +1,12 @@
-// A pool as its size, eight numbers for each head of its slots and their bytes; the counters as five numbers; and what an answer leaves in them.
+// A pool as its size, the number of its mode, eight numbers for each head of its slots and their bytes; the counters as five numbers; and what an answer
+// leaves in them.
 ghost use mathlib.Core.Path.{_≡_};
 ghost use Prim.Native.Nat.{_+_, _*_, _<_, _≤_, _%_};
 ghost use lib.ListN.{getD};
 ghost use lib.Seq.{sets};
 ghost use Rattle.session.specs.Rules.{poolLimit};
 ghost use Rattle.session.specs.Kinds.{kindNumber};
-ghost use Rattle.numbers.specs.Pool.{headAt, headOver, headsFrom, laidOver, poolFrom, countersFrom, counterNumbers, deliveredOn, CallLeft, blankHeads, MadePoolLeft};
+ghost use Rattle.numbers.specs.Pool.{headAt, headOver, headsFrom, laidOver, modeNumber, modeFrom, sizeUnder, poolFrom, countersFrom, counterNumbers, deliveredOn, CallLeft, blankHeads, MadePoolLeft, MakesPoolAsked};
 use crate::numbers::byte_on;
 use crate::numbers::flag_on;
 use crate::numbers::word_on;
@@ -22,6 +23,7 @@ use session::IMPOSSIBLE_POOL;
 use session::Kind;
 use session::LOST;
 use session::MESSAGE_COMPLETE;
+use session::Mode;
 use session::NOT_LISTED;
 use session::POOL_FULL;
 use session::POOL_LIMIT;
@@ -122,15 +124,51 @@ pub fn put_heads(n: &mut [u64; HEAD_NUMBERS], heads: [Head; POOL_LIMIT])
     }
 }
 
+// ---- a mode as a number: 0 as the original, 1 a clock that was set back is silence
+
+fn mode_number(mode: Mode) -> u32
+    ensures { λ r. ⌜ r ≡ modeNumber mode ⌝ }
+{
+    match mode {
+        Mode::AsOriginal => 0,
+        Mode::SetBackIsSilence => 1,
+    }
+}
+
+fn mode_from(number: u32) -> Mode
+    ensures { λ r. ⌜ r ≡ modeFrom number ⌝ }
+{
+    if number == 1 {
+        return Mode::SetBackIsSilence;
+    }
+    Mode::AsOriginal
+}
+
+// Under a number that is no mode a pool is too large, so every call refuses it.
+fn size_under(mode: u32, size: usize) -> usize
+    ensures { λ r. ⌜ r ≡ sizeUnder mode size ⌝ }
+{
+    if 1 < mode {
+        return POOL_LIMIT + 1;
+    }
+    size
+}
+
 // ---- a pool, counters and a frame from numbers
 
-pub fn pool_from(size: usize, heads: &[u64; HEAD_NUMBERS], bytes: &[u8; POOL_BYTES]) -> Pool
-    ensures { λ r. ⌜ r ≡ poolFrom size (now (heads .entry)) (now (bytes .entry)) ⌝ }
+pub fn pool_from(
+    size: usize,
+    mode: u32,
+    heads: &[u64; HEAD_NUMBERS],
+    bytes: &[u8; POOL_BYTES],
+) -> Pool
+    ensures { λ r. ⌜ r ≡ poolFrom size mode (now (heads .entry)) (now (bytes .entry)) ⌝ }
 {
     let h = heads_from(heads);
     let b = *bytes;
     Pool {
-        size: size,
+        mode: mode_from(mode),
+        size: size_under(mode, size),
         heads: h,
         bytes: b,
     }
@@ -224,6 +262,13 @@ pub fn leave(
 
 // ---- a pool made
 
+// The pool that is wanted, in the mode whose number is asked for; one that is no mode is refused as a size above the limit is.
+pub fn pool_asked(wanted: usize, asked: u32) -> MadePool
+    ensures { λ r. ⌜ MakesPoolAsked wanted asked r ⌝ }
+{
+    Pool::with_mode(size_under(asked, wanted), mode_from(asked))
+}
+
 fn fresh_heads(heads: &mut [u64; HEAD_NUMBERS], h: [Head; POOL_LIMIT])
     ensures { λ _. ⌜ now (heads .exit) ≡ laidOver blankHeads h ⌝ }
 {
@@ -236,12 +281,15 @@ pub fn leave_made(
     heads: &mut [u64; HEAD_NUMBERS],
     bytes: &mut [u8; POOL_BYTES],
     size: &mut usize,
+    mode: &mut u32,
 ) -> u32
-    ensures { λ code. ⌜ MadePoolLeft made (record { heads = now (heads .entry); bytes = now (bytes .entry); size = now (size .entry) })
-        code (record { heads = now (heads .exit); bytes = now (bytes .exit); size = now (size .exit) }) ⌝ }
+    ensures { λ code. ⌜ MadePoolLeft made (record { heads = now (heads .entry); bytes = now (bytes .entry); size = now (size .entry); mode = now (mode .entry) })
+        code (record { heads = now (heads .exit); bytes = now (bytes .exit); size = now (size .exit); mode = now (mode .exit) }) ⌝ }
 {
     let pool = made.pool;
     *size = pool.size;
+    let chosen = pool.mode;
+    *mode = mode_number(chosen);
     let result = made.result;
     match result {
         Made::ImpossiblePool => IMPOSSIBLE_POOL as u32,

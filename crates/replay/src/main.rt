@@ -1,10 +1,12 @@
 // Replays what the original answered, with no Rust at hand. Standard input is a list of calls, a line of 44 characters each, numbers in upper-case hex:
 //   a digit, 0 to 9 and a to w for 10 to 32: a fresh pool of that size and zero counters, and then this frame; a dot: a frame on the pool that the
 //     last call left. Then time (16), PGN (8), source (2), eight bytes (16);
+//   M: the mode of the pools that are made from here on (2, 00 as the original and 01 where a clock that was set back is silence), dots; it is no
+//     call, and without it the mode is as the original;
 //   B: the next frame of a builder: PGN (8), source (2), destination (4, 0100 for none), priority (2), sequence (2), fast (2), frame index (2), bytes
 //     sent (4), payload length (4), dots; byte i of the payload is (7 i + 1) modulo 256.
-// The file stdout that this is held to was written by the original, its Ignored under the name of the counter that it raised:
-// host/diff/src/bin/replay_list.rs makes both.
+// The file stdout that this is held to was written by the original, its Ignored under the name of the counter that it raised; it has no mode 01, and was
+// asked for it on a clock of its own. host/diff/src/bin/replay_list.rs makes both.
 use assembler::Arrival;
 use assembler::Pool;
 use assembler::Received;
@@ -19,6 +21,7 @@ use libc::STDIN_FILENO;
 use libc::STDOUT_FILENO;
 use session::Counters;
 use session::Kind;
+use session::Mode;
 ghost use Prim.Native.Nat.{_<_, _≤_, _+_};
 ghost use lib.ListN.{length};
 ghost use mathlib.Core.Path.{_≡_};
@@ -162,12 +165,13 @@ fn write_answer(r: Received) {
 
 struct State {
     more: bool,
+    mode: Mode,
     pool: Pool,
     counters: Counters,
 }
 
-fn fresh(size: usize) -> State {
-    let made = Pool::new(size);
+fn fresh(mode: Mode, size: usize) -> State {
+    let made = Pool::with_mode(size, mode);
     let pool = made.pool;
     let counters = Counters {
         expired_sessions: 0,
@@ -178,6 +182,27 @@ fn fresh(size: usize) -> State {
     };
     State {
         more: true,
+        mode: mode,
+        pool: pool,
+        counters: counters,
+    }
+}
+
+fn mode_of(n: u64) -> Mode {
+    if n == 0 {
+        Mode::AsOriginal
+    } else {
+        Mode::SetBackIsSilence
+    }
+}
+
+// The pool stays as it is, in the mode that it was made with.
+fn in_mode(s: State, mode: Mode) -> State {
+    let pool = s.pool;
+    let counters = s.counters;
+    State {
+        more: s.more,
+        mode: mode,
         pool: pool,
         counters: counters,
     }
@@ -218,8 +243,10 @@ fn hear(s: State, line: &[u8; 44]) -> State {
     write_answer(r);
     let after = r.pool;
     let counted = r.counters;
+    let mode = s.mode;
     State {
         more: true,
+        mode: mode,
         pool: after,
         counters: counted,
     }
@@ -324,14 +351,18 @@ fn turn(s: State) -> State {
         build(&line);
         return s;
     }
+    if line[0] == b'M' {
+        return in_mode(s, mode_of(two(&line, 1)));
+    }
     if line[0] == b'.' {
         return hear(s, &line);
     }
-    hear(fresh(size_of(line[0])), &line)
+    let mode = s.mode;
+    hear(fresh(mode, size_of(line[0])), &line)
 }
 
 fn main() {
-    let mut s = fresh(4);
+    let mut s = fresh(Mode::AsOriginal, 4);
     let mut turns = u64::MAX;
     while turns > 0 && s.more {
         s = turn(s);

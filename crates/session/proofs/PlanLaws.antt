@@ -9,22 +9,23 @@ use Rattle.session.specs.declared.Heard.{Heard}
 use Rattle.session.specs.declared.Head.{Head}
 use Rattle.session.specs.declared.Plan.{Plan}
 use Rattle.session.specs.declared.Mark.{Mark}
+use Rattle.session.specs.declared.Mode.{Mode}
 use Rattle.session.specs.declared.Kind.the-variants.{ImpossiblePool, NotListed, Rejected, PoolFull, Lost, FragmentConsumed, MessageComplete}
 use Rattle.session.specs.declared.Mark.the-variants as mark
-use Rattle.session.specs.Rules.{Rules, silence, base}
+use Rattle.session.specs.Rules.{Rules, silentBy, rulesBy}
 use Rattle.session.specs.Frames.{indexOf, sizeOf, badSize, isEmpty, cutFirst, badFirst}
 use Rattle.session.specs.Heads.{isSilent, isExpired, inTurn, cutNext, isNext, openedHead, resetHead, wanted, copiedHead, allThere}
 use Rattle.session.specs.Counting.{expiredMark}
 use Rattle.session.proofs.Cuts.{empty-bad}
 use Rattle.session.specs.inner.Plan.{idle, planOpen, planShort, planSized, planFirst, planCopy, planTurn, planNext, planIndex, planSent, planListed, planOf}
 
-module _ (f : Heard) (h : Head) (t : Bool) (e : t ≡ silence (f .«now_ms») (h .«last_seen_ms»)) where
-  pub mark-late : (h .«in_progress» && t) ≡ true → mark.Expired ≡ expiredMark (isExpired base f h)
-  unfolding expiredMark isExpired isSilent base
+module _ (m : Mode) (f : Heard) (h : Head) (t : Bool) (e : t ≡ silentBy m (f .«now_ms») (h .«last_seen_ms»)) where
+  pub mark-late : (h .«in_progress» && t) ≡ true → mark.Expired ≡ expiredMark (isExpired (rulesBy m) f h)
+  unfolding expiredMark isExpired isSilent rulesBy
   mark-late y = rw (← e, y)
 
-  pub mark-early : (h .«in_progress» && t) ≡ false → mark.Nothing ≡ expiredMark (isExpired base f h)
-  unfolding expiredMark isExpired isSilent base
+  pub mark-early : (h .«in_progress» && t) ≡ false → mark.Nothing ≡ expiredMark (isExpired (rulesBy m) f h)
+  unfolding expiredMark isExpired isSilent rulesBy
   mark-early y = rw (← e, y)
 
 pub turn-is : (f : Heard) (h : Head) (i a b : ℕ) → i ≡ indexOf f → a ≡ i → b ≡ h .«last_frame_index» → eqb a (b + 1) ≡ inTurn f h

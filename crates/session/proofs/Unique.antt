@@ -6,7 +6,8 @@ use Rattle.base.proofs.Cases.{determined}
 use Rattle.session.specs.declared.Head.{Head}
 use Rattle.session.specs.declared.Counters.{Counters}
 use Rattle.session.specs.declared.Mark.{Mark}
-use Rattle.session.specs.Rules.{base, poolLimit}
+use Rattle.session.specs.declared.Mode.{Mode}
+use Rattle.session.specs.Rules.{poolLimit, rulesBy}
 use Rattle.session.specs.Heads.{freshHead}
 use Rattle.session.specs.Counting.{raised}
 use Rattle.session.specs.declared.Heard.{Heard}
@@ -28,8 +29,8 @@ fresh-head-unique r s = determined
 pub nothing-found-unique : (bad : Bool) (r s : Found) → r ≡ nothingFound bad → s ≡ nothingFound bad → r ≡ s
 nothing-found-unique bad r s = determined
 
-pub look-unique : (h : Head) (t : Found) (i : ℕ) (heard : Heard) (r s : Found) → r ≡ looked base heard i h t → s ≡ looked base heard i h t → r ≡ s
-look-unique h t i heard r s = determined
+pub look-unique : (mode : Mode) (h : Head) (t : Found) (i : ℕ) (heard : Heard) (r s : Found) → r ≡ looked (rulesBy mode) heard i h t → s ≡ looked (rulesBy mode) heard i h t → r ≡ s
+look-unique mode h t i heard r s = determined
 
 pub place-for-unique : (t : Found) (heard : Heard) (r s : ℕ) → r ≡ placeOf heard t → s ≡ placeOf heard t → r ≡ s
 place-for-unique t heard r s = determined
@@ -39,5 +40,5 @@ within-limit-unique i r s p q = determined (p .0) (q .0)
 
 -- ---- what it makes of it
 
-pub decide-unique : (bad listed found : Bool) (h : Head) (heard : Heard) (r s : Plan) → r ≡ planOf bad listed found base heard h → s ≡ planOf bad listed found base heard h → r ≡ s
-decide-unique bad listed found h heard r s = determined
+pub decide-unique : (mode : Mode) (bad listed found : Bool) (h : Head) (heard : Heard) (r s : Plan) → r ≡ planOf bad listed found (rulesBy mode) heard h → s ≡ planOf bad listed found (rulesBy mode) heard h → r ≡ s
+decide-unique mode bad listed found h heard r s = determined

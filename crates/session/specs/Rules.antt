@@ -1,7 +1,9 @@
--- What later requests vary, as parameters: the pool's limit, the test for silence, the test for the key; and document 01's own.
-use mathlib.Core.Bool.{Bool, _&&_}
+-- What requests vary, as parameters: the pool's limit, the test for silence, the test for the key; document 01's own, and those of each mode.
+use mathlib.Core.Bool.{Bool, _&&_, _||_}
 use Prim.Native.Nat.{ℕ, _-_}
 use lib.Dec.{eqb, ltb}
+use Rattle.session.specs.declared.Mode.{Mode}
+use Rattle.session.specs.declared.Mode.the-variants.{AsOriginal, SetBackIsSilence}
 
 -- "The key is (source, PGN, sequence)."
 pub record Key : Type 0 where
@@ -24,9 +26,18 @@ poolLimit = 32
 unfoldable pub silence : ℕ → ℕ → Bool
 silence now last = ltb 500 (now - last)
 
+-- document 02, No. 10: "a mode .. in which a slot also counts as silent over 500 .. if now is earlier than its last time"; the other is as the original
+unfoldable pub silentBy : Mode → ℕ → ℕ → Bool
+silentBy AsOriginal now last = silence now last
+silentBy SetBackIsSilence now last = silence now last || ltb now last
+
 unfoldable pub keysEqual : Key → Key → Bool
 keysEqual a b = eqb (a .source) (b .source) && eqb (a .pgn) (b .pgn) && eqb (a .sequence) (b .sequence)
 
--- document 01's own rules
+-- the rules of a pool in this mode: "Prove the shared steps once over the test for silence."
+unfoldable pub rulesBy : Mode → Rules
+rulesBy mode = record { limit = poolLimit; silent = silentBy mode; sameKey = keysEqual }
+
+-- document 01's own rules, which are the original's
 unfoldable pub base : Rules
-base = record { limit = poolLimit; silent = silence; sameKey = keysEqual }
+base = rulesBy AsOriginal

@@ -1,12 +1,13 @@
-// When a session is silent, and a fresh head.
+// When a session is silent, in each mode, and a fresh head.
 ghost use mathlib.Core.Path.{_≡_};
 ghost use Prim.Native.Nat.{_-_};
-ghost use Rattle.session.specs.Rules.{silence};
+ghost use Rattle.session.specs.Rules.{silentBy};
 ghost use Rattle.session.specs.Heads.{freshHead};
 use crate::Head;
+use crate::Mode;
 use crate::SESSION_TIMEOUT_MS;
 
-// A clock that was set back means no silence.
+// By the readings alone a clock that was set back means no silence.
 fn silence_of(time: u64, last: u64) -> u64
     ensures { λ r. ⌜ r ≡ time - last ⌝ }
 {
@@ -14,10 +15,14 @@ fn silence_of(time: u64, last: u64) -> u64
 }
 
 // Whether a session whose latest frame came at `last` is silent at `time`.
-pub(crate) fn is_silent(time: u64, last: u64) -> bool
-    ensures { λ r. ⌜ r ≡ silence time last ⌝ }
+pub(crate) fn is_silent(mode: Mode, time: u64, last: u64) -> bool
+    ensures { λ r. ⌜ r ≡ silentBy mode time last ⌝ }
 {
-    SESSION_TIMEOUT_MS < silence_of(time, last)
+    let late = SESSION_TIMEOUT_MS < silence_of(time, last);
+    match mode {
+        Mode::AsOriginal => late,
+        Mode::SetBackIsSilence => late | (time < last),
+    }
 }
 
 pub fn fresh_head() -> Head

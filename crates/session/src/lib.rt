@@ -31,6 +31,13 @@ pub const FIRST_FRAME_PAYLOAD: usize = 6;
 // Useful bytes a continuation frame carries, after the sequence header.
 pub const CONTINUATION_PAYLOAD: usize = 7;
 
+// What a clock reading before a session's last one says of it, chosen when the pool is made: nothing, as in the original, or that it is silent. A
+// half message whose boat's time was set back is silent for 0 ms by the original, and can live for hours.
+pub enum Mode {
+    AsOriginal,
+    SetBackIsSilence,
+}
+
 // A session but for its buffer.
 pub struct Head {
     pub in_progress: bool,

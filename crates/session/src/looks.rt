@@ -1,7 +1,7 @@
 // What a frame finds at one head. The tests run without a branch, so that they stand as their definitions do.
 ghost use mathlib.Core.Path.{_≡_};
 ghost use Rattle.base.specs.Pick.{pick};
-ghost use Rattle.session.specs.Rules.{base};
+ghost use Rattle.session.specs.Rules.{base, rulesBy};
 ghost use Rattle.session.specs.Heads.{impossibleHead, hasKey};
 ghost use Rattle.session.specs.inner.Search.{looked};
 use crate::CONTINUATION_PAYLOAD;
@@ -9,6 +9,7 @@ use crate::FIRST_FRAME_PAYLOAD;
 use crate::Found;
 use crate::Head;
 use crate::Heard;
+use crate::Mode;
 use crate::heads::is_silent;
 use fast_packet::MAX_FAST_PACKET_PAYLOAD;
 
@@ -47,10 +48,10 @@ fn is_impossible(h: Head) -> bool
 }
 
 // What is found from place `i` on, where its head is `h` and `s` was found after it.
-pub fn look(h: Head, s: Found, i: usize, heard: Heard) -> Found
-    ensures { λ r. ⌜ r ≡ looked base heard i h s ⌝ }
+pub fn look(mode: Mode, h: Head, s: Found, i: usize, heard: Heard) -> Found
+    ensures { λ r. ⌜ r ≡ looked (rulesBy mode) heard i h s ⌝ }
 {
-    let silent = is_silent(heard.now_ms, h.last_seen_ms);
+    let silent = is_silent(mode, heard.now_ms, h.last_seen_ms);
     let keyed = has_key(h, heard);
     let idle = !h.in_progress;
     let vacant = idle | silent;

@@ -1,7 +1,7 @@
 // The plan of a frame: decided on one head, and carried out by whoever has the buffer. Where the slot was not found nothing is asked of the head.
 ghost use mathlib.Core.Path.{_≡_};
 ghost use mathlib.Core.Bool.{true, false};
-ghost use Rattle.session.specs.Rules.{base};
+ghost use Rattle.session.specs.Rules.{rulesBy};
 ghost use Rattle.session.specs.Heads.{isExpired, allThere, copiedHead};
 ghost use Rattle.session.specs.Counting.{expiredMark};
 ghost use Rattle.session.specs.inner.Plan.{idle, planOpen, planFirst, planCopy, planNext, planListed, planOf};
@@ -10,6 +10,7 @@ use crate::Head;
 use crate::Heard;
 use crate::Kind;
 use crate::Mark;
+use crate::Mode;
 use crate::Plan;
 use crate::frames::FIRST_DATA;
 use crate::frames::NEXT_DATA;
@@ -39,25 +40,25 @@ fn stay(kind: Kind, mark: Mark, h: Head) -> Plan
 }
 
 // A slot that is taken while in progress and silent is counted.
-fn mark_expired(h: Head, heard: Heard) -> Mark
-    ensures { λ r. ⌜ r ≡ expiredMark (isExpired base heard h) ⌝ }
+fn mark_expired(mode: Mode, h: Head, heard: Heard) -> Mark
+    ensures { λ r. ⌜ r ≡ expiredMark (isExpired (rulesBy mode) heard h) ⌝ }
 {
-    if h.in_progress & is_silent(heard.now_ms, h.last_seen_ms) {
+    if h.in_progress & is_silent(mode, heard.now_ms, h.last_seen_ms) {
         Mark::Expired
     } else {
         Mark::Nothing
     }
 }
 
-fn plan_open(found: bool, h: Head, heard: Heard) -> Plan
-    ensures { λ r. ⌜ r ≡ planOpen found base heard h ⌝ }
+fn plan_open(mode: Mode, found: bool, h: Head, heard: Heard) -> Plan
+    ensures { λ r. ⌜ r ≡ planOpen found (rulesBy mode) heard h ⌝ }
 {
     if !found {
         return stay(Kind::PoolFull, Mark::Exhausted, h);
     }
     Plan {
         kind: Kind::FragmentConsumed,
-        mark: mark_expired(h, heard),
+        mark: mark_expired(mode, h, heard),
         head: opened_head(heard),
         at: 0,
         from: FIRST_DATA,
@@ -68,8 +69,8 @@ fn plan_open(found: bool, h: Head, heard: Heard) -> Plan
 }
 
 // First frame: carries the total expected size. One of six bytes or less is delivered without touching the session.
-fn plan_first(found: bool, h: Head, heard: Heard) -> Plan
-    ensures { λ r. ⌜ r ≡ planFirst found base heard h ⌝ }
+fn plan_first(mode: Mode, found: bool, h: Head, heard: Heard) -> Plan
+    ensures { λ r. ⌜ r ≡ planFirst found (rulesBy mode) heard h ⌝ }
 {
     if is_bad_first(heard) {
         return stay(Kind::Rejected, Mark::Rejected, h);
@@ -87,7 +88,7 @@ fn plan_first(found: bool, h: Head, heard: Heard) -> Plan
             short: size,
         };
     }
-    plan_open(found, h, heard)
+    plan_open(mode, found, h, heard)
 }
 
 fn plan_last(h: Head, heard: Heard) -> Plan
@@ -143,19 +144,19 @@ fn plan_next(found: bool, h: Head, heard: Heard) -> Plan
     plan_copy(h, heard)
 }
 
-fn plan_listed(found: bool, h: Head, heard: Heard) -> Plan
-    ensures { λ r. ⌜ r ≡ planListed true found base heard h ⌝ }
+fn plan_listed(mode: Mode, found: bool, h: Head, heard: Heard) -> Plan
+    ensures { λ r. ⌜ r ≡ planListed true found (rulesBy mode) heard h ⌝ }
 {
     // without a byte there is no index, and it is no good first frame
     if (heard.length == 0) | (index_of(heard) == 0) {
-        return plan_first(found, h, heard);
+        return plan_first(mode, found, h, heard);
     }
     plan_next(found, h, heard)
 }
 
 // What the frame does: `bad` says that the pool is impossible, `listed` that its PGN is listed, `found` that `h` is the head of the slot it takes.
-pub fn decide(bad: bool, listed: bool, found: bool, h: Head, heard: Heard) -> Plan
-    ensures { λ r. ⌜ r ≡ planOf bad listed found base heard h ⌝ }
+pub fn decide(mode: Mode, bad: bool, listed: bool, found: bool, h: Head, heard: Heard) -> Plan
+    ensures { λ r. ⌜ r ≡ planOf bad listed found (rulesBy mode) heard h ⌝ }
 {
     if bad {
         return stay(Kind::ImpossiblePool, Mark::Nothing, h);
@@ -163,5 +164,5 @@ pub fn decide(bad: bool, listed: bool, found: bool, h: Head, heard: Heard) -> Pl
     if !listed {
         return stay(Kind::NotListed, Mark::Unknown, h);
     }
-    plan_listed(found, h, heard)
+    plan_listed(mode, found, h, heard)
 }

@@ -5,18 +5,19 @@ use Rattle.base.specs.Lists.{nextPlace, here, orElse, firstAt, any, fill}
 use Rattle.fast_packet.specs.FastPacket.{listedIn}
 use Rattle.can_id.specs.Build.{buildOf}
 use Rattle.builder.specs.Next.{nextOf, framedStep}
-use Rattle.session.specs.Rules.{silence, keysEqual, base}
+use Rattle.session.specs.Rules.{silence, silentBy, keysEqual, rulesBy}
 use Rattle.session.specs.Frames.{sequenceOf, indexOf, sizeOf, firstBytes, nextBytes, badSize, keyOf, isEmpty, cutFirst, badFirst}
 use Rattle.session.specs.Heads.{freshHead, headKey, impossibleHead, hasKey, isSilent, isFree, isFreeOfSource, hasLiveKey, isExpired, inTurn, cutNext, isNext, openedHead, resetHead, wanted, copiedHead, allThere}
 use Rattle.session.specs.Counting.{freshCounters, most, raise, raised, expiredMark}
 use Rattle.assembler.specs.Slots.{freshSlot, impossible, chosen, live, openedSlot, resetSlot, copiedSlot}
 use Rattle.assembler.specs.Step.{opensAt, continuesAt, eventOf, slotsAfter, markOf, padded, message, saidOf, outcome, stepIf, step}
-use Rattle.assembler.specs.Making.{freshPool}
+use Rattle.assembler.specs.Making.{freshPoolIn, freshPool}
 use Rattle.assembler.specs.View.{slotsFrom, headOf, flat, slotsOf, poolOf, zeros, whyKind, replyKind, replyPayload, replyLength, shown, receiveOf}
+use Rattle.assembler.specs.Promises.{rulesOf}
 use Rattle.values.specs.Values.{Values}
 
 pub values : Values
-unfolding pick nextPlace here orElse firstAt any fill listedIn buildOf nextOf framedStep silence keysEqual base sequenceOf indexOf sizeOf firstBytes nextBytes badSize keyOf isEmpty cutFirst badFirst freshHead headKey impossibleHead hasKey isSilent isFree isFreeOfSource hasLiveKey isExpired inTurn cutNext isNext openedHead resetHead wanted copiedHead allThere freshCounters most raise raised expiredMark freshSlot impossible chosen live openedSlot resetSlot copiedSlot opensAt continuesAt eventOf slotsAfter markOf padded message saidOf outcome stepIf step slotsFrom headOf flat slotsOf poolOf zeros whyKind replyKind replyPayload replyLength shown receiveOf freshPool
+unfolding pick nextPlace here orElse firstAt any fill listedIn buildOf nextOf framedStep silence silentBy keysEqual rulesBy rulesOf sequenceOf indexOf sizeOf firstBytes nextBytes badSize keyOf isEmpty cutFirst badFirst freshHead headKey impossibleHead hasKey isSilent isFree isFreeOfSource hasLiveKey isExpired inTurn cutNext isNext openedHead resetHead wanted copiedHead allThere freshCounters most raise raised expiredMark freshSlot impossible chosen live openedSlot resetSlot copiedSlot opensAt continuesAt eventOf slotsAfter markOf padded message saidOf outcome stepIf step slotsFrom headOf flat slotsOf poolOf zeros whyKind replyKind replyPayload replyLength shown receiveOf freshPoolIn freshPool
 values =
     record {
       p1 = refl;
@@ -40,4 +41,7 @@ values =
       p12-held = refl;
       p12-time = refl;
       p12-counted = refl;
+      p12-set-back = refl;
+      p12-set-back-held = refl;
+      p12-set-back-time = refl;
     }

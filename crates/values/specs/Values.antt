@@ -10,22 +10,28 @@ use Rattle.builder.specs.Builder.{newBuilder}
 use Rattle.builder.specs.Next.{nextOf, frameOf, sentStep}
 use Rattle.session.specs.declared.Counters.{Counters}
 use Rattle.session.specs.declared.Kind.the-variants.{Rejected, Lost, FragmentConsumed, MessageComplete}
-use Rattle.session.specs.Rules.{base}
+use Rattle.session.specs.declared.Mode.{Mode}
+use Rattle.session.specs.declared.Mode.the-variants.{AsOriginal, SetBackIsSilence}
 use Rattle.session.specs.Counting.{freshCounters}
 use Rattle.assembler.specs.declared.Pool.{Pool}
 use Rattle.assembler.specs.declared.Received.{Received}
 use Rattle.assembler.specs.Slots.{slotAt}
 use Rattle.assembler.specs.Step.{padded}
-use Rattle.assembler.specs.Making.{freshPool}
+use Rattle.assembler.specs.Making.{freshPoolIn, freshPool}
 use Rattle.assembler.specs.View.{slotsOf, receiveOf}
+use Rattle.assembler.specs.Promises.{rulesOf}
 
 -- what a call gives: PGN 127489, listed, from source 35, at this reading, with these eight bytes
 abbrev pub heardOn : Pool → Counters → ℕ → List ℕ → Received
-heardOn p k time bytes = receiveOf base (127489 ∷ []) (record { «now_ms» = time; pgn = 127489; «source_address» = 35; «data» = bytes; length = 8 }) p k
+heardOn p k time bytes = receiveOf (rulesOf p) (127489 ∷ []) (record { «now_ms» = time; pgn = 127489; «source_address» = 35; «data» = bytes; length = 8 }) p k
 
--- on a fresh pool of the default size, with zero counters
+-- on a fresh pool of the default size in this mode, with zero counters
+abbrev pub beginIn : Mode → ℕ → List ℕ → Received
+beginIn mode time bytes = heardOn (freshPoolIn mode 4) freshCounters time bytes
+
+-- as the original
 abbrev pub begin : ℕ → List ℕ → Received
-begin time bytes = heardOn (freshPool 4) freshCounters time bytes
+begin time bytes = beginIn AsOriginal time bytes
 
 -- on what the last call left
 abbrev pub then : Received → ℕ → List ℕ → Received
@@ -40,12 +46,12 @@ abbrev pub more : List ℕ
 more = 1 ∷ 7 ∷ 255 ∷ 255 ∷ 255 ∷ 255 ∷ 255 ∷ 255 ∷ []
 
 -- the first frame of a message of twenty bytes, at 1000: one continuation leaves it in progress
-abbrev pub firstOfTwenty : Received
-firstOfTwenty = begin 1000 (0 ∷ 20 ∷ 1 ∷ 2 ∷ 3 ∷ 4 ∷ 5 ∷ 6 ∷ [])
+abbrev pub firstOfTwenty : Mode → Received
+firstOfTwenty mode = beginIn mode 1000 (0 ∷ 20 ∷ 1 ∷ 2 ∷ 3 ∷ 4 ∷ 5 ∷ 6 ∷ [])
 
 -- its continuation at 0
-abbrev pub continuedAtZero : Received
-continuedAtZero = then firstOfTwenty 0 (1 ∷ 7 ∷ 8 ∷ 9 ∷ 10 ∷ 11 ∷ 12 ∷ 13 ∷ [])
+abbrev pub continuedAtZero : Mode → Received
+continuedAtZero mode = then (firstOfTwenty mode) 0 (1 ∷ 7 ∷ 8 ∷ 9 ∷ 10 ∷ 11 ∷ 12 ∷ 13 ∷ [])
 
 -- these counters, and rejected_frames or lost_fragments at 1
 abbrev pub rejectedOnce : Counters
@@ -84,7 +90,11 @@ pub record Values : Type 0 where
   pub p11-stray : then first 1501 more ≡ record { kind = Lost; payload = padded []; length = 0; pool = first .pool; counters = lostOnce }
   pub p11-held : slotAt (slotsOf (then first 1501 more .pool) .slots) 0 .head .«in_progress» ≡ true
   -- "P12: opened at 1000, continued at 0: taken, last time 0"
-  pub p12-taken : continuedAtZero .kind ≡ FragmentConsumed
-  pub p12-held : slotAt (slotsOf (continuedAtZero .pool) .slots) 0 .head .«in_progress» ≡ true
-  pub p12-time : slotAt (slotsOf (continuedAtZero .pool) .slots) 0 .head .«last_seen_ms» ≡ 0
-  pub p12-counted : continuedAtZero .counters ≡ freshCounters
+  pub p12-taken : continuedAtZero AsOriginal .kind ≡ FragmentConsumed
+  pub p12-held : slotAt (slotsOf (continuedAtZero AsOriginal .pool) .slots) 0 .head .«in_progress» ≡ true
+  pub p12-time : slotAt (slotsOf (continuedAtZero AsOriginal .pool) .slots) 0 .head .«last_seen_ms» ≡ 0
+  pub p12-counted : continuedAtZero AsOriginal .counters ≡ freshCounters
+  -- the same where document 02's No. 10 counts a clock set back as silence: a stray, and the slot stays in progress with its time, 1000
+  pub p12-set-back : continuedAtZero SetBackIsSilence ≡ record { kind = Lost; payload = padded []; length = 0; pool = firstOfTwenty SetBackIsSilence .pool; counters = lostOnce }
+  pub p12-set-back-held : slotAt (slotsOf (continuedAtZero SetBackIsSilence .pool) .slots) 0 .head .«in_progress» ≡ true
+  pub p12-set-back-time : slotAt (slotsOf (continuedAtZero SetBackIsSilence .pool) .slots) 0 .head .«last_seen_ms» ≡ 1000

@@ -1,10 +1,13 @@
 //! Both sides over the same inputs in one process, repetitions interleaved: nanoseconds an item of the original (median),
 //! and of the port the ratio to it (median of the ratios of neighbours, with lower and upper quartile).
 //!
-//! cargo run --offline --profile speed --bin bench [repetitions] [frames] [receiving, first, building, identifiers or oracle]
+//! cargo run --offline --profile speed --bin bench [repetitions] [frames] [receiving, first, building, identifiers or oracle] [set-back]
+//!
+//! With the last word the port receives in the mode in which a clock that was set back is silence. The original has no such mode: where a workload's clock goes
+//! back it answers otherwise, and its time is the measure all the same.
 mod workloads;
 use diff::reading::{read, Reading};
-use port::assembler::Rows;
+use port::assembler::{Mode, Rows};
 use port::raw::{self, Pool, Told};
 use reference::error::CanIdBuildError;
 use reference::oracle as bench_oracle;
@@ -37,8 +40,8 @@ fn original<const N: usize>(list: &'static [u32], w: &Rows, t: &mut Told) -> usi
 
 /// The port, one call a frame.
 #[inline(never)]
-fn one_by_one(size: usize, list: &[u32], w: &Rows, by_value: bool, t: &mut Told) -> usize {
-    let (mut p, mut c) = (fresh(size), [0; 5]);
+fn one_by_one(mode: Mode, size: usize, list: &[u32], w: &Rows, by_value: bool, t: &mut Told) -> usize {
+    let (mut p, mut c) = (fresh(mode, size), [0; 5]);
     let (mut payload, mut length) = ([0; 223], 0);
     let mut at = 0;
     for i in 0..w.len() {
@@ -61,16 +64,16 @@ fn one_by_one(size: usize, list: &[u32], w: &Rows, by_value: bool, t: &mut Told)
     at
 }
 
-fn fresh(size: usize) -> Pool {
+fn fresh(mode: Mode, size: usize) -> Pool {
     let mut p = Pool::ZEROS;
-    assert_eq!(p.made_anew(size), 0);
+    assert_eq!(p.made_with_mode(size, mode.number()), 0);
     p
 }
 
 /// The port, in batches of `chunk` frames.
 #[inline(never)]
-fn in_batches(size: usize, list: &[u32], w: &Rows, chunk: usize, t: &mut Told) -> usize {
-    let (mut p, mut c) = (fresh(size), [0; 5]);
+fn in_batches(mode: Mode, size: usize, list: &[u32], w: &Rows, chunk: usize, t: &mut Told) -> usize {
+    let (mut p, mut c) = (fresh(mode, size), [0; 5]);
     let (mut i, mut at) = (0, 0);
     while i < w.len() {
         let end = (i + chunk).min(w.len());
@@ -116,8 +119,9 @@ fn head(columns: &[&str]) {
     println!("|---|---|{}", "---|".repeat(columns.len()));
 }
 
-fn receiving<const N: usize>(reps: usize, title: &str, workloads: Vec<(&str, Vec<u32>, Rows)>) {
-    println!("\n{title}, pool of {N}, a frame:");
+fn receiving<const N: usize>(mode: Mode, reps: usize, title: &str, workloads: Vec<(&str, Vec<u32>, Rows)>) {
+    let told = if mode == Mode::AsOriginal { "" } else { ", set back is silence" };
+    println!("\n{title}{told}, pool of {N}, a frame:");
     head(&["single call", "by value", "batch of 1", "batch of 16", "batch of 64", "batch of 256", "batch of 1024"]);
     for (name, list, w) in workloads {
         let leaked: &'static [u32] = list.clone().leak();
@@ -125,16 +129,17 @@ fn receiving<const N: usize>(reps: usize, title: &str, workloads: Vec<(&str, Vec
         let [t0, t1, t2, t3, t4, t5, t6, t7] = &mut t[..] else { unreachable!() };
         compare(name, w.len(), reps, &mut [
             ("original", &mut || { black_box(original::<N>(leaked, black_box(&w), t0)); }),
-            ("single", &mut || { black_box(one_by_one(N, &list, black_box(&w), false, t1)); }),
-            ("by value", &mut || { black_box(one_by_one(N, &list, black_box(&w), true, t6)); }),
-            ("1", &mut || { black_box(in_batches(N, &list, black_box(&w), 1, t2)); }),
-            ("16", &mut || { black_box(in_batches(N, &list, black_box(&w), 16, t3)); }),
-            ("64", &mut || { black_box(in_batches(N, &list, black_box(&w), 64, t4)); }),
-            ("256", &mut || { black_box(in_batches(N, &list, black_box(&w), 256, t5)); }),
-            ("1024", &mut || { black_box(in_batches(N, &list, black_box(&w), 1024, t7)); }),
+            ("single", &mut || { black_box(one_by_one(mode, N, &list, black_box(&w), false, t1)); }),
+            ("by value", &mut || { black_box(one_by_one(mode, N, &list, black_box(&w), true, t6)); }),
+            ("1", &mut || { black_box(in_batches(mode, N, &list, black_box(&w), 1, t2)); }),
+            ("16", &mut || { black_box(in_batches(mode, N, &list, black_box(&w), 16, t3)); }),
+            ("64", &mut || { black_box(in_batches(mode, N, &list, black_box(&w), 64, t4)); }),
+            ("256", &mut || { black_box(in_batches(mode, N, &list, black_box(&w), 256, t5)); }),
+            ("1024", &mut || { black_box(in_batches(mode, N, &list, black_box(&w), 1024, t7)); }),
         ]);
         let readings = t[1].kinds.iter().map(|kind| read(*kind as u32) as u8).collect();
-        assert!(Told { kinds: readings, ..t[1].clone() } == t[0], "both sides answer alike");
+        let set_back = mode == Mode::SetBackIsSilence && !w.times.is_sorted();
+        assert!(set_back || Told { kinds: readings, ..t[1].clone() } == t[0], "both sides answer alike");
         assert!(t[2..].iter().all(|x| *x == t[1]), "the calls of the port answer alike");
     }
 }
@@ -260,15 +265,16 @@ fn main() {
     println!("{reps} repetitions, interleaved, {n} frames each; the port as the ratio to the original: median [lower quartile..upper quartile]");
     let only = std::env::args().nth(3);
     let wanted = |name: &str| only.as_deref().is_none_or(|o| o == name);
+    let mode = if std::env::args().nth(4).is_some_and(|word| word == "set-back") { Mode::SetBackIsSilence } else { Mode::AsOriginal };
     if wanted("receiving") {
-        receiving::<4>(reps, "Receiving", workloads::all(n, 4));
-        receiving::<8>(reps, "Receiving", workloads::all(n, 8));
-        receiving::<32>(reps, "Receiving", workloads::all(n, 32));
+        receiving::<4>(mode, reps, "Receiving", workloads::all(n, 4));
+        receiving::<8>(mode, reps, "Receiving", workloads::all(n, 8));
+        receiving::<32>(mode, reps, "Receiving", workloads::all(n, 32));
     }
     if wanted("first") {
-        receiving::<4>(reps, "First frames", workloads::first_frames(n, 4));
-        receiving::<8>(reps, "First frames", workloads::first_frames(n, 8));
-        receiving::<32>(reps, "First frames", workloads::first_frames(n, 32));
+        receiving::<4>(mode, reps, "First frames", workloads::first_frames(n, 4));
+        receiving::<8>(mode, reps, "First frames", workloads::first_frames(n, 8));
+        receiving::<32>(mode, reps, "First frames", workloads::first_frames(n, 32));
     }
     if wanted("building") {
         building(reps, n);

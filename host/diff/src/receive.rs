@@ -1,10 +1,12 @@
 //! The receive call: one frame on any pool, and runs of frames. Compared after every call: answer (through `reading`), payload
 //! (all 223 bytes), length, counters, and every slot left behind with its buffer, those past the size too. Where a byte that is
-//! needed was cut the original would fill it up: there document 02's No. 5 decides, in its own words (`cut_short`).
+//! needed was cut the original would fill it up: there document 02's No. 5 decides, in its own words (`cut_short`). Every run takes a mode of the pool: one is the
+//! original's, for the other the original is asked on a clock of its own (`clock`).
+use crate::clock::{silent, OnItsOwnClock};
 use crate::reading::{kind_of, read, Reading, Said};
 use crate::rng::Rng;
 use crate::tally::answered;
-use port::assembler::{self as ours, Rows};
+use port::assembler::{self as ours, Mode, Rows};
 use port::error::{ImpossiblePool, NoRoom};
 use port::fast_packet;
 use port::raw::{self, Counters, Pool, Told, POOL_BYTES, POOL_HEADS};
@@ -85,33 +87,36 @@ macro_rules! by_size {
     };
 }
 
-fn original(size: usize, list: &'static [u32]) -> Box<dyn Original> {
-    fn with<const N: usize>(list: &'static [u32]) -> Box<dyn Original> {
-        Box::new(FastPacketAssembler::<N>::with_pool(list))
+fn original(mode: Mode, size: usize, list: &'static [u32]) -> Box<dyn Original> {
+    fn with<const N: usize>(mode: Mode, list: &'static [u32]) -> Box<dyn Original> {
+        match mode {
+            Mode::AsOriginal => Box::new(FastPacketAssembler::<N>::with_pool(list)),
+            Mode::SetBackIsSilence => Box::new(OnItsOwnClock::<N>::with_pool(list)),
+        }
     }
-    type With = fn(&'static [u32]) -> Box<dyn Original>;
+    type With = fn(Mode, &'static [u32]) -> Box<dyn Original>;
     const WITH: [With; LIMIT + 1] = by_size!(with);
-    WITH[size](list)
+    WITH[size](mode, list)
 }
 
 /// Every slot that a pool has memory for, within its size and past it.
-type Slots = [Slot; LIMIT];
+pub(crate) type Slots = [Slot; LIMIT];
 
 /// What a call leaves: a refusal's number or a kind, and the message's bytes and length.
 #[derive(Clone, Debug, PartialEq, Eq)]
 pub struct Answer {
-    kind: u32,
-    payload: [u8; 223],
-    length: usize,
+    pub(crate) kind: u32,
+    pub(crate) payload: [u8; 223],
+    pub(crate) length: usize,
 }
 
 /// An answer as it is lent to the port.
-const LENT: Answer = Answer { kind: 0xEE, payload: [0xEE; 223], length: 0xEE };
+pub(crate) const LENT: Answer = Answer { kind: 0xEE, payload: [0xEE; 223], length: 0xEE };
 /// What is left with refusal 1: the payload as it was lent, and length 0.
 const REFUSED: Answer = Answer { kind: 1, payload: LENT.payload, length: 0 };
 
 /// Rows as they are lent to a batch.
-fn lent(frames: usize, arena: usize) -> Told {
+pub(crate) fn lent(frames: usize, arena: usize) -> Told {
     Told { kinds: vec![0xEE; frames], lengths: vec![0xEE; frames], arena: vec![0xEE; arena] }
 }
 
@@ -138,8 +143,8 @@ pub fn lay(p: &mut Pool, k: usize, s: &Slot) {
     p.bytes[223 * k..223 * k + 223].copy_from_slice(&s.bytes);
 }
 
-fn pool_of(size: usize, slots: &Slots) -> Pool {
-    let mut p = Pool { size, ..Pool::ZEROS };
+pub(crate) fn pool_of(mode: u32, size: usize, slots: &Slots) -> Pool {
+    let mut p = Pool { size, mode, ..Pool::ZEROS };
     slots.iter().enumerate().for_each(|(k, s)| lay(&mut p, k, s));
     p
 }
@@ -165,7 +170,7 @@ pub enum CutShort {
 }
 
 /// No. 5, in its own words, over the slots of the pool's size; none where no byte that is needed was cut.
-pub fn cut_short(list: &[u32], slots: &[Slot], h: &Heard, length: usize) -> Option<CutShort> {
+pub fn cut_short(mode: Mode, list: &[u32], slots: &[Slot], h: &Heard, length: usize) -> Option<CutShort> {
     if !list.contains(&h.pgn) {
         return None;
     }
@@ -177,7 +182,7 @@ pub fn cut_short(list: &[u32], slots: &[Slot], h: &Heard, length: usize) -> Opti
         let n = h.data[1] as usize;
         return (length == 1 || (1..=223).contains(&n) && length < 2 + n.min(6)).then_some(CutShort::Rejected);
     }
-    let live = |s: &Slot| s.in_progress && (s.source, s.pgn, s.sequence) == (h.source, h.pgn, sequence) && h.now.saturating_sub(s.last_time) <= 500;
+    let live = |s: &Slot| s.in_progress && (s.source, s.pgn, s.sequence) == (h.source, h.pgn, sequence) && !silent(mode, h.now, s.last_time);
     let k = slots.iter().position(live)?;
     (length < 1 + (slots[k].expected - slots[k].current).min(7)).then_some(CutShort::Breaks(k))
 }
@@ -200,10 +205,10 @@ fn set_cut_short(o: &mut dyn Original, cut: CutShort) -> u32 {
 }
 
 /// The single calls of eight bytes, as `length` and `by_value` of `called`.
-const SINGLE_CALLS: [(Option<usize>, bool); 3] = [(None, false), (None, true), (Some(8), false)];
+pub(crate) const SINGLE_CALLS: [(Option<usize>, bool); 3] = [(None, false), (None, true), (Some(8), false)];
 
 /// One call of the port: with a length, by the lent counters, or by the counters by value.
-fn called(p: &mut Pool, counters: &mut Counters, list: &[u32], h: &Heard, length: Option<usize>, by_value: bool) -> Answer {
+pub(crate) fn called(p: &mut Pool, counters: &mut Counters, list: &[u32], h: &Heard, length: Option<usize>, by_value: bool) -> Answer {
     let mut a = LENT.clone();
     let (payload, left) = (&mut a.payload, &mut a.length);
     let (call, kind) = match length {
@@ -227,7 +232,7 @@ fn batched_in(
     (number, counts[0] as usize, counts[1] as usize)
 }
 
-fn batched(p: &mut Pool, counters: &mut Counters, list: &[u32], rows: &Rows, told: &mut Told) -> (u32, usize, usize) {
+pub(crate) fn batched(p: &mut Pool, counters: &mut Counters, list: &[u32], rows: &Rows, told: &mut Told) -> (u32, usize, usize) {
     batched_in(p, counters, list, &rows.times, &rows.pgns, &rows.sources, &rows.data, &mut told.kinds, &mut told.lengths, &mut told.arena)
 }
 
@@ -238,8 +243,19 @@ fn made(p: &mut Pool, size: usize) -> u32 {
     number
 }
 
+/// The same by the entry that takes a mode.
+pub(crate) fn made_with_mode(p: &mut Pool, size: usize, mode: u32) -> u32 {
+    let number = p.made_with_mode(size, mode);
+    answered("pool_with_mode", number);
+    number
+}
+
+/// Numbers of a pool that no call left.
+pub(crate) const USED: Pool = Pool { size: 0xEE, mode: 0xEE, heads: [0xEE << 32; POOL_HEADS], bytes: [0xEE; POOL_BYTES] };
+
 /// Both sides, with the list that the port is lent and the strictly ascending one that the original takes.
 pub struct Pair {
+    mode: Mode,
     size: usize,
     list: Vec<u32>,
     o: Box<dyn Original>,
@@ -258,17 +274,21 @@ fn sorted(list: &[u32]) -> &'static [u32] {
 
 impl Pair {
     /// Fresh pools.
-    pub fn fresh(size: usize, list: &[u32]) -> Pair {
-        let mut p = Pool { size: 0xEE, heads: [0xEE << 32; POOL_HEADS], bytes: [0xEE; POOL_BYTES] };
-        assert_eq!((made(&mut p, size), p.size), (0, size));
+    pub fn fresh(mode: Mode, size: usize, list: &[u32]) -> Pair {
+        let mut p = USED;
+        let number = match mode {
+            Mode::AsOriginal => made(&mut p, size),
+            Mode::SetBackIsSilence => made_with_mode(&mut p, size, raw::SET_BACK_IS_SILENCE),
+        };
+        assert_eq!((number, p.size, p.mode), (0, size, mode.number()));
         for k in 0..LIMIT {
             assert!(stands(&p, k, &Slot::FRESH), "a fresh slot");
         }
-        if size == 4 {
-            let mut by_default = Pool { size: 0xEE, heads: [0xEE << 32; POOL_HEADS], bytes: [0xEE; POOL_BYTES] };
+        if (mode, size) == (Mode::AsOriginal, 4) {
+            let mut by_default = USED;
             assert_eq!((by_default.made_by_default(), &by_default), (0, &p));
         }
-        Pair { size, list: list.to_vec(), o: original(size, sorted(list)), p, counters: [0; 5], past: vec![Slot::FRESH; LIMIT - size] }
+        Pair { mode, size, list: list.to_vec(), o: original(mode, size, sorted(list)), p, counters: [0; 5], past: vec![Slot::FRESH; LIMIT - size] }
     }
     /// Sets every slot, within the size and past it, and the counters.
     pub fn set(&mut self, slots: &Slots, counters: Counters) {
@@ -309,7 +329,7 @@ impl Pair {
             data[..len].copy_from_slice(&h.data[..len]);
             assert_eq!(fast_packet::fill_short(h.data, n), data, "{:?} cut to {n}", h.data);
             heard.data = data;
-            cut = cut_short(&self.list, &self.slots()[..self.size], h, n);
+            cut = cut_short(self.mode, &self.list, &self.slots()[..self.size], h, n);
         }
         if let Some(cut) = cut {
             let due = Answer { kind: set_cut_short(&mut *self.o, cut), payload: LENT.payload, length: 0 };
@@ -328,13 +348,14 @@ impl Pair {
     }
 }
 
-/// A call on a pool that document 01 calls impossible: refusal 1, whatever the PGN, and nothing changed.
-pub fn refused(size: usize, slots: &Slots, counters: Counters, list: &[u32], h: &Heard, length: Option<usize>, by_value: bool) {
-    let mut p = pool_of(size, slots);
+/// A call on a pool that document 01 calls impossible, or whose number is no mode: refusal 1, whatever the PGN, and nothing changed.
+#[allow(clippy::too_many_arguments)]
+pub fn refused(mode: u32, size: usize, slots: &Slots, counters: Counters, list: &[u32], h: &Heard, length: Option<usize>, by_value: bool) {
+    let mut p = pool_of(mode, size, slots);
     let before = p.clone();
     let mut c = counters;
     let got = called(&mut p, &mut c, list, h, length, by_value);
-    assert_eq!(got, REFUSED, "size {size}, {slots:?}");
+    assert_eq!(got, REFUSED, "mode {mode}, size {size}, {slots:?}");
     assert_eq!(p, before, "the pool comes back unchanged with 1");
     assert_eq!(c, counters);
 }
@@ -347,10 +368,10 @@ pub fn frames(sequence: u8, payload: &[u8]) -> Vec<[u8; 8]> {
 // ---- small spaces, whole
 
 /// Every first byte and announced size, on pools of one and four.
-pub fn every_first_byte() -> u64 {
+pub fn every_first_byte(mode: Mode) -> u64 {
     let mut steps = 0;
     for size in [0, 1, 4] {
-        let mut p = Pair::fresh(size, &[127_489]);
+        let mut p = Pair::fresh(mode, size, &[127_489]);
         for b0 in 0..=255u8 {
             for b1 in 0..=255u8 {
                 p.hear(&Heard { now: 7 * b1 as u64, pgn: 127_489, source: b0 / 64, data: [b0, b1, 1, 2, 3, 4, 5, 6] }, None);
@@ -370,15 +391,19 @@ fn valid_slots() -> impl Iterator<Item = Slot> {
     (7..=223).flat_map(move |expected| (0..32).map(move |last_index| slot(expected, last_index))).filter(|s| s.current < s.expected)
 }
 
-/// Every valid slot, under every frame index, in time and late.
-pub fn every_slot() -> u64 {
+/// Every valid slot, under every frame index, in time and late, and in No. 10's mode before its time.
+pub fn every_slot(mode: Mode) -> u64 {
     let mut steps = 0;
-    let mut p = Pair::fresh(1, &[127_489]);
+    let mut p = Pair::fresh(mode, 1, &[127_489]);
     for slot in valid_slots() {
         for index in 0..32u8 {
             let now = [1000, 1500, 1501, 0][(index as usize + slot.expected) % 4];
             p.set(&std::array::from_fn(|_| slot), [0; 5]);
-            p.hear(&Heard { now: if index == slot.last_index + 1 { 1500 } else { now }, pgn: 127_489, source: 9, data: [3 << 5 | index, 20, 1, 2, 3, 4, 5, 6] }, None);
+            let in_turn = match mode {
+                Mode::AsOriginal => 1500,
+                Mode::SetBackIsSilence => [1000, 1500, 999, 0][(index as usize + slot.expected) % 4],
+            };
+            p.hear(&Heard { now: if index == slot.last_index + 1 { in_turn } else { now }, pgn: 127_489, source: 9, data: [3 << 5 | index, 20, 1, 2, 3, 4, 5, 6] }, None);
             steps += 1;
         }
     }
@@ -389,10 +414,10 @@ pub fn every_slot() -> u64 {
 const LENGTHS: [usize; 11] = [0, 1, 2, 3, 4, 5, 6, 7, 8, 9, usize::MAX];
 
 /// Every announced size at every length, listed and not, where no slot is free and where one is.
-pub fn every_cut_first_frame() -> u64 {
+pub fn every_cut_first_frame(mode: Mode) -> u64 {
     let mut steps = 0;
     for (size, list) in [(0, 127_489), (1, 127_489), (4, 127_489), (4, 5)] {
-        let mut p = Pair::fresh(size, &[list]);
+        let mut p = Pair::fresh(mode, size, &[list]);
         for announced in 0..=255u8 {
             for length in LENGTHS {
                 p.hear(&Heard { now: 1000 * announced as u64, pgn: 127_489, source: 9, data: [3 << 5, announced, 1, 2, 3, 4, 5, 6] }, Some(length));
@@ -404,9 +429,9 @@ pub fn every_cut_first_frame() -> u64 {
 }
 
 /// Every valid slot, under a continuation of every length: in turn, out of turn, of another key, and late.
-pub fn every_cut_continuation() -> u64 {
+pub fn every_cut_continuation(mode: Mode) -> u64 {
     let mut steps = 0;
-    let mut p = Pair::fresh(1, &[127_489]);
+    let mut p = Pair::fresh(mode, 1, &[127_489]);
     for slot in valid_slots() {
         let next = slot.last_index + 1;
         for length in LENGTHS {
@@ -421,12 +446,12 @@ pub fn every_cut_continuation() -> u64 {
 }
 
 /// Both.
-pub fn every_cut() -> u64 {
-    every_cut_first_frame() + every_cut_continuation()
+pub fn every_cut(mode: Mode) -> u64 {
+    every_cut_first_frame(mode) + every_cut_continuation(mode)
 }
 
 /// Two slots over a small alphabet of states, under a small alphabet of frames.
-pub fn two_slots() -> u64 {
+pub fn two_slots(mode: Mode) -> u64 {
     let mut alphabet = vec![Slot::FRESH];
     for source in [1, 2] {
         alphabet.push(Slot { source, bytes: [source; 223], last_time: 1000, ..Slot::FRESH });
@@ -439,7 +464,7 @@ pub fn two_slots() -> u64 {
         }
     }
     let mut steps = 0;
-    let mut p = Pair::fresh(2, &[127_489, 129_029]);
+    let mut p = Pair::fresh(mode, 2, &[127_489, 129_029]);
     for a in &alphabet {
         for b in &alphabet {
             for now in [999, 1000, 1001] {
@@ -460,25 +485,29 @@ pub fn two_slots() -> u64 {
     steps
 }
 
-/// Making pools of every size, and above.
+/// Sizes of every kind, and above.
+pub(crate) fn sizes_asked_for() -> impl Iterator<Item = usize> {
+    (0..1000).chain([usize::MAX, 1 << 32, LIMIT | 1 << 40])
+}
+
+/// Making pools of every size, and above: as the original.
 pub fn making() -> u64 {
     let mut steps = 0;
-    for size in (0..1000).chain([usize::MAX, 1 << 32, LIMIT | 1 << 40]) {
+    for size in sizes_asked_for() {
         let mut p = Pool::ZEROS;
         let number = made(&mut p, size);
-        assert_eq!((number, p.size), if size > LIMIT { (1, 0) } else { (0, size) });
+        assert_eq!((number, p.size, p.mode), if size > LIMIT { (1, 0, 0) } else { (0, size, 0) });
         assert_eq!((p.heads, p.bytes), ([0; POOL_HEADS], [0; POOL_BYTES]));
         let ours = ours::Pool::new(size);
-        assert_eq!(ours.as_ref().map(|p| p.size()), if size > LIMIT { Err(&ImpossiblePool) } else { Ok(size) });
+        assert_eq!(ours.as_ref().map(|p| (p.size(), p.mode())), if size > LIMIT { Err(&ImpossiblePool) } else { Ok((size, Mode::AsOriginal)) });
         assert_eq!(ours.as_ref().map_or_else(|e| e.number(), |_| 0), number);
         if size == 4 {
             assert_eq!(ours, Ok(ours::Pool::default()));
         }
         // over a pool that was in use: every number and byte, or with a refusal none
-        let lent = Pool { size: 3, heads: [300 << 32; POOL_HEADS], bytes: [0xEE; POOL_BYTES] };
-        let mut q = lent.clone();
+        let mut q = USED;
         assert_eq!(made(&mut q, size), number);
-        assert_eq!(q, if size > LIMIT { Pool { size: 0, ..lent } } else { p });
+        assert_eq!(q, if size > LIMIT { Pool { size: 0, mode: 0, ..USED } } else { p });
         steps += 2;
     }
     steps
@@ -488,12 +517,11 @@ pub fn making() -> u64 {
 
 /// The original over rows, as document 01's steps and the batch's promise have it: it stops before the first frame whose
 /// message has no room in the arena.
-fn originally<const N: usize>(slots: &Slots, counters: Counters, list: &'static [u32], rows: &Rows, told: &mut Told) -> Left {
-    let mut a = FastPacketAssembler::<N>::with_pool(list);
-    for (k, s) in slots.iter().enumerate().take(N) {
-        PoolState::set_slot(&mut a, k, s);
+fn over_rows<A: Original + Copy>(mut a: A, size: usize, slots: &Slots, counters: Counters, rows: &Rows, told: &mut Told) -> Left {
+    for (k, s) in slots.iter().enumerate().take(size) {
+        a.set_slot(k, s);
     }
-    PoolState::set_counters(&mut a, counters);
+    a.set_counters(counters);
     let (mut said, mut used) = (vec![], 0);
     for i in 0..rows.len() {
         let mut next = a;
@@ -508,8 +536,15 @@ fn originally<const N: usize>(slots: &Slots, counters: Counters, list: &'static 
         used += message.len();
         said.push(one);
     }
-    let slots = std::array::from_fn(|k| if k < N { PoolState::slot(&a, k) } else { slots[k] });
-    Left { said, used, slots, counters: Original::counters(&a) }
+    let slots = std::array::from_fn(|k| if k < size { a.slot(k) } else { slots[k] });
+    Left { said, used, slots, counters: a.counters() }
+}
+
+fn originally<const N: usize>(mode: Mode, slots: &Slots, counters: Counters, list: &'static [u32], rows: &Rows, told: &mut Told) -> Left {
+    match mode {
+        Mode::AsOriginal => over_rows(FastPacketAssembler::<N>::with_pool(list), N, slots, counters, rows, told),
+        Mode::SetBackIsSilence => over_rows(OnItsOwnClock::<N>::with_pool(list), N, slots, counters, rows, told),
+    }
 }
 
 /// What the original leaves of rows: what it said of each frame taken, the arena's bytes taken, slots and counters.
@@ -520,7 +555,7 @@ pub struct Left {
     counters: Counters,
 }
 
-fn one_row(h: &Heard) -> Rows {
+pub(crate) fn one_row(h: &Heard) -> Rows {
     let mut rows = Rows::default();
     rows.push(h.now, h.pgn, h.source, h.data);
     rows
@@ -530,17 +565,18 @@ fn heard_in(rows: &Rows, i: usize) -> Heard {
     Heard { now: rows.times[i], pgn: rows.pgns[i], source: rows.sources[i], data: rows.data[8 * i..8 * i + 8].try_into().unwrap() }
 }
 
-type Originally = fn(&Slots, Counters, &'static [u32], &Rows, &mut Told) -> Left;
+type Originally = fn(Mode, &Slots, Counters, &'static [u32], &Rows, &mut Told) -> Left;
 const ORIGINALLY: [Originally; LIMIT + 1] = by_size!(originally);
 
 /// One batch on any possible pool, and all that it leaves: answers, messages, the rest of the lent rows, counters, slots.
-pub fn batch(size: usize, slots: &Slots, counters: Counters, list: &[u32], sorted: &'static [u32], rows: &Rows, room: usize, spare: usize) -> Left {
+#[allow(clippy::too_many_arguments)]
+pub fn batch(mode: Mode, size: usize, slots: &Slots, counters: Counters, list: &[u32], sorted: &'static [u32], rows: &Rows, room: usize, spare: usize) -> Left {
     let n = rows.len();
     let (mut got, mut want) = (lent(n + spare, room), lent(n + spare, room));
-    let mut p = pool_of(size, slots);
+    let mut p = pool_of(mode.number(), size, slots);
     let mut c = counters;
     let (number, taken, used) = batched(&mut p, &mut c, list, rows, &mut got);
-    let left = ORIGINALLY[size](slots, counters, sorted, rows, &mut want);
+    let left = ORIGINALLY[size](mode, slots, counters, sorted, rows, &mut want);
     assert_eq!((number, taken, used), (0, left.said.len(), left.used), "frames and bytes taken of {n}, room {room}");
     for (i, said) in left.said.iter().enumerate() {
         said.hold(got.kinds[i] as u32, &(i, heard_in(rows, i), size));
@@ -557,10 +593,10 @@ pub fn batch(size: usize, slots: &Slots, counters: Counters, list: &[u32], sorte
 /// The row that `batch_refused` leaves out no element of.
 const NO_CUT: usize = 5;
 
-/// A batch that is refused changes nothing: 1 for an impossible pool, 27 for a row that is too short, 1 before 27.
-pub fn batch_refused(size: usize, slots: &Slots, counters: Counters, list: &[u32], rows: &Rows, cut: usize) -> u32 {
+/// A batch that is refused changes nothing: 1 for an impossible pool or a number that is no mode, 27 for a row that is too short, 1 before 27.
+pub fn batch_refused(mode: u32, size: usize, slots: &Slots, counters: Counters, list: &[u32], rows: &Rows, cut: usize) -> u32 {
     let n = rows.len();
-    let mut p = pool_of(size, slots);
+    let mut p = pool_of(mode, size, slots);
     let before = p.clone();
     let mut c = counters;
     let mut told = lent(n, 500);
@@ -571,14 +607,14 @@ pub fn batch_refused(size: usize, slots: &Slots, counters: Counters, list: &[u32
         &mut p, &mut c, list, &rows.times, &rows.pgns[..short(0, n)], &rows.sources[..short(1, n)], &rows.data[..short(2, 8 * n)],
         &mut told.kinds[..kinds], &mut told.lengths[..lengths], &mut told.arena,
     );
-    let want = if impossible(size, slots) { 1 } else { 27 };
+    let want = if mode > 1 || impossible(size, slots) { 1 } else { 27 };
     assert_eq!((number, taken, used, c), (want, 0, 0, counters));
     assert_eq!((p, told), (before, all), "a refusal changes nothing");
     number
 }
 
 /// Batches of traffic from any possible pool, some of them with too little room, gone on with from where they stopped.
-pub fn batches(seed: u64, steps: u64) -> u64 {
+pub fn batches(mode: Mode, seed: u64, steps: u64) -> u64 {
     let mut r = Rng::new(seed);
     let sorted_lists = LISTS.map(sorted);
     let mut done = 0;
@@ -592,7 +628,11 @@ pub fn batches(seed: u64, steps: u64) -> u64 {
             let mut rows = Rows::default();
             let mut senders: Vec<(u8, u32, Vec<[u8; 8]>)> = vec![];
             for _ in 0..r.pick(&[0, 1, 2, 16, 64, 256]) {
-                now = if r.one_in(50) { now.saturating_sub(600) } else { now + r.pick(&[0, 1, 5, 5, 5, 5, 5, 5, 5, 499, 500, 501]) };
+                now = match mode {
+                    Mode::AsOriginal if r.one_in(50) => now.saturating_sub(600),
+                    Mode::AsOriginal => now + r.pick(&[0, 1, 5, 5, 5, 5, 5, 5, 5, 499, 500, 501]),
+                    Mode::SetBackIsSilence => often_set_back(&mut r, now, 100, 10),
+                };
                 if senders.is_empty() || r.one_in(4) {
                     let len = r.pick(&[1, 6, 7, 13, 14, 26, 223]);
                     let payload = r.vec(len);
@@ -613,10 +653,10 @@ pub fn batches(seed: u64, steps: u64) -> u64 {
             }
             if !rows.is_empty() && r.one_in(4) {
                 let cut = r.below(5) as usize;
-                batch_refused(size, &slots, counters, LISTS[which], &rows, cut);
+                batch_refused(mode.number(), size, &slots, counters, LISTS[which], &rows, cut);
             }
             let room = r.pick(&[0, 10, 100, 300, 10_000]);
-            let left = batch(size, &slots, counters, LISTS[which], sorted_lists[which], &rows, room, r.below(3) as usize);
+            let left = batch(mode, size, &slots, counters, LISTS[which], sorted_lists[which], &rows, room, r.below(3) as usize);
             (slots, counters) = (left.slots, left.counters);
             done += rows.len().max(1) as u64;
         }
@@ -626,8 +666,8 @@ pub fn batches(seed: u64, steps: u64) -> u64 {
             bad[r.below(size as u64) as usize] = Slot { in_progress: true, sequence: 8, ..Slot::FRESH };
             let mut rows = Rows::default();
             rows.push(0, 127_489, 0, [0, 1, 2, 3, 4, 5, 6, 7]);
-            batch_refused(size, &bad, counters, LISTS[which], &rows, r.below(6) as usize);
-            batch_refused(LIMIT + 1, &slots, counters, LISTS[which], &rows, NO_CUT);
+            batch_refused(mode.number(), size, &bad, counters, LISTS[which], &rows, r.below(6) as usize);
+            batch_refused(mode.number(), LIMIT + 1, &slots, counters, LISTS[which], &rows, NO_CUT);
             done += 2;
         }
     }
@@ -647,7 +687,7 @@ fn field(i: usize, n: u64) -> u64 {
 }
 
 /// Numbers from which the same heads are read, most of them wider than their fields.
-fn widened(r: &mut Rng, heads: &[u64; POOL_HEADS]) -> [u64; POOL_HEADS] {
+pub(crate) fn widened(r: &mut Rng, heads: &[u64; POOL_HEADS]) -> [u64; POOL_HEADS] {
     std::array::from_fn(|i| {
         let any = r.next();
         match i % 8 {
@@ -665,20 +705,20 @@ fn laid_on(old: &[u64; POOL_HEADS], new: &[u64; POOL_HEADS]) -> [u64; POOL_HEADS
     std::array::from_fn(|i| if field(i, old[i]) == new[i] { old[i] } else { new[i] })
 }
 
-fn heads_of(slots: &Slots) -> [u64; POOL_HEADS] {
-    pool_of(LIMIT, slots).heads
+pub(crate) fn heads_of(slots: &Slots) -> [u64; POOL_HEADS] {
+    pool_of(0, LIMIT, slots).heads
 }
 
 /// Calls on pools with numbers wider than their fields: the same answers as on the narrow ones, which are held to the original,
 /// and each number of the heads by the rule; after a refusal, all of them as they were.
-pub fn wide_numbers(seed: u64, steps: u64) -> u64 {
+pub fn wide_numbers(mode: Mode, seed: u64, steps: u64) -> u64 {
     let mut r = Rng::new(seed);
     let (mut seen, mut kinds) = ([0u64; 6], BTreeMap::<u32, u64>::new());
     for _ in 0..steps {
         let now = r.pick(&[500, 1000, 100_000]);
         let mut slots: Slots = std::array::from_fn(|_| possible(&mut r, now));
         let (size, list) = (any_size(&mut r), LISTS[1 + r.below(5) as usize]);
-        let h = heard(&mut r, &slots[..size], now);
+        let h = heard(mode, &mut r, &slots[..size], now);
         let length = r.one_in(3).then_some(8);
         let counters = [r.below(1000) as u32; 5];
         let by_value = r.one_in(2);
@@ -687,7 +727,7 @@ pub fn wide_numbers(seed: u64, steps: u64) -> u64 {
             // refusal 1: too large, or one slot that cannot be
             let size = if r.one_in(2) { LIMIT + 1 + r.below(3) as usize } else { 1 + size.min(LIMIT - 1) };
             slots[0] = if size > LIMIT { slots[0] } else { Slot { in_progress: true, sequence: 8, ..slots[0] } };
-            let before = Pool { size, heads: widened(&mut r, &heads_of(&slots)), bytes: bytes(&slots) };
+            let before = Pool { size, mode: mode.number(), heads: widened(&mut r, &heads_of(&slots)), bytes: bytes(&slots) };
             let (mut p, mut c) = (before.clone(), counters);
             let got = called(&mut p, &mut c, list, &h, length, by_value);
             assert_eq!((got, &p, c), (REFUSED, &before, counters), "a refusal changes no lent memory");
@@ -697,9 +737,9 @@ pub fn wide_numbers(seed: u64, steps: u64) -> u64 {
             seen[0] += 1;
             continue;
         }
-        let before = Pool { size, heads: widened(&mut r, &heads_of(&slots)), bytes: bytes(&slots) };
+        let before = Pool { size, mode: mode.number(), heads: widened(&mut r, &heads_of(&slots)), bytes: bytes(&slots) };
         if r.one_in(2) {
-            let mut pair = Pair::fresh(size, list);
+            let mut pair = Pair::fresh(mode, size, list);
             pair.set(&slots, counters);
             let want = pair.hear(&h, length);
             let (mut p, mut c) = (before.clone(), counters);
@@ -715,7 +755,7 @@ pub fn wide_numbers(seed: u64, steps: u64) -> u64 {
         } else {
             let mut rows = Rows::default();
             for _ in 0..r.below(6) {
-                let h = heard(&mut r, &slots[..size], now);
+                let h = heard(mode, &mut r, &slots[..size], now);
                 rows.push(h.now, h.pgn, h.source, h.data);
             }
             let n = rows.len();
@@ -727,7 +767,7 @@ pub fn wide_numbers(seed: u64, steps: u64) -> u64 {
                 seen[4] += 1;
                 continue;
             }
-            let left = batch(size, &slots, counters, list, sorted(list), &rows, 1000, 0);
+            let left = batch(mode, size, &slots, counters, list, sorted(list), &rows, 1000, 0);
             assert_eq!(batched(&mut p, &mut c, list, &rows, &mut told), (0, left.said.len(), left.used));
             assert!(told.kinds.iter().zip(&left.said).all(|(kind, said)| *kind as u32 == said.kind), "the kinds of {:?}", before.heads);
             let after = (laid_on(&before.heads, &heads_of(&left.slots)), bytes(&left.slots), left.counters);
@@ -768,8 +808,8 @@ fn possible(r: &mut Rng, now: u64) -> Slot {
     }
 }
 
-/// A frame, often one that fits a slot.
-fn heard(r: &mut Rng, slots: &[Slot], now: u64) -> Heard {
+/// A frame, often one that fits a slot, and in No. 10's mode often one before its last time.
+fn heard(mode: Mode, r: &mut Rng, slots: &[Slot], now: u64) -> Heard {
     let mut h = Heard { now, pgn: r.pick(&PGNS), source: r.below(4) as u8, data: r.bytes() };
     match r.below(4) {
         0 => h.data = [(r.below(3) as u8) << 5, r.pick(&SIZES), h.data[2], h.data[3], h.data[4], h.data[5], h.data[6], h.data[7]],
@@ -780,7 +820,8 @@ fn heard(r: &mut Rng, slots: &[Slot], now: u64) -> Heard {
             let index = if r.one_in(8) { r.below(32) as u8 } else { s.last_index.wrapping_add(1) };
             h.data[0] = s.sequence << 5 | index % 32;
             if r.one_in(3) {
-                h.now = s.last_time.saturating_add(r.pick(&SILENCES));
+                let by = r.pick(&SILENCES);
+                h.now = if mode == Mode::SetBackIsSilence && r.one_in(2) { s.last_time.saturating_sub(by) } else { s.last_time.saturating_add(by) };
             }
             if r.one_in(6) {
                 h.data[0] &= 0xE0;
@@ -793,9 +834,9 @@ fn heard(r: &mut Rng, slots: &[Slot], now: u64) -> Heard {
 }
 
 /// Single calls on random possible pools: any time, any idle slot, any counters below the end.
-pub fn any_pool(seed: u64, steps: u64) -> u64 {
+pub fn any_pool(mode: Mode, seed: u64, steps: u64) -> u64 {
     let mut r = Rng::new(seed);
-    let mut pairs: Vec<Pair> = (0..=LIMIT).flat_map(|size| LISTS.map(|l| Pair::fresh(size, l))).collect();
+    let mut pairs: Vec<Pair> = (0..=LIMIT).flat_map(|size| LISTS.map(|l| Pair::fresh(mode, size, l))).collect();
     for _ in 0..steps {
         let now = if r.one_in(4) { r.next() } else { r.pick(&[0, 500, 1000, 100_000, u64::MAX]) };
         let slots: Slots = std::array::from_fn(|_| possible(&mut r, now));
@@ -803,7 +844,7 @@ pub fn any_pool(seed: u64, steps: u64) -> u64 {
         let p = &mut pairs[k];
         let counters = std::array::from_fn(|_| if r.one_in(2) { r.next() as u32 >> 1 } else { r.pick(&[0, 1, u32::MAX - 1]) });
         p.set(&slots, counters);
-        let h = heard(&mut r, &slots[..p.size], now);
+        let h = heard(mode, &mut r, &slots[..p.size], now);
         let length = if r.one_in(3) { Some(if r.one_in(4) { r.next() as usize } else { r.below(10) as usize }) } else { None };
         p.hear(&h, length);
     }
@@ -812,10 +853,10 @@ pub fn any_pool(seed: u64, steps: u64) -> u64 {
 
 /// Which slot a frame takes: few sources, keys and times, so that each candidate of a search stands at many slots of a pool or at none; the same frame by a
 /// single call and in a batch.
-pub fn slots_chosen(seed: u64, steps: u64) -> u64 {
+pub fn slots_chosen(mode: Mode, seed: u64, steps: u64) -> u64 {
     const LIST: &[u32] = &[127_489];
     let mut r = Rng::new(seed);
-    let mut pairs: Vec<Pair> = (0..=LIMIT).map(|size| Pair::fresh(size, LIST)).collect();
+    let mut pairs: Vec<Pair> = (0..=LIMIT).map(|size| Pair::fresh(mode, size, LIST)).collect();
     for _ in 0..steps {
         let now = r.pick(&[0, 500, 501, 1000, 100_000, u64::MAX]);
         // of four slots so many in progress, and of four in progress so many silent
@@ -829,7 +870,11 @@ pub fn slots_chosen(seed: u64, steps: u64) -> u64 {
             expected: 20,
             current: 6,
             last_index: 0,
-            last_time: now.saturating_sub(if r.below(4) < silent { 501 } else { r.below(501) }),
+            last_time: match r.below(4) < silent {
+                true if mode == Mode::SetBackIsSilence && r.one_in(2) => now.saturating_add(1),
+                true => now.saturating_sub(501),
+                false => now.saturating_sub(r.below(501)),
+            },
         });
         let index = if r.one_in(4) { 1 } else { 0 };
         let h = Heard { now, pgn: 127_489, source: r.below(sources + 1) as u8, data: [(r.below(8) as u8) << 5 | index, 20, 1, 2, 3, 4, 5, 6] };
@@ -837,13 +882,13 @@ pub fn slots_chosen(seed: u64, steps: u64) -> u64 {
         let p = &mut pairs[size];
         p.set(&slots, [0; 5]);
         p.hear(&h, None);
-        batch(size, &slots, [0; 5], LIST, LIST, &one_row(&h), 20, 0);
+        batch(mode, size, &slots, [0; 5], LIST, LIST, &one_row(&h), 20, 0);
     }
     steps
 }
 
 /// Single calls on pools that document 01 calls impossible, by one slot or by their size.
-pub fn impossible_pools(seed: u64, steps: u64) -> u64 {
+pub fn impossible_pools(mode: Mode, seed: u64, steps: u64) -> u64 {
     let mut r = Rng::new(seed);
     let mut done = 0;
     while done < steps {
@@ -865,10 +910,10 @@ pub fn impossible_pools(seed: u64, steps: u64) -> u64 {
                 continue;
             }
         }
-        let h = heard(&mut r, &slots[..size.min(LIMIT)], now);
+        let h = heard(mode, &mut r, &slots[..size.min(LIMIT)], now);
         let counters = std::array::from_fn(|_| r.next() as u32);
         let length = r.one_in(3).then_some(r.below(10) as usize);
-        refused(size, &slots, counters, LISTS[r.below(6) as usize], &h, length, h.now % 2 == 0);
+        refused(mode.number(), size, &slots, counters, LISTS[r.below(6) as usize], &h, length, h.now % 2 == 0);
         done += 1;
     }
     steps
@@ -876,21 +921,25 @@ pub fn impossible_pools(seed: u64, steps: u64) -> u64 {
 
 /// Where a counter stands at its end the original would trap; the port stays there, and all else is as it was below, where it is held
 /// to the original: the name too.
-pub fn counters_at_the_end() -> u64 {
-    let busy = Slot { in_progress: true, source: 1, pgn: 127_489, expected: 7, current: 6, ..Slot::FRESH };
+pub fn counters_at_the_end(mode: Mode) -> u64 {
+    let (now, silent_at) = match mode {
+        Mode::AsOriginal => (0, 501),
+        Mode::SetBackIsSilence => (1000, 999),
+    };
+    let busy = Slot { in_progress: true, source: 1, pgn: 127_489, expected: 7, current: 6, last_time: now, ..Slot::FRESH };
     let mut slots = [Slot::FRESH; LIMIT];
     slots[0] = busy;
     let list = [127_489];
     let mut steps = 0;
     for (h, which, kind) in [
-        (Heard { now: 0, pgn: 5, source: 0, data: [0; 8] }, 4, raw::NOT_LISTED),
-        (Heard { now: 0, pgn: 127_489, source: 0, data: [0; 8] }, 2, raw::REJECTED),
-        (Heard { now: 0, pgn: 127_489, source: 0, data: [1; 8] }, 3, raw::LOST),
-        (Heard { now: 0, pgn: 127_489, source: 1, data: [2; 8] }, 3, raw::LOST),
-        (Heard { now: 0, pgn: 127_489, source: 0, data: [0, 7, 0, 0, 0, 0, 0, 0] }, 1, raw::POOL_FULL),
-        (Heard { now: 501, pgn: 127_489, source: 0, data: [0, 7, 0, 0, 0, 0, 0, 0] }, 0, raw::FRAGMENT_CONSUMED),
+        (Heard { now, pgn: 5, source: 0, data: [0; 8] }, 4, raw::NOT_LISTED),
+        (Heard { now, pgn: 127_489, source: 0, data: [0; 8] }, 2, raw::REJECTED),
+        (Heard { now, pgn: 127_489, source: 0, data: [1; 8] }, 3, raw::LOST),
+        (Heard { now, pgn: 127_489, source: 1, data: [2; 8] }, 3, raw::LOST),
+        (Heard { now, pgn: 127_489, source: 0, data: [0, 7, 0, 0, 0, 0, 0, 0] }, 1, raw::POOL_FULL),
+        (Heard { now: silent_at, pgn: 127_489, source: 0, data: [0, 7, 0, 0, 0, 0, 0, 0] }, 0, raw::FRAGMENT_CONSUMED),
     ] {
-        let mut pair = Pair::fresh(1, &list);
+        let mut pair = Pair::fresh(mode, 1, &list);
         pair.set(&slots, [7; 5]);
         let below = pair.hear(&h, None);
         assert_eq!(below.kind, kind, "{h:?}");
@@ -898,12 +947,12 @@ pub fn counters_at_the_end() -> u64 {
             let (mut before, mut after) = ([7; 5], [7; 5]);
             (before[which], after[which]) = (at, at.saturating_add(1));
             for (length, by_value) in SINGLE_CALLS {
-                let (mut p, mut c) = (pool_of(1, &slots), before);
+                let (mut p, mut c) = (pool_of(mode.number(), 1, &slots), before);
                 let got = called(&mut p, &mut c, &list, &h, length, by_value);
                 assert_eq!((&got, &p, c), (&below, &pair.p, after), "{h:?}");
                 steps += 1;
             }
-            let (mut p, mut c, mut told) = (pool_of(1, &slots), before, lent(1, 0));
+            let (mut p, mut c, mut told) = (pool_of(mode.number(), 1, &slots), before, lent(1, 0));
             assert_eq!(batched(&mut p, &mut c, &list, &one_row(&h), &mut told), (0, 1, 0));
             assert_eq!((told.kinds[0] as u32, told.lengths[0], &p, c), (kind, 0, &pair.p, after), "{h:?}");
             steps += 1;
@@ -920,28 +969,28 @@ fn full_pool() -> Slots {
 }
 
 /// One frame on the same pool by every call, each held to the original: the kind that all of them give, and the slots that they leave.
-fn by_every_call(size: usize, slots: &Slots, list: &[u32], h: &Heard) -> (u32, Slots) {
-    let mut pair = Pair::fresh(size, list);
+fn by_every_call(mode: Mode, size: usize, slots: &Slots, list: &[u32], h: &Heard) -> (u32, Slots) {
+    let mut pair = Pair::fresh(mode, size, list);
     pair.set(slots, [7; 5]);
     let first = (pair.hear(h, None), pair.slots());
     pair.set(slots, [7; 5]);
     assert_eq!((pair.hear(h, Some(8)), pair.slots()), first, "with a length, {h:?}");
-    let left = batch(size, slots, [7; 5], list, sorted(list), &one_row(h), 223, 0);
+    let left = batch(mode, size, slots, [7; 5], list, sorted(list), &one_row(h), 223, 0);
     assert_eq!((left.said[0].kind, left.slots), (first.0.kind, first.1), "a batch of one, {h:?}");
     (first.0.kind, first.1)
 }
 
 /// The same on an impossible pool: 1 by every call.
-fn refused_by_every_call(size: usize, slots: &Slots, list: &[u32], h: &Heard) {
+pub(crate) fn refused_by_every_call(mode: u32, size: usize, slots: &Slots, list: &[u32], h: &Heard) {
     for (length, by_value) in SINGLE_CALLS {
-        refused(size, slots, [7; 5], list, h, length, by_value);
+        refused(mode, size, slots, [7; 5], list, h, length, by_value);
     }
-    assert_eq!(batch_refused(size, slots, [7; 5], list, &one_row(h), NO_CUT), 1);
+    assert_eq!(batch_refused(mode, size, slots, [7; 5], list, &one_row(h), NO_CUT), 1);
 }
 
 /// Every announced size where no slot is free: 0 and over 223 is Rejected all the same, and 1 to 6 bytes need no slot. Where the PGN is
 /// not listed nothing else is asked.
-pub fn no_slot_free() -> u64 {
+pub fn no_slot_free(mode: Mode) -> u64 {
     let full = full_pool();
     let mut steps = 0;
     for size in [0, 1, 4, 8].into_iter().chain(LARGE) {
@@ -952,17 +1001,21 @@ pub fn no_slot_free() -> u64 {
                 1..=6 => raw::MESSAGE_COMPLETE,
                 7..=223 => raw::POOL_FULL,
             };
-            assert_eq!(by_every_call(size, &full, &[127_489], &h), (kind, full), "{announced} on a full pool of {size}");
-            assert_eq!(by_every_call(size, &full, &[129_029], &h), (raw::NOT_LISTED, full), "unlisted, {announced} on a full pool of {size}");
+            assert_eq!(by_every_call(mode, size, &full, &[127_489], &h), (kind, full), "{announced} on a full pool of {size}");
+            assert_eq!(by_every_call(mode, size, &full, &[129_029], &h), (raw::NOT_LISTED, full), "unlisted, {announced} on a full pool of {size}");
             steps += 2;
         }
     }
     steps
 }
 
-/// A continuation of a session with every last index, in time and late, in turn and out of turn: a late session stays as it is, and one
-/// whose frame is out of turn has ended.
-pub fn late_and_out_of_turn() -> u64 {
+/// A continuation of a session with every last index, in time and late (in No. 10's mode also before its time), in turn and out of turn: a late session stays as it
+/// is, and one whose frame is out of turn has ended.
+pub fn late_and_out_of_turn(mode: Mode) -> u64 {
+    let late: &[u64] = match mode {
+        Mode::AsOriginal => &[1501],
+        Mode::SetBackIsSilence => &[1501, 999, 0],
+    };
     let mut steps = 0;
     for size in [1, 4, 8].into_iter().chain(LARGE) {
         for last_index in 0..=30u8 {
@@ -973,14 +1026,17 @@ pub fn late_and_out_of_turn() -> u64 {
             ended[size - 1] = Slot { in_progress: false, pgn: 0, sequence: 0, expected: 0, current: 0, last_index: 0, ..slots[size - 1] };
             for index in (last_index.saturating_sub(1)..=last_index + 2).filter(|i| (1..=31).contains(i)) {
                 let h = |now| Heard { now, pgn: 127_489, source: 10 + size as u8 - 1, data: [3 << 5 | index, 1, 2, 3, 4, 5, 6, 7] };
-                assert_eq!(by_every_call(size, &slots, &[127_489], &h(1501)), (raw::LOST, slots), "late: index {index} after {last_index}");
-                let (kind, left) = by_every_call(size, &slots, &[127_489], &h(1500));
+                for &now in late {
+                    assert_eq!(by_every_call(mode, size, &slots, &[127_489], &h(now)), (raw::LOST, slots), "at {now}: index {index} after {last_index}");
+                    steps += 1;
+                }
+                let (kind, left) = by_every_call(mode, size, &slots, &[127_489], &h(1500));
                 if index != last_index + 1 {
                     assert_eq!((kind, left), (raw::LOST, ended), "out of turn: index {index} after {last_index}");
                 } else {
                     assert_eq!(kind, if last_index < 30 { raw::FRAGMENT_CONSUMED } else { raw::MESSAGE_COMPLETE }, "in turn: index {index}");
                 }
-                steps += 2;
+                steps += 1;
             }
         }
     }
@@ -988,7 +1044,7 @@ pub fn late_and_out_of_turn() -> u64 {
 }
 
 /// Impossible pools by their size and by each field, under frames of every kind: 1, also where the PGN is not listed.
-pub fn unlisted_on_impossible_pools() -> u64 {
+pub fn unlisted_on_impossible_pools(mode: Mode) -> u64 {
     let full = full_pool();
     let bad = |bend: fn(&mut Slot)| {
         let mut slots = full;
@@ -1008,7 +1064,7 @@ pub fn unlisted_on_impossible_pools() -> u64 {
         assert!(impossible(size, &slots));
         for (b0, b1) in [(0, 0), (0, 6), (0, 7), (0, 224), (1, 0), (3 << 5 | 1, 0), (3 << 5 | 2, 0)] {
             for list in [&[][..], &[129_029], &[127_489]] {
-                refused_by_every_call(size, &slots, list, &Heard { now: 1500, pgn: 127_489, source: 13, data: [b0, b1, 1, 2, 3, 4, 5, 6] });
+                refused_by_every_call(mode.number(), size, &slots, list, &Heard { now: 1500, pgn: 127_489, source: 13, data: [b0, b1, 1, 2, 3, 4, 5, 6] });
                 steps += 1;
             }
         }
@@ -1017,15 +1073,42 @@ pub fn unlisted_on_impossible_pools() -> u64 {
 }
 
 /// All three.
-pub fn told_apart() -> u64 {
-    no_slot_free() + late_and_out_of_turn() + unlisted_on_impossible_pools()
+pub fn told_apart(mode: Mode) -> u64 {
+    no_slot_free(mode) + late_and_out_of_turn(mode) + unlisted_on_impossible_pools(mode)
 }
 
 // ---- traffic
 
+/// The next reading of a clock that goes on by less than `pace`, and now and then is silent around 500 ms, or goes back.
+pub fn seldom_set_back(r: &mut Rng, now: u64, steady: u64, pace: u64) -> u64 {
+    match r.below(steady) {
+        0 => now.saturating_add(501),
+        1 => now.saturating_sub(600),
+        2 => now.saturating_add(500),
+        3 => now.saturating_add(499),
+        _ => now.saturating_add(r.below(pace)),
+    }
+}
+
+const HOUR: u64 = 3_600_000;
+
+/// The same of a clock that is set as well: back by 1 ms up to hours, to its first and last readings and beside them; and that stands.
+pub fn often_set_back(r: &mut Rng, now: u64, steady: u64, pace: u64) -> u64 {
+    match r.below(steady) {
+        0 | 1 => now.saturating_sub(1),
+        2 => now.saturating_sub(r.pick(&[2, 499, 500, 501, 600])),
+        3 => now.saturating_sub(1 + r.below(6 * HOUR)),
+        4 => r.pick(&[0, 1, 500, 501, 6 * HOUR, u64::MAX - 501, u64::MAX - 500, u64::MAX - 1, u64::MAX]),
+        5 => now.saturating_add(500),
+        6 => now.saturating_add(501),
+        7 => now,
+        _ => now.saturating_add(r.below(pace)),
+    }
+}
+
 /// Runs of traffic from a fresh pool: several senders, losses, repeats, damage, silences around 500 ms, a clock that goes
 /// back, full pools, keys that collide, lists that are not in order.
-pub fn traffic(seed: u64, steps: u64) -> u64 {
+pub fn traffic(mode: Mode, seed: u64, steps: u64) -> u64 {
     let mut r = Rng::new(seed);
     let mut filled = BTreeSet::new();
     let mut done = 0;
@@ -1033,18 +1116,15 @@ pub fn traffic(seed: u64, steps: u64) -> u64 {
         let size = any_size(&mut r);
         // more senders, closer frames and fewer silences, so that a large pool fills up too
         let (most, pace, steady) = if size > 8 { (3 * size, 3, 1000) } else { (size + 3, 20, 40) };
-        let mut p = Pair::fresh(size, LISTS[1 + r.below(5) as usize]);
+        let mut p = Pair::fresh(mode, size, LISTS[1 + r.below(5) as usize]);
         let mut now = r.pick(&[0, 1000, u64::MAX - 5_000_000]);
         // a sender: source, PGN, the frames that are left
         let mut senders: Vec<(u8, u32, Vec<[u8; 8]>, usize)> = vec![];
         for _ in 0..2000 {
-            match r.below(steady) {
-                0 => now = now.saturating_add(501),
-                1 => now = now.saturating_sub(600),
-                2 => now = now.saturating_add(500),
-                3 => now = now.saturating_add(499),
-                _ => now = now.saturating_add(r.below(pace)),
-            }
+            now = match mode {
+                Mode::AsOriginal => seldom_set_back(&mut r, now, steady, pace),
+                Mode::SetBackIsSilence => often_set_back(&mut r, now, steady, pace),
+            };
             if senders.is_empty() || senders.len() < most && r.one_in(3) {
                 let len = if r.one_in(2) { r.pick(&[1, 5, 6, 7, 13, 14, 20, 222, 223]) } else { 1 + r.below(223) as usize };
                 let payload = r.vec(len);
@@ -1116,16 +1196,23 @@ impl Filled {
     fn open(&mut self, now: u64, k: usize, first: [u8; 8], in_use: usize) {
         assert_eq!((self.hear(now, k, first).kind, self.pair.in_use()), (raw::FRAGMENT_CONSUMED, in_use));
     }
-    /// Each message from its second frame on, the senders in any order; no two readings are over 500 apart.
+    /// Each message from its second frame on, the senders in any order; no two readings are over 500 apart. In No. 10's mode each sender has a clock of its own, up
+    /// to 500 on at each of its frames: so the readings go back and forth by seconds, and none is before its own message's last one.
     fn bring_to_an_end(&mut self, r: &mut Rng, messages: &[Message]) {
-        let mut left: Vec<(&Message, usize)> = messages.iter().map(|m| (m, 1)).collect();
+        let slots = self.pair.slots();
+        let opened = |m: &Message| slots.iter().find(|s| (s.source, s.pgn, s.sequence) == key(m.key)).unwrap().last_time;
+        let mut left: Vec<(&Message, usize, u64)> = messages.iter().map(|m| (m, 1, opened(m))).collect();
         while !left.is_empty() {
             let which = r.below(left.len() as u64) as usize;
-            let (m, at) = left[which];
-            let got = self.hear(1000 + r.below(501), m.key, m.frames[at]);
+            let (m, at, last) = left[which];
+            let now = match self.pair.mode {
+                Mode::AsOriginal => 1000 + r.below(501),
+                Mode::SetBackIsSilence => last + r.below(501),
+            };
+            let got = self.hear(now, m.key, m.frames[at]);
             if at + 1 < m.frames.len() {
                 assert_eq!(got.kind, raw::FRAGMENT_CONSUMED);
-                left[which].1 += 1;
+                left[which] = (m, at + 1, now);
             } else {
                 assert_eq!((got.kind, &got.payload[..got.length]), (raw::MESSAGE_COMPLETE, &m.payload[..]));
                 left.swap_remove(which);
@@ -1142,7 +1229,7 @@ impl Filled {
             for h in (from..to).map(|i| heard_in(&self.rows, i)) {
                 rows.push(h.now, h.pgn, h.source, h.data);
             }
-            let after = batch(size, &slots, counters, list, sorted(list), &rows, 223 * rows.len(), 0);
+            let after = batch(self.pair.mode, size, &slots, counters, list, sorted(list), &rows, 223 * rows.len(), 0);
             (slots, counters, from) = (after.slots, after.counters, to);
         }
         assert_eq!((slots, counters), (self.pair.slots(), self.pair.counters()), "batches leave what the single calls leave");
@@ -1150,13 +1237,17 @@ impl Filled {
 }
 
 /// Pools filled to the last slot. Then another key finds the pool full, six bytes need no slot, and a key that is there begins again; every message comes to
-/// its end; filled again and left silent over 500 ms, every slot is taken from its old message.
-pub fn all_slots_in_use(seed: u64, rounds: u64) -> u64 {
+/// its end; filled again and left silent over 500 ms, or in No. 10's mode with the clock set back by 1 ms, every slot is taken from its old message.
+pub fn all_slots_in_use(mode: Mode, seed: u64, rounds: u64) -> u64 {
+    let silent_at = match mode {
+        Mode::AsOriginal => 3501,
+        Mode::SetBackIsSilence => 2999,
+    };
     let mut r = Rng::new(seed);
     let mut steps = 0;
     for size in [1, 4, 8].into_iter().chain(LARGE) {
         for _ in 0..rounds {
-            let mut f = Filled { pair: Pair::fresh(size, &[127_489, 129_029]), rows: Rows::default() };
+            let mut f = Filled { pair: Pair::fresh(mode, size, &[127_489, 129_029]), rows: Rows::default() };
             let messages: Vec<Message> = shuffled(&mut r, size).into_iter().map(|k| any_message(&mut r, k)).collect();
             for (done, m) in messages.iter().enumerate() {
                 f.open(1000, m.key, m.frames[0], done + 1);
@@ -1172,7 +1263,7 @@ pub fn all_slots_in_use(seed: u64, rounds: u64) -> u64 {
                 f.open(3000, k, first(k), done + 1);
             }
             for k in shuffled(&mut r, size) {
-                f.open(3501, size + k, first(size + k), size);
+                f.open(silent_at, size + k, first(size + k), size);
             }
             assert_eq!(f.pair.counters(), [size as u32, 1, 0, 0, 0]);
             f.in_batches(&mut r);
@@ -1207,26 +1298,38 @@ fn hold_single(got: ours::ProcessResult, want: (ProcessResult, Said), h: &Heard)
     hold_safe("safe", &got, &want, h, |ours, theirs| (ours.payload, ours.len) == (theirs.payload, theirs.len));
 }
 
+/// A fresh pool as a program makes it.
+fn safe_pool(mode: Mode, size: usize) -> ours::Pool {
+    match mode {
+        Mode::AsOriginal => ours::Pool::new(size).unwrap(),
+        Mode::SetBackIsSilence => ours::Pool::with_mode(size, mode).unwrap(),
+    }
+}
+
 /// Pools as a program holds them, from fresh on: each of the calls in turn, and after each all that the methods read.
-pub fn safe_pools(seed: u64, steps: u64) -> u64 {
+pub fn safe_pools(mode: Mode, seed: u64, steps: u64) -> u64 {
     let mut r = Rng::new(seed);
     let mut done = 0;
     while done < steps {
         let size = any_size(&mut r);
         let list = LISTS[1 + r.below(5) as usize];
-        let (mut o, mut p) = (original(size, sorted(list)), ours::Pool::new(size).unwrap());
+        let (mut o, mut p) = (original(mode, size, sorted(list)), safe_pool(mode, size));
         let mut now = r.pick(&[0, 1000, u64::MAX - 5_000_000]);
         for _ in 0..500 {
             let slots: Vec<Slot> = (0..size).map(|k| o.slot(k)).collect();
-            now = if r.one_in(20) { now.saturating_sub(600) } else { now.saturating_add(r.pick(&[0, 1, 5, 5, 5, 500, 501])) };
-            let h = heard(&mut r, &slots, now);
+            now = match mode {
+                Mode::AsOriginal if r.one_in(20) => now.saturating_sub(600),
+                Mode::AsOriginal => now.saturating_add(r.pick(&[0, 1, 5, 5, 5, 500, 501])),
+                Mode::SetBackIsSilence => often_set_back(&mut r, now, 20, 6),
+            };
+            let h = heard(mode, &mut r, &slots, now);
             match r.below(4) {
                 0 => hold_single(p.process_frame(list, h.now, h.pgn, h.source, &h.data), asked(&mut *o, &h), &h),
                 1 => hold_single(p.receive(list, h.now, h.pgn, h.source, &h.data), asked(&mut *o, &h), &h),
                 2 => {
                     let n = r.below(10) as usize;
                     let got = p.process_frame_with_length(list, h.now, h.pgn, h.source, &h.data, n);
-                    if let Some(cut) = cut_short(list, &slots, &h, n) {
+                    if let Some(cut) = cut_short(mode, list, &slots, &h, n) {
                         answered("safe", kind_of(&got));
                         assert_eq!(kind_of(&got), set_cut_short(&mut *o, cut), "{h:?}, length {n}");
                     } else {
@@ -1237,7 +1340,7 @@ pub fn safe_pools(seed: u64, steps: u64) -> u64 {
                 _ => {
                     let (mut rows, mut want) = (Rows::default(), vec![]);
                     for _ in 0..r.below(6) {
-                        let h = heard(&mut r, &slots, now);
+                        let h = heard(mode, &mut r, &slots, now);
                         rows.push(h.now, h.pgn, h.source, h.data);
                         want.push(asked(&mut *o, &h));
                     }
@@ -1253,7 +1356,7 @@ pub fn safe_pools(seed: u64, steps: u64) -> u64 {
                 }
             }
             assert_eq!([p.expired_sessions(), p.pool_exhausted(), p.rejected_frames(), p.lost_fragments(), p.unknown_pgn()], o.counters());
-            assert!((0..size).all(|k| reads(&p, &*o, k)) && p.slot(size).is_none() && p.size() == size, "slots after {h:?}");
+            assert!((0..size).all(|k| reads(&p, &*o, k)) && p.slot(size).is_none() && (p.size(), p.mode()) == (size, mode), "slots after {h:?}");
             done += 1;
         }
     }

@@ -14,9 +14,18 @@ pub fn answered(call: &'static str, answer: u32) {
 /// A run on this thread: says how many steps it compared, and which answers it saw, on lines of their own (the test harness puts a sign for each test
 /// between them).
 pub fn run(name: &str, compared: impl FnOnce() -> u64) {
+    run_under("", name, compared);
+}
+
+/// The same of pools in No. 10's mode: its answers are counted apart.
+pub fn run_set_back(name: &str, compared: impl FnOnce() -> u64) {
+    run_under("set_back_", name, compared);
+}
+
+fn run_under(mode: &str, name: &str, compared: impl FnOnce() -> u64) {
     SEEN.take();
     let steps = compared();
-    let seen: String = SEEN.take().iter().map(|((call, answer), n)| format!("\nseen {call} {} {n}", answer_name(*answer))).collect();
+    let seen: String = SEEN.take().iter().map(|((call, answer), n)| format!("\nseen {mode}{call} {} {n}", answer_name(*answer))).collect();
     println!("\n{name}: {steps} steps alike{seen}");
 }
 

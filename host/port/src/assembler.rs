@@ -4,6 +4,34 @@ use crate::error::{never_given, ImpossiblePool, NoRoom};
 use crate::fast_packet::MAX_FAST_PACKET_PAYLOAD;
 use crate::raw;
 
+/// What a session is where now is earlier than its last time, because the clock was set back. Chosen when a pool is made; it stays with it.
+#[derive(Clone, Copy, Debug, Default, PartialEq, Eq)]
+pub enum Mode {
+    /// Silent for 0 ms, as in the original: it can live until the clock has come back.
+    #[default]
+    AsOriginal,
+    /// Silent over 500 ms: free and expired for a first frame, and no continuation finds it.
+    SetBackIsSilence,
+}
+
+impl Mode {
+    /// The number that it has at the entries.
+    pub fn number(self) -> u32 {
+        match self {
+            Self::AsOriginal => raw::AS_ORIGINAL,
+            Self::SetBackIsSilence => raw::SET_BACK_IS_SILENCE,
+        }
+    }
+    /// The other way round.
+    fn from_number(number: u32) -> Self {
+        match number {
+            raw::AS_ORIGINAL => Self::AsOriginal,
+            raw::SET_BACK_IS_SILENCE => Self::SetBackIsSilence,
+            other => never_given(other),
+        }
+    }
+}
+
 /// A pool of sessions and its five counters, as the calls leave them: no other way leads to one, so none is impossible.
 #[derive(Clone, Debug, PartialEq, Eq)]
 pub struct Pool {
@@ -22,7 +50,7 @@ pub enum ProcessResult<Message = CompletedMessage> {
     Rejected,
     /// A first frame began a message of 7 bytes or more, and no slot was free or had its key (`pool_exhausted`).
     PoolFull,
-    /// A continuation found no live session (a late one stays as it is), or it came out of turn or without a byte that its session
+    /// A continuation found no live session (a silent one stays as it is), or it came out of turn or without a byte that its session
     /// needs, which ended the session (`lost_fragments`).
     Lost,
     /// The frame was taken, and more of its message is missing.
@@ -79,10 +107,17 @@ pub struct Taken {
 }
 
 impl Pool {
-    /// A fresh pool of up to 32 slots, counters at 0; more slots are refused.
+    /// A fresh pool of up to 32 slots, as the original, counters at 0; more slots are refused.
     pub fn new(size: usize) -> Result<Self, ImpossiblePool> {
+        Self::made(|numbers| numbers.made_anew(size))
+    }
+    /// The same in a mode of one's choice.
+    pub fn with_mode(size: usize, mode: Mode) -> Result<Self, ImpossiblePool> {
+        Self::made(|numbers| numbers.made_with_mode(size, mode.number()))
+    }
+    fn made(call: impl FnOnce(&mut raw::Pool) -> u32) -> Result<Self, ImpossiblePool> {
         let mut pool = Self { numbers: raw::Pool::ZEROS, counters: [0; raw::COUNTERS] };
-        match pool.numbers.made_anew(size) {
+        match call(&mut pool.numbers) {
             0 => Ok(pool),
             ImpossiblePool::NUMBER => Err(ImpossiblePool),
             other => never_given(other),
@@ -91,6 +126,10 @@ impl Pool {
 
     pub fn size(&self) -> usize {
         self.numbers.size
+    }
+    /// The mode that it was made with.
+    pub fn mode(&self) -> Mode {
+        Mode::from_number(self.numbers.mode)
     }
     pub fn expired_sessions(&self) -> u32 {
         self.counters[0]
@@ -160,7 +199,7 @@ impl Pool {
 }
 
 impl Default for Pool {
-    /// Four slots.
+    /// Four slots, as the original.
     fn default() -> Self {
         let mut pool = Self { numbers: raw::Pool::ZEROS, counters: [0; raw::COUNTERS] };
         pool.numbers.made_by_default();

@@ -27,6 +27,11 @@ pub const FRAME_NUMBERS: usize = 3;
 pub const COUNTS: usize = 2;
 pub const VALUES: usize = 5;
 
+// ---- the modes of a pool: whether a slot whose last time is after now is silent over 500 ms; any other number is no mode
+
+pub const AS_ORIGINAL: u32 = 0;
+pub const SET_BACK_IS_SILENCE: u32 = 1;
+
 // ---- the kinds of an answer that is no refusal, of a single call and of a batch's row; 101 was Ignored, and is given no more
 
 pub const END: u32 = 100;
@@ -69,6 +74,7 @@ pub fn frame_iterator_next(builder: &[u64; BUILDER_NUMBERS], place: &mut [u64; P
 #[derive(Clone, Debug, PartialEq, Eq)]
 pub struct Pool {
     pub size: usize,
+    pub mode: u32,
     pub heads: [u64; POOL_HEADS],
     pub bytes: [u8; POOL_BYTES],
 }
@@ -95,25 +101,28 @@ impl Told {
 }
 
 impl Pool {
-    pub const ZEROS: Pool = Pool { size: 0, heads: [0; POOL_HEADS], bytes: [0; POOL_BYTES] };
+    pub const ZEROS: Pool = Pool { size: 0, mode: 0, heads: [0; POOL_HEADS], bytes: [0; POOL_BYTES] };
 
     pub fn made_anew(&mut self, size: usize) -> u32 {
-        hf_raw_pool_new(size, &mut self.heads, &mut self.bytes, &mut self.size)
+        hf_raw_pool_new(size, &mut self.heads, &mut self.bytes, &mut self.size, &mut self.mode)
     }
     pub fn made_by_default(&mut self) -> u32 {
-        hf_raw_pool_default(&mut self.heads, &mut self.bytes, &mut self.size)
+        hf_raw_pool_default(&mut self.heads, &mut self.bytes, &mut self.size, &mut self.mode)
+    }
+    pub fn made_with_mode(&mut self, size: usize, mode: u32) -> u32 {
+        hf_raw_pool_with_mode(size, mode, &mut self.heads, &mut self.bytes, &mut self.size, &mut self.mode)
     }
     #[inline]
     pub fn process_frame(
         &mut self, counters: &mut Counters, pgns: &[u32], now_ms: u64, pgn: u32, source_address: u8, data: &[u8; 8], payload: &mut [u8; MAX_FAST_PACKET_PAYLOAD], length: &mut usize,
     ) -> u32 {
-        unsafe { hf_raw_process_frame(self.size, &mut self.heads, &mut self.bytes, counters, pgns.as_ptr(), pgns.len(), now_ms, pgn, source_address, data, payload, length) }
+        unsafe { hf_raw_process_frame(self.size, self.mode, &mut self.heads, &mut self.bytes, counters, pgns.as_ptr(), pgns.len(), now_ms, pgn, source_address, data, payload, length) }
     }
     #[inline]
     pub fn receive(
         &mut self, counters: &mut Counters, pgns: &[u32], now_ms: u64, pgn: u32, source_address: u8, data: &[u8; 8], payload: &mut [u8; MAX_FAST_PACKET_PAYLOAD], length: &mut usize,
     ) -> u32 {
-        unsafe { hf_raw_receive(self.size, &mut self.heads, &mut self.bytes, counters, pgns.as_ptr(), pgns.len(), now_ms, pgn, source_address, data, payload, length) }
+        unsafe { hf_raw_receive(self.size, self.mode, &mut self.heads, &mut self.bytes, counters, pgns.as_ptr(), pgns.len(), now_ms, pgn, source_address, data, payload, length) }
     }
     pub fn process_frame_with_length(
         &mut self, counters: &mut Counters, pgns: &[u32], now_ms: u64, pgn: u32, source_address: u8, data: &[u8; 8], frame_length: usize, payload: &mut [u8; MAX_FAST_PACKET_PAYLOAD],
@@ -121,7 +130,7 @@ impl Pool {
     ) -> u32 {
         unsafe {
             hf_raw_process_frame_with_length(
-                self.size, &mut self.heads, &mut self.bytes, counters, pgns.as_ptr(), pgns.len(), now_ms, pgn, source_address, data, frame_length, payload, length,
+                self.size, self.mode, &mut self.heads, &mut self.bytes, counters, pgns.as_ptr(), pgns.len(), now_ms, pgn, source_address, data, frame_length, payload, length,
             )
         }
     }
@@ -131,7 +140,7 @@ impl Pool {
     ) -> u32 {
         unsafe {
             hf_raw_process_frames(
-                self.size, &mut self.heads, &mut self.bytes, counters, pgns.as_ptr(), pgns.len(), times.as_ptr(), times.len(), frame_pgns.as_ptr(), frame_pgns.len(),
+                self.size, self.mode, &mut self.heads, &mut self.bytes, counters, pgns.as_ptr(), pgns.len(), times.as_ptr(), times.len(), frame_pgns.as_ptr(), frame_pgns.len(),
                 sources.as_ptr(), sources.len(), data.as_ptr(), data.len(), kinds.as_mut_ptr(), kinds.len(), lengths.as_mut_ptr(), lengths.len(), arena.as_mut_ptr(), arena.len(), counts,
             )
         }

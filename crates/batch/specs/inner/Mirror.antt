@@ -10,7 +10,8 @@ use Rattle.base.specs.Pick.{pick}
 use Rattle.fast_packet.specs.FastPacket.{maxPayload}
 use Rattle.session.specs.declared.Head.{Head}
 use Rattle.session.specs.declared.Heard.{Heard}
-use Rattle.session.specs.Rules.{poolLimit, silence}
+use Rattle.session.specs.declared.Mode.{Mode}
+use Rattle.session.specs.Rules.{poolLimit, silentBy}
 use Rattle.session.specs.Frames.{sequenceOf, indexOf, sizeOf}
 use Rattle.session.specs.inner.Search.{firstOf}
 
@@ -52,30 +53,30 @@ firstFrom t i (suc n) = pick (t i) i (firstFrom t (suc i) n)
 unfoldable pub keyAt : List ℕ → ℕ → ℕ → Bool
 keyAt keys key j = eqb (getD keys j 0) key
 
-unfoldable pub openAt : List ℕ → List ℕ → ℕ → ℕ → Bool
-openAt keys lasts time j = eqb (getD keys j 0) 0 || silence time (getD lasts j 0)
+unfoldable pub openAt : Mode → List ℕ → List ℕ → ℕ → ℕ → Bool
+openAt mode keys lasts time j = eqb (getD keys j 0) 0 || silentBy mode time (getD lasts j 0)
 
-unfoldable pub ownAt : List ℕ → List ℕ → List ℕ → ℕ → ℕ → ℕ → Bool
-ownAt keys owners lasts source time j = openAt keys lasts time j && eqb (getD owners j 0) source
+unfoldable pub ownAt : Mode → List ℕ → List ℕ → List ℕ → ℕ → ℕ → ℕ → Bool
+ownAt mode keys owners lasts source time j = openAt mode keys lasts time j && eqb (getD owners j 0) source
 
-unfoldable pub liveAt : List ℕ → List ℕ → ℕ → ℕ → ℕ → Bool
-liveAt keys lasts key time j = eqb (getD keys j 0) key && not (silence time (getD lasts j 0))
+unfoldable pub liveAt : Mode → List ℕ → List ℕ → ℕ → ℕ → ℕ → Bool
+liveAt mode keys lasts key time j = eqb (getD keys j 0) key && not (silentBy mode time (getD lasts j 0))
 
 -- for a first frame: its key, else an open place of its source, else any
-unfoldable pub chosenIn : List ℕ → List ℕ → List ℕ → ℕ → ℕ → ℕ → ℕ → ℕ
-chosenIn keys owners lasts n key source time =
-    firstOf (firstFrom (keyAt keys key) 0 n) (firstOf (firstFrom (ownAt keys owners lasts source time) 0 n) (firstFrom (openAt keys lasts time) 0 n))
+unfoldable pub chosenIn : Mode → List ℕ → List ℕ → List ℕ → ℕ → ℕ → ℕ → ℕ → ℕ
+chosenIn mode keys owners lasts n key source time =
+    firstOf (firstFrom (keyAt keys key) 0 n) (firstOf (firstFrom (ownAt mode keys owners lasts source time) 0 n) (firstFrom (openAt mode keys lasts time) 0 n))
 
-unfoldable pub liveIn : List ℕ → List ℕ → ℕ → ℕ → ℕ → ℕ
-liveIn keys lasts n key time = firstFrom (liveAt keys lasts key time) 0 n
+unfoldable pub liveIn : Mode → List ℕ → List ℕ → ℕ → ℕ → ℕ → ℕ
+liveIn mode keys lasts n key time = firstFrom (liveAt mode keys lasts key time) 0 n
 
 -- a first frame that takes no slot
 unfoldable pub quiet : Heard → Bool
 quiet f = leb (sizeOf f) 6 || ltb maxPayload (sizeOf f)
 
 -- the place that a frame takes; where it takes none nothing is looked for
-unfoldable pub sought : List ℕ → List ℕ → List ℕ → ℕ → Bool → ℕ → Heard → ℕ
-sought keys owners lasts n listed key f =
+unfoldable pub sought : Mode → List ℕ → List ℕ → List ℕ → ℕ → Bool → ℕ → Heard → ℕ
+sought mode keys owners lasts n listed key f =
     pick listed
-    (pick (eqb (indexOf f) 0) (pick (quiet f) poolLimit (chosenIn keys owners lasts n key (f .«source_address») (f .«now_ms»))) (liveIn keys lasts n key (f .«now_ms»)))
+    (pick (eqb (indexOf f) 0) (pick (quiet f) poolLimit (chosenIn mode keys owners lasts n key (f .«source_address») (f .«now_ms»))) (liveIn mode keys lasts n key (f .«now_ms»)))
     poolLimit

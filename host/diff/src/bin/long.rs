@@ -1,6 +1,6 @@
 //! Differential runs of any length, on all processors: cargo run --offline --release --bin long [steps] [first seed].
 //! Every thread takes the next seed, runs its share of each subject and says what it did; the first difference panics.
-use diff::{bench, frames, ids, receive};
+use diff::{bench, clock::MODES, frames, ids, receive};
 use std::sync::atomic::{AtomicU64, Ordering};
 use std::time::Instant;
 
@@ -18,11 +18,14 @@ fn main() {
                 s.spawn(|| {
                     while done.load(Ordering::SeqCst) < wanted {
                         let k = seed.fetch_add(1, Ordering::SeqCst);
-                        let mut steps = receive::traffic(k, SHARE * 4 / 10);
-                        steps += receive::any_pool(k, SHARE * 2 / 10);
-                        steps += receive::batches(k, SHARE * 2 / 10);
-                        steps += receive::slots_chosen(k, SHARE / 20);
-                        steps += receive::impossible_pools(k, SHARE / 20);
+                        let mut steps = 0;
+                        for mode in MODES {
+                            steps += receive::traffic(mode, k, SHARE * 2 / 10);
+                            steps += receive::any_pool(mode, k, SHARE / 10);
+                            steps += receive::batches(mode, k, SHARE / 10);
+                            steps += receive::slots_chosen(mode, k, SHARE / 40);
+                            steps += receive::impossible_pools(mode, k, SHARE / 40);
+                        }
                         steps += frames::random(k, SHARE / 20);
                         steps += ids::random(k, SHARE / 20);
                         steps += bench::random(k, SHARE / 20);

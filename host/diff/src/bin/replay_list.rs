@@ -4,8 +4,11 @@
 //!
 //! The calls are made by a generator with a fixed seed: runs of several senders with losses, repeats, damage, silences around
 //! 500 ms and a clock that goes back, on pools of 0 to 8; builders at any place; and pools of 9, 17, 31 and 32 with all slots in use.
+//! Then pools of the mode in which a clock that was set back is silence, with a clock that is often set, for which the original is asked
+//! on a clock of its own; and one as the original again.
+use diff::clock::OnItsOwnClock;
 use diff::ids;
-use diff::receive::{self, asked, message_of, Heard, Original};
+use diff::receive::{self, asked, message_of, often_set_back, seldom_set_back, Heard, Original};
 use diff::rng::Rng;
 use diff::tally::answer_name;
 use reference::hooks::{Parts, Progress};
@@ -21,26 +24,31 @@ fn hex(bytes: &[u8]) -> String {
     bytes.iter().map(|b| format!("{b:02X}")).collect()
 }
 
+/// How a clock goes on: from this reading, now and then otherwise (once in so many), else by less than this.
+type Clock = fn(&mut Rng, u64, u64, u64) -> u64;
+
 fn run<const N: usize>(r: &mut Rng, frames: usize, calls: &mut String, answers: &mut String) {
-    let mut a = FastPacketAssembler::<N>::with_pool(LIST);
+    run_on(FastPacketAssembler::<N>::with_pool(LIST), seldom_set_back, N, r, frames, calls, answers);
+}
+
+/// The same in the mode of a clock that was set back.
+fn run_set_back<const N: usize>(r: &mut Rng, frames: usize, calls: &mut String, answers: &mut String) {
+    run_on(OnItsOwnClock::<N>::with_pool(LIST), often_set_back, N, r, frames, calls, answers);
+}
+
+fn run_on(mut a: impl Original, clock: Clock, size: usize, r: &mut Rng, frames: usize, calls: &mut String, answers: &mut String) {
     let mut now = r.pick(&[0, 1000, u64::MAX - 1_000_000]);
     let mut senders: Vec<(u8, u32, Vec<[u8; 8]>, usize)> = vec![];
     // more senders of longer messages, closer frames and fewer silences, so that a large pool fills up too
-    let (most, pace, steady) = if N > 8 { (2 * N, 3, 1000) } else { (N + 3, 20, 30) };
+    let (most, pace, steady) = if size > 8 { (2 * size, 3, 1000) } else { (size + 3, 20, 30) };
     let mut filled = false;
     for i in 0..frames {
-        match r.below(steady) {
-            0 => now = now.saturating_add(501),
-            1 => now = now.saturating_sub(600),
-            2 => now = now.saturating_add(500),
-            3 => now = now.saturating_add(499),
-            _ => now = now.saturating_add(r.below(pace)),
-        }
+        now = clock(r, now, steady, pace);
         if senders.is_empty() || senders.len() < most && r.one_in(3) {
             let len = if r.one_in(2) { r.pick(&[1, 5, 6, 7, 13, 14, 20, 26]) } else { 1 + r.below(40) as usize };
-            let len = if N > 8 { 40 + r.below(80) as usize } else if r.one_in(20) { 223 } else { len };
+            let len = if size > 8 { 40 + r.below(80) as usize } else if r.one_in(20) { 223 } else { len };
             let payload = r.vec(len);
-            senders.push((r.below(N as u64 + 2) as u8, r.pick(&[127_489, 127_489, 129_029, 5]), receive::frames(r.below(8) as u8, &payload), 0));
+            senders.push((r.below(size as u64 + 2) as u8, r.pick(&[127_489, 127_489, 129_029, 5]), receive::frames(r.below(8) as u8, &payload), 0));
         }
         let k = r.below(senders.len() as u64) as usize;
         let (source, pgn, fs, at) = &mut senders[k];
@@ -54,14 +62,14 @@ fn run<const N: usize>(r: &mut Rng, frames: usize, calls: &mut String, answers: 
         if *at >= fs.len() || r.one_in(60) {
             senders.swap_remove(k);
         }
-        let first = if i == 0 { char::from_digit(N as u32, 36).unwrap() } else { '.' };
+        let first = if i == 0 { char::from_digit(size as u32, 36).unwrap() } else { '.' };
         writeln!(calls, "{first}{now:016X}{pgn:08X}{source:02X}{}", hex(&data)).unwrap();
         let (result, said) = asked(&mut a, &Heard { now, pgn, source, data });
         let (kind, c) = (answer_name(said.kind), a.counters());
         writeln!(answers, "{kind} {} {} {} {} {} {}", c[0], c[1], c[2], c[3], c[4], hex(message_of(&result))).unwrap();
-        filled |= (0..N).all(|k| Original::slot(&a, k).in_progress);
+        filled |= (0..size).all(|k| a.slot(k).in_progress);
     }
-    assert!(N <= 8 || filled, "all slots of {N} in use at some time");
+    assert!(size <= 8 || filled, "all slots of {size} in use at some time");
 }
 
 fn build(r: &mut Rng, calls: &mut String, answers: &mut String) {
@@ -78,14 +86,11 @@ fn build(r: &mut Rng, calls: &mut String, answers: &mut String) {
         fast: !r.one_in(3) || len > 8,
     };
     let index = r.byte();
-    let mut line = format!(
+    let line = format!(
         "B{:08X}{:02X}{:04X}{:02X}{:02X}{:02X}{index:02X}{sent:04X}{len:04X}",
         p.pgn, p.source, p.destination.map_or(256, u16::from), p.priority, p.sequence, p.fast as u8
     );
-    while line.len() < 43 {
-        line.push('.');
-    }
-    writeln!(calls, "{line}").unwrap();
+    writeln!(calls, "{line:.<43}").unwrap();
     stand_for(LIST);
     let mut it = FastPacketBuilder::new(0, 0, None, &payload[..len]).build();
     it.set_parts(p);
@@ -115,8 +120,15 @@ fn main() {
     for one in [run::<9>, run::<17>, run::<31>, run::<32>] {
         one(&mut r, 400, &mut calls, &mut answers);
     }
+    writeln!(calls, "{:.<43}", "M01").unwrap();
+    for one in [run_set_back::<1>, run_set_back::<2>, run_set_back::<4>, run_set_back::<8>] {
+        one(&mut r, 150, &mut calls, &mut answers);
+    }
+    run_set_back::<32>(&mut r, 400, &mut calls, &mut answers);
+    writeln!(calls, "{:.<43}", "M00").unwrap();
+    run::<4>(&mut r, 150, &mut calls, &mut answers);
     let dir = concat!(env!("CARGO_MANIFEST_DIR"), "/../../crates/replay/");
     std::fs::write(format!("{dir}stdin"), &calls).unwrap();
     std::fs::write(format!("{dir}stdout"), &answers).unwrap();
-    println!("{} calls", calls.lines().count());
+    println!("{} calls", answers.lines().count());
 }

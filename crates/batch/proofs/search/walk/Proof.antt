@@ -6,7 +6,7 @@ use lib.ListN.{length}
 use native.Mathlib.Omega.{arith}
 use borrow.Author.Tests.{le-ltb}
 use Rattle.base.specs.Pick.{pick}
-use Rattle.session.specs.Rules.{base, poolLimit}
+use Rattle.session.specs.Rules.{rulesBy, poolLimit}
 use Rattle.session.specs.inner.Search.{nothingFound}
 use Rattle.assembler.proofs.Copies.{length-unmap}
 use Rattle.session.proofs.Walks.{Walk, crowded, walk-start, walk-turn, walk-done}
@@ -14,10 +14,10 @@ use Rattle.batch.proofs.search.walk.Statement.{statement}
 use Rattle.batch.proofs.search.walk.Tie as tie
 
 abbrev Inv-loop : tie.InvT-loop
-Inv-loop size heard heads s₀ i₀ s i = (i ≤ poolLimit) × (length heads ≡ poolLimit) × Walk base heard size heads s i
+Inv-loop mode size heard heads s₀ i₀ s i = (i ≤ poolLimit) × (length heads ≡ poolLimit) × Walk (rulesBy mode) heard size heads s i
 
 abbrev μ-loop : tie.MeasureT-loop
-μ-loop size heard heads s₀ i₀ s i = i
+μ-loop mode size heard heads s₀ i₀ s i = i
 
 returns : tie.Need-returns Inv-loop μ-loop
 returns c =
@@ -28,11 +28,11 @@ loop-holds : tie.Need-loop-holds Inv-loop μ-loop
 unfolding pick
 loop-holds c =
     let a = c .before .before .args in
-    let long : length (a .t1) ≡ poolLimit = search (needs, length-unmap) in
+    let long : length (a .t2) ≡ poolLimit = search (needs, length-unmap) in
     let low : a .size ≤ poolLimit = c .before .if1 .left in
     let small = le-ltb poolLimit (a .size) low in
-    let walk : Walk base (a .heard) (a .size) (a .t1) (c .nothing-found2 .result) (a .size) =
-    walk-start base (a .heard) (a .size) (a .t1) long _ _ (c .nothing-found2 .ensures ∙ ap nothingFound (sym small)) (rw small) in
+    let walk : Walk (rulesBy (a .mode)) (a .heard) (a .size) (a .t2) (c .nothing-found2 .result) (a .size) =
+    walk-start (rulesBy (a .mode)) (a .heard) (a .size) (a .t2) long _ _ (c .nothing-found2 .ensures ∙ ap nothingFound (sym small)) (rw small) in
     (low, long, walk)
 
 loop-again : tie.Need-loop-again Inv-loop μ-loop

@@ -12,11 +12,11 @@ use Rattle.batch.proofs.walks.first_stop.Statement.{statement}
 use Rattle.batch.proofs.walks.first_stop.Tie as tie
 
 abbrev Inv-loop : tie.InvT-loop
-Inv-loop keys lasts size key time s₀ s =
-    (s ≤ size) × (size ≤ poolLimit) × (length keys ≡ poolLimit) × (length lasts ≡ poolLimit) × Past (keyAt keys key) 0 s × Past (openAt keys lasts time) 0 s
+Inv-loop mode keys lasts size key time s₀ s =
+    (s ≤ size) × (size ≤ poolLimit) × (length keys ≡ poolLimit) × (length lasts ≡ poolLimit) × Past (keyAt keys key) 0 s × Past (openAt mode keys lasts time) 0 s
 
 abbrev μ-loop : tie.MeasureT-loop
-μ-loop keys lasts size key time s₀ s = size - s
+μ-loop mode keys lasts size key time s₀ s = size - s
 
 loop-holds : tie.Need-loop-holds Inv-loop μ-loop
 loop-holds c = (omega arith, c .pre .2, c .pre .0, c .pre .1, past-none _ _, past-none _ _)

@@ -12,12 +12,12 @@ use Rattle.batch.proofs.walks.own_stop.Statement.{statement}
 use Rattle.batch.proofs.walks.own_stop.Tie as tie
 
 abbrev Inv-loop : tie.InvT-loop
-Inv-loop keys owners lasts from size key source time s₀ s =
+Inv-loop mode keys owners lasts from size key source time s₀ s =
     (s < size) × (size ≤ poolLimit) × (length keys ≡ poolLimit) × (length owners ≡ poolLimit) × (length lasts ≡ poolLimit)
-    × Past (keyAt keys key) from (s + 1) × Past (ownAt keys owners lasts source time) from s
+    × Past (keyAt keys key) from (s + 1) × Past (ownAt mode keys owners lasts source time) from s
 
 abbrev μ-loop : tie.MeasureT-loop
-μ-loop keys owners lasts from size key source time s₀ s = size - s
+μ-loop mode keys owners lasts from size key source time s₀ s = size - s
 
 loop-holds : tie.Need-loop-holds Inv-loop μ-loop
 loop-holds c = (c .pre .3, c .pre .4, c .pre .0, c .pre .1, c .pre .2, past-turn _ _ _ (past-none _ _) (c .pre .5), past-none _ _)
@@ -32,7 +32,7 @@ returns-2 : tie.Need-returns-2 Inv-loop μ-loop
 returns-2 c =
     let inv = c .before .before .before .before .before .before .before .loop .inv in
     let leapt = c .before .past-others .ensures in
-    past-all _ _ _ _ _ (leapt .0) (c .if2 .taken) (past-join _ _ _ _ (inv .5) (leapt .1)) (past-leap _ _ _ _ _ _ _ _ (inv .6) (own-fails _ _ _ _ _ _ _ (c .before .before .before .is-own .ensures) (c .before .before .if1 .left)) (leapt .2))
+    past-all _ _ _ _ _ (leapt .0) (c .if2 .taken) (past-join _ _ _ _ (inv .5) (leapt .1)) (past-leap _ _ _ _ _ _ _ _ _ (inv .6) (own-fails _ _ _ _ _ _ _ _ (c .before .before .before .is-own .ensures) (c .before .before .if1 .left)) (leapt .2))
 
 returns-3 : tie.Need-returns-3 Inv-loop μ-loop
 returns-3 c =
@@ -47,7 +47,7 @@ loop-again : tie.Need-loop-again Inv-loop μ-loop
 loop-again c =
     let inv = c .before .before .before .before .before .before .before .before .before .loop .inv in
     let leapt = c .before .before .before .past-others .ensures in
-    (c .before .before .if2 .left, inv .1, inv .2, inv .3, inv .4, past-turn _ _ _ (past-join _ _ _ _ (inv .5) (leapt .1)) (key-gone _ _ _ (c .if3 .left)), past-leap _ _ _ _ _ _ _ _ (inv .6) (own-fails _ _ _ _ _ _ _ (c .before .before .before .before .before .is-own .ensures) (c .before .before .before .before .if1 .left)) (leapt .2))
+    (c .before .before .if2 .left, inv .1, inv .2, inv .3, inv .4, past-turn _ _ _ (past-join _ _ _ _ (inv .5) (leapt .1)) (key-gone _ _ _ (c .if3 .left)), past-leap _ _ _ _ _ _ _ _ _ (inv .6) (own-fails _ _ _ _ _ _ _ _ (c .before .before .before .before .before .is-own .ensures) (c .before .before .before .before .if1 .left)) (leapt .2))
 
 pub own-stop-spec : {M : Type 1} → statement M
 own-stop-spec =

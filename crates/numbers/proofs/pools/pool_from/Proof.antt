@@ -9,4 +9,6 @@ pool-from-spec =
     tie.close
     (tie.spec
     (λ c κs. search needs)
-    (λ c. pool-by _ _ _ (c .before .heads-from .ensures)))
+    (λ c κs. search needs)
+    (λ c κs. search needs)
+    (λ c. pool-by _ _ _ _ (c .before .before .before .heads-from .ensures) (c .before .mode-from .ensures) (c .size-under .ensures)))
