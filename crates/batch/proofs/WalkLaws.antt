@@ -1,5 +1,5 @@
 -- The cases of the tests of one place, how far a walk has come, and that the one walk's choice is that of three. Assumes nothing.
-use Prim.Native.Nat.{ℕ, zero, suc, _+_, _-_, _≤_, _<_}
+use Prim.Native.Nat.{ℕ, zero, suc, _+_, _-_, _%_, _≤_, _<_}
 use mathlib.Core.Path.{_≡_, refl, sym, ap, _∙_}
 use mathlib.Core.Bool.{Bool, true, false, not, _&&_, _||_, true≢false}
 use mathlib.Core.List.{List}
@@ -18,26 +18,34 @@ use Rattle.session.specs.inner.Search.{firstOf}
 use Rattle.session.proofs.SearchLaws.{first-here}
 use Rattle.batch.specs.declared.walks.Stop.{Stop}
 use Rattle.batch.specs.inner.Mirror.{firstFrom, keyAt, openAt, ownAt, liveAt, chosenIn}
-use Rattle.batch.specs.inner.Walks.{ownerAt, inFour, Past, Stops, keyed, other, nowhere}
+use Rattle.batch.specs.inner.Walks.{clockEnd, heardWithin, ownerAt, inFour, Past, Stops, keyed, other, nowhere}
 
 -- ---- tests of one place
 
 module _ (time last : ℕ) where
-  late-since : (b : ℕ) → b ≡ time - 500 → ltb last b ≡ silence time last
-  unfolding silence
-  late-since b e =
-      rw e
-      (less? last (time - 500)
-      (λ l. lt-ltb last (time - 500) l ∙ sym (lt-ltb 500 (time - last) (omega arith)))
-      (λ l. le-ltb last (time - 500) l ∙ sym (le-ltb 500 (time - last) (omega arith))))
+  -- d is how far the last time is after 500 before now, coming round
+  module _ (early : time ≤ clockEnd) (small : last ≤ clockEnd) (d : ℕ) (less : d ≤ clockEnd) (round : (d + (time - 500)) % (clockEnd + 1) ≡ last) where
+    to-the-end : ltb (clockEnd - (time - 500)) d ≡ silence time last
+    unfolding silence
+    to-the-end =
+        less? last (time - 500)
+        (λ l. lt-ltb (clockEnd - (time - 500)) d (omega (arith, round)) ∙ sym (lt-ltb 500 (time - last) (omega arith)))
+        (λ l. le-ltb (clockEnd - (time - 500)) d (omega (arith, round)) ∙ sym (le-ltb 500 (time - last) (omega arith)))
 
-  pub silent-since : (mode : Mode) → mode ≡ AsOriginal → (b : ℕ) → b ≡ time - 500 → ltb last b ≡ silentBy mode time last
-  unfolding silentBy
-  silent-since mode m b e = rw m (late-since b e)
+    up-to-now : ltb (time - (time - 500)) d ≡ (silence time last || ltb time last)
+    unfolding silence
+    up-to-now =
+        less? last (time - 500)
+        (λ l. lt-ltb (time - (time - 500)) d (omega (arith, round)) ∙ rw (lt-ltb 500 (time - last) (omega arith)) refl)
+        (λ l. rw (le-ltb 500 (time - last) (omega arith))
+        (less? time last
+        (λ y. lt-ltb (time - (time - 500)) d (omega (arith, round)) ∙ sym (lt-ltb time last y))
+        (λ n. le-ltb (time - (time - 500)) d (omega (arith, round)) ∙ sym (le-ltb time last n))))
 
-  pub silent-or-back : (mode : Mode) → mode ≡ SetBackIsSilence → (b : ℕ) → b ≡ time - 500 → (ltb last b || ltb time last) ≡ silentBy mode time last
-  unfolding silentBy
-  silent-or-back mode m b e = rw (m, late-since b e)
+    pub silent-is : (mode : Mode) (c : ℕ) → c ≡ heardWithin mode time → ltb c d ≡ silentBy mode time last
+    unfolding silentBy heardWithin
+    silent-is AsOriginal c e = rw e to-the-end
+    silent-is SetBackIsSilence c e = rw e up-to-now
 
   module _ (mode : Mode) where
     pub open-is : (k : ℕ) (b : Bool) → b ≡ silentBy mode time last → (eqb k 0 || b) ≡ (eqb k 0 || silentBy mode time last)

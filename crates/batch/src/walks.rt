@@ -7,7 +7,7 @@ ghost use lib.Dec.{eqb};
 ghost use Rattle.session.specs.Rules.{poolLimit, silentBy};
 ghost use Rattle.session.specs.inner.Search.{firstOf};
 ghost use Rattle.batch.specs.inner.Mirror.{firstFrom, keyAt, openAt, ownAt, chosenIn, liveIn};
-ghost use Rattle.batch.specs.inner.Walks.{ownerAt, inFour, Past, Stops};
+ghost use Rattle.batch.specs.inner.Walks.{heardWithin, ownerAt, inFour, Past, Stops};
 use session::Mode;
 use session::POOL_LIMIT;
 use session::SESSION_TIMEOUT_MS;
@@ -25,15 +25,22 @@ fn silent_before(time: u64) -> u64
     }
 }
 
-// One comparison a place, or two: what it is compared with stays the same on a walk.
+// How far after that one a last time is not silent either: up to now where a clock that was set back is silence, as the original to the clock's end.
+fn heard_within(mode: Mode, time: u64) -> u64
+    ensures { λ r. ⌜ r ≡ heardWithin mode time ⌝ }
+{
+    let from = silent_before(time);
+    match mode {
+        Mode::AsOriginal => u64::MAX - from,
+        Mode::SetBackIsSilence => time - from,
+    }
+}
+
+// One comparison a place, in either mode, and what it is compared with stays the same on a walk: a last time that is too early comes round to a larger number.
 fn is_silent(mode: Mode, time: u64, last: u64) -> bool
     ensures { λ r. ⌜ r ≡ silentBy mode time last ⌝ }
 {
-    let late = last < silent_before(time);
-    match mode {
-        Mode::AsOriginal => late,
-        Mode::SetBackIsSilence => late | (time < last),
-    }
+    heard_within(mode, time) < std::num::wrapping_sub_u64(last, silent_before(time))
 }
 
 fn is_open(mode: Mode, key: u64, time: u64, last: u64) -> bool

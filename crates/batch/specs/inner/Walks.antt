@@ -2,11 +2,22 @@
 use mathlib.Core.Bool.{Bool, true, false, _||_}
 use mathlib.Core.List.{List}
 use mathlib.Core.Path.{_≡_}
-use Prim.Native.Nat.{ℕ, _+_, _≤_, _<_}
+use Prim.Native.Nat.{ℕ, _+_, _-_, _≤_, _<_}
 use lib.ListN.{getD}
 use lib.Dec.{eqb}
+use Rattle.session.specs.declared.Mode.{Mode}
+use Rattle.session.specs.declared.Mode.the-variants.{AsOriginal, SetBackIsSilence}
 use Rattle.session.specs.Rules.{poolLimit}
 use Rattle.batch.specs.declared.walks.Stop.{Stop}
+
+-- the clock's last reading
+abbrev pub clockEnd : ℕ
+clockEnd = 18446744073709551615
+
+-- how far the last times that are not silent reach, from 500 before now on: up to now where a clock set back is silence, else to the clock's end
+unfoldable pub heardWithin : Mode → ℕ → ℕ
+heardWithin AsOriginal time = clockEnd - (time - 500)
+heardWithin SetBackIsSilence time = time - (time - 500)
 
 unfoldable pub ownerAt : List ℕ → ℕ → ℕ → Bool
 ownerAt owners source j = eqb (getD owners j 0) source
