@@ -31,6 +31,7 @@ use Rattle.session.specs.inner.Search.{seen, seenIf, foundIn, firstOf, placeOf,
 use Rattle.session.specs.inner.Plan.{idle, planOpen, planShort, planSized, planFirst, planCopy, planTurn, planNext, planIndex, planSent, planListed, planOf}
 use Rattle.base.proofs.Bools.{or-left, or-right}
 use Rattle.session.proofs.Cuts.{eight-sent, eight-bad}
+use Rattle.session.proofs.SearchLaws.{same-limit}
 use Rattle.session.proofs.Seen.{place, seen-key, seen-live, seen-own, seen-free}
 use Rattle.assembler.specs.declared.Pool.{Pool}
 use Rattle.assembler.specs.declared.Received.{Received}
@@ -225,10 +226,6 @@ next-short f h = turn-short f h _
 
 -- ---- the search's place carries the frame out
 
-limit : (mode : Mode) → rulesBy mode .limit ≡ poolLimit
-unfolding rulesBy
-limit mode = refl
-
 pub small-of : (mode : Mode) (p : Pool) → impossible (rulesBy mode) (slotsOf p) ≡ false → p .size ≤ poolLimit
 unfolding impossible slotsOf rulesBy
 small-of mode p fine = ltb-false poolLimit (p .size) (or-left (ltb poolLimit (p .size)) _ fine)
@@ -246,7 +243,7 @@ module _ (mode : Mode) (l : List ℕ) (f : Heard) (p : Pool) (k : Counters) (w :
   at-real t et =
       rw et
       (subst (λ (b : Bool). Does f p k (planOf b (listedIn (f .pgn) l) (ltb real poolLimit) (rulesBy mode) f (getD (p .heads) (withinLimit real) e)) (withinLimit real) (receiveOf (rulesBy mode) l f p k))
-      (looked-at (rulesBy mode) f p (limit mode) ∙ fine) (receives (rulesBy mode) f p k w eight e l (limit mode)))
+      (looked-at (rulesBy mode) f p (same-limit mode) ∙ fine) (receives (rulesBy mode) f p k w eight e l (same-limit mode)))
 
   at-unlisted : (i : ℕ) → At false real → At false i
   unfolding planOf planListed

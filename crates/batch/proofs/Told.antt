@@ -18,6 +18,7 @@ use Rattle.session.specs.declared.Mode.{Mode}
 use Rattle.session.specs.Rules.{rulesBy, poolLimit}
 use Rattle.session.specs.Heads.{freshHead}
 use Rattle.session.specs.inner.Search.{withinLimit}
+use Rattle.session.proofs.SearchLaws.{same-limit}
 use Rattle.assembler.specs.declared.Pool.{Pool}
 use Rattle.assembler.specs.declared.Received.{Received}
 use Rattle.assembler.specs.Slots.{impossible}
@@ -43,10 +44,6 @@ said-kind (ignored lost) = (omega arith, omega arith)
 said-kind consumed = (omega arith, omega arith)
 said-kind (complete bytes n) = (omega arith, omega arith)
 
-limit : (mode : Mode) → rulesBy mode .limit ≡ poolLimit
-unfolding rulesBy
-limit mode = refl
-
 within-low : (i : ℕ) → withinLimit i < poolLimit
 unfolding withinLimit
 within-low i = go (ltb i poolLimit) refl
@@ -66,7 +63,7 @@ module _ (mode : Mode) (l : List ℕ) (f : Heard) (p : Pool) (k : Counters) wher
       subst Whole is (unfold carried in record { heads = simp length-set (w .heads); bytes = slot-long _ f p w eight g d low (does .fits) refl })
 
   answer-whole : Whole p → length (f .«data») ≡ 8 → Whole (receiveOf (rulesBy mode) l f p k .pool)
-  answer-whole w eight = does-whole _ _ (within-low _) w eight (receives (rulesBy mode) f p k w eight freshHead l (limit mode))
+  answer-whole w eight = does-whole _ _ (within-low _) w eight (receives (rulesBy mode) f p k w eight freshHead l (same-limit mode))
 
 -- ---- all answers
 

@@ -61,3 +61,8 @@ pub look-is : (m : Mode) (f : Heard) (h : Head) (s : Found) (i : ℕ) (silent ke
     → record { bad = bad || s .bad; key = key; live = live; own = own; free = free } ≡ looked (rulesBy m) f i h s
 unfolding looked isFree isFreeOfSource hasLiveKey hasKey isSilent base rulesBy
 look-is m f h s i silent keyed bad key live own free es ek eb e1 e2 e3 e4 = rw (e1, e2, e3, e4, es, ek, eb)
+
+-- ---- the limit is the same in every mode
+pub same-limit : (mode : Mode) → rulesBy mode .limit ≡ poolLimit
+unfolding rulesBy
+same-limit mode = refl

@@ -4,19 +4,15 @@ use Prim.Native.Nat.{_≤_}
 use mathlib.Core.Path.{_≡_, refl}
 use lib.ListN.{length}
 use native.Mathlib.Omega.{arith}
-use Rattle.session.specs.declared.Mode.{Mode}
 use Rattle.session.specs.Rules.{rulesBy, poolLimit}
 use Rattle.assembler.specs.Promises.{rulesOf}
 use Rattle.assembler.proofs.Copies.{length-unmap}
 use Rattle.assembler.proofs.Views.{Whole}
+use Rattle.session.proofs.SearchLaws.{same-limit}
 use Rattle.session.proofs.Walks.{Walk, walk-start, walk-low, walk-turn, walk-done}
 use Rattle.assembler.proofs.Carries.{planned, answered, slot-long, payload-long}
 use Rattle.assembler.proofs.receiving.receive_heard.Statement.{statement}
 use Rattle.assembler.proofs.receiving.receive_heard.Tie as tie
-
-limit : (mode : Mode) → rulesBy mode .limit ≡ poolLimit
-unfolding rulesBy
-limit mode = refl
 
 abbrev Inv-loop : tie.InvT-loop
 Inv-loop counters pgns heard q crowded s₀ i₀ s i = (i ≤ poolLimit) × Whole q × (length (heard .«data») ≡ 8) × Walk (rulesBy (q .mode)) heard (q .size) (q .heads) s i
@@ -42,7 +38,7 @@ add-store c =
     let a = q .before .before .before .before .before .before .before .before .before .before .args in
     let inv = q .before .before .before .before .before .before .loop .inv in
     let seen = walk-done _ _ _ _ _ _ (inv .3) (q .before .before .before .before .before .loop-test .left) in
-    let fits = planned (rulesBy (a .pool .mode)) (limit (a .pool .mode)) _ (a .heard) (a .pool) (a .counters) (inv .1) (inv .2) _ _ _ _ _ _ seen (q .before .before .before .before .is-listed .ensures) (q .before .before .before .place-for .ensures) (q .before .before .within-limit .ensures .0) (q .decide .ensures) .fits in
+    let fits = planned (rulesBy (a .pool .mode)) (same-limit (a .pool .mode)) _ (a .heard) (a .pool) (a .counters) (inv .1) (inv .2) _ _ _ _ _ _ seen (q .before .before .before .before .is-listed .ensures) (q .before .before .before .place-for .ensures) (q .before .before .within-limit .ensures .0) (q .decide .ensures) .fits in
     let low = q .before .before .within-limit .ensures .1 in
     omega (arith, fits .room, low)
 
@@ -52,7 +48,7 @@ store-requires c κs =
     let a = q .before .before .before .before .before .before .before .before .before .before .args in
     let inv = q .before .before .before .before .before .before .loop .inv in
     let seen = walk-done _ _ _ _ _ _ (inv .3) (q .before .before .before .before .before .loop-test .left) in
-    let fits = planned (rulesBy (a .pool .mode)) (limit (a .pool .mode)) _ (a .heard) (a .pool) (a .counters) (inv .1) (inv .2) _ _ _ _ _ _ seen (q .before .before .before .before .is-listed .ensures) (q .before .before .before .place-for .ensures) (q .before .before .within-limit .ensures .0) (q .decide .ensures) .fits in
+    let fits = planned (rulesBy (a .pool .mode)) (same-limit (a .pool .mode)) _ (a .heard) (a .pool) (a .counters) (inv .1) (inv .2) _ _ _ _ _ _ seen (q .before .before .before .before .is-listed .ensures) (q .before .before .before .place-for .ensures) (q .before .before .within-limit .ensures .0) (q .decide .ensures) .fits in
     let low = q .before .before .within-limit .ensures .1 in
     (inv .1 .bytes, omega (arith, fits .room, low), omega (arith, fits .there))
 
@@ -62,7 +58,7 @@ deliver-requires c κs =
     let a = q .before .before .before .before .before .before .before .before .before .before .args in
     let inv = q .before .before .before .before .before .before .loop .inv in
     let seen = walk-done _ _ _ _ _ _ (inv .3) (q .before .before .before .before .before .loop-test .left) in
-    let fits = planned (rulesBy (a .pool .mode)) (limit (a .pool .mode)) _ (a .heard) (a .pool) (a .counters) (inv .1) (inv .2) _ _ _ _ _ _ seen (q .before .before .before .before .is-listed .ensures) (q .before .before .before .place-for .ensures) (q .before .before .within-limit .ensures .0) (q .decide .ensures) .fits in
+    let fits = planned (rulesBy (a .pool .mode)) (same-limit (a .pool .mode)) _ (a .heard) (a .pool) (a .counters) (inv .1) (inv .2) _ _ _ _ _ _ seen (q .before .before .before .before .is-listed .ensures) (q .before .before .before .place-for .ensures) (q .before .before .within-limit .ensures .0) (q .decide .ensures) .fits in
     let low = q .before .before .within-limit .ensures .1 in
     (refl, slot-long _ (a .heard) (a .pool) (inv .1) (inv .2) _ _ low fits (c .before .before .before .store .ensures), fits .whole, omega (arith, fits .whole, low))
 
@@ -72,7 +68,7 @@ deliver-short-requires c κs =
     let a = q .before .before .before .before .before .before .before .before .before .before .args in
     let inv = q .before .before .before .before .before .before .loop .inv in
     let seen = walk-done _ _ _ _ _ _ (inv .3) (q .before .before .before .before .before .loop-test .left) in
-    let fits = planned (rulesBy (a .pool .mode)) (limit (a .pool .mode)) _ (a .heard) (a .pool) (a .counters) (inv .1) (inv .2) _ _ _ _ _ _ seen (q .before .before .before .before .is-listed .ensures) (q .before .before .before .place-for .ensures) (q .before .before .within-limit .ensures .0) (q .decide .ensures) .fits in
+    let fits = planned (rulesBy (a .pool .mode)) (same-limit (a .pool .mode)) _ (a .heard) (a .pool) (a .counters) (inv .1) (inv .2) _ _ _ _ _ _ seen (q .before .before .before .before .is-listed .ensures) (q .before .before .before .place-for .ensures) (q .before .before .within-limit .ensures .0) (q .decide .ensures) .fits in
     let low = q .before .before .within-limit .ensures .1 in
     let long = slot-long _ (a .heard) (a .pool) (inv .1) (inv .2) _ _ low fits (c .before .before .before .before .before .store .ensures) in
     (payload-long _ _ _ _ low fits long (c .before .deliver .ensures), fits .short)
@@ -83,7 +79,7 @@ add-t21 c =
     let a = q .before .before .before .before .before .before .before .before .before .before .args in
     let inv = q .before .before .before .before .before .before .loop .inv in
     let seen = walk-done _ _ _ _ _ _ (inv .3) (q .before .before .before .before .before .loop-test .left) in
-    let fits = planned (rulesBy (a .pool .mode)) (limit (a .pool .mode)) _ (a .heard) (a .pool) (a .counters) (inv .1) (inv .2) _ _ _ _ _ _ seen (q .before .before .before .before .is-listed .ensures) (q .before .before .before .place-for .ensures) (q .before .before .within-limit .ensures .0) (q .decide .ensures) .fits in
+    let fits = planned (rulesBy (a .pool .mode)) (same-limit (a .pool .mode)) _ (a .heard) (a .pool) (a .counters) (inv .1) (inv .2) _ _ _ _ _ _ seen (q .before .before .before .before .is-listed .ensures) (q .before .before .before .place-for .ensures) (q .before .before .within-limit .ensures .0) (q .decide .ensures) .fits in
     let low = q .before .before .within-limit .ensures .1 in
     omega (arith, fits .whole, fits .short)
 
@@ -94,7 +90,7 @@ returns c =
     let a = q .before .before .before .before .before .before .before .before .before .before .args in
     let inv = q .before .before .before .before .before .before .loop .inv in
     let seen = walk-done _ _ _ _ _ _ (inv .3) (q .before .before .before .before .before .loop-test .left) in
-    answered (rulesBy (a .pool .mode)) (limit (a .pool .mode)) _ (a .heard) (a .pool) (a .counters) (inv .1) (inv .2) _ _ _ _ _ _ seen (q .before .before .before .before .is-listed .ensures) (q .before .before .before .place-for .ensures) (q .before .before .within-limit .ensures .0) (q .decide .ensures) _ _ _ _ (c .before .before .before .before .before .before .before .before .store .ensures) (c .before .count .ensures) (c .before .before .before .before .deliver .ensures) (c .before .before .deliver-short .ensures)
+    answered (rulesBy (a .pool .mode)) (same-limit (a .pool .mode)) _ (a .heard) (a .pool) (a .counters) (inv .1) (inv .2) _ _ _ _ _ _ seen (q .before .before .before .before .is-listed .ensures) (q .before .before .before .place-for .ensures) (q .before .before .within-limit .ensures .0) (q .decide .ensures) _ _ _ _ (c .before .before .before .before .before .before .before .before .store .ensures) (c .before .count .ensures) (c .before .before .before .before .deliver .ensures) (c .before .before .deliver-short .ensures)
 
 pub receive-heard-spec : {M : Type 1} → statement M
 receive-heard-spec =

@@ -1,11 +1,11 @@
 -- `batching::process_frames` meets its contract: after i frames the code's state is the run's, and each frame more is a step of it. Assumes nothing.
 use borrow.Author.Needs.{needs}
 use Prim.Native.Nat.{_-_}
-use mathlib.Core.Path.{_≡_, refl, sym, _∙_}
+use mathlib.Core.Path.{refl, sym, _∙_}
 use lib.ListN.{length}
 use native.Mathlib.Omega.{arith}
-use Rattle.session.specs.declared.Mode.{Mode}
-use Rattle.session.specs.Rules.{rulesBy, poolLimit}
+use Rattle.session.specs.Rules.{rulesBy}
+use Rattle.session.proofs.SearchLaws.{same-limit}
 use Rattle.assembler.proofs.Copies.{length-unmap}
 use Rattle.assembler.proofs.Views.{Whole}
 use Rattle.batch.specs.inner.Memory.{Remembers}
@@ -20,10 +20,6 @@ use Rattle.batch.proofs.Steps.{Stands, step-missed, stop-short, step-sh
 use Rattle.batch.proofs.batching.process_frames.Statement.{statement}
 use Rattle.batch.proofs.batching.process_frames.Tie as tie
 
-limit : (mode : Mode) → rulesBy mode .limit ≡ poolLimit
-unfolding rulesBy
-limit mode = refl
-
 abbrev Inv-loop : tie.InvT-loop
 Inv-loop pgns times frame-pgns sources «data» kinds₀ lengths₀ arena₀ q₀ mode n keys₀ owners₀ lasts₀ zero asked₀ known₀ c₀ used₀ i₀ kinds lengths arena q keys owners lasts asked known c used i =
     Stands mode pgns (record { times = times; pgns = frame-pgns; sources = sources; bytes = «data» }) q₀ c₀ kinds₀ lengths₀ arena₀ kinds lengths arena q keys owners lasts c used i × Remembers pgns asked known
@@ -36,7 +32,7 @@ returns : tie.Need-returns Inv-loop μ-loop
 returns c =
     let a = c .before .before .before .before .before .before .before .before .before .before .before .before .args in
     let told = sym (c .before .is-refused .ensures) ∙ c .if1 .taken in
-    batch-refused _ told (gives-refused (rulesBy (a .pool .mode)) (a .pgns .now) (record { times = a .times .now; pgns = a .frame-pgns .now; sources = a .sources .now; bytes = a .«data» .now }) (a .pool) (a .counters) (a .kinds .now) (a .lengths .now) (a .arena .now) (limit (a .pool .mode)) blankHeard _ (c .before .before .refusal .ensures) told)
+    batch-refused _ told (gives-refused (rulesBy (a .pool .mode)) (a .pgns .now) (record { times = a .times .now; pgns = a .frame-pgns .now; sources = a .sources .now; bytes = a .«data» .now }) (a .pool) (a .counters) (a .kinds .now) (a .lengths .now) (a .arena .now) (same-limit (a .pool .mode)) blankHeard _ (c .before .before .refusal .ensures) told)
 
 loop-holds : tie.Need-loop-holds Inv-loop μ-loop
 loop-holds c =
@@ -45,8 +41,8 @@ loop-holds c =
     let heads-good = good .0 .1 in
     let bytes-good = good .0 .1 .1 in
     let whole : Whole (a .pool) = record { heads = search (needs, length-unmap); bytes = search needs } in
-    let fit = fits-all (rulesBy (a .pool .mode)) (a .pgns .now) (record { times = a .times .now; pgns = a .frame-pgns .now; sources = a .sources .now; bytes = a .«data» .now }) (a .pool) (a .counters) (a .kinds .now) (a .lengths .now) (a .arena .now) (limit (a .pool .mode)) blankHeard _ (c .before .before .before .before .before .before .before .refusal .ensures) (sym (c .before .before .before .before .before .before .is-refused .ensures) ∙ c .before .before .before .before .before .if1 .left) in
-    (record { run = begins (rulesBy (a .pool .mode)) (a .pgns .now) (record { times = a .times .now; pgns = a .frame-pgns .now; sources = a .sources .now; bytes = a .«data» .now }) (a .pool) (a .counters) (a .kinds .now) (a .lengths .now) (a .arena .now) whole fit; possible = possible (rulesBy (a .pool .mode)) (a .pgns .now) (record { times = a .times .now; pgns = a .frame-pgns .now; sources = a .sources .now; bytes = a .«data» .now }) (a .pool) (a .counters) (a .kinds .now) (a .lengths .now) (a .arena .now) (limit (a .pool .mode)) blankHeard _ (c .before .before .before .before .before .before .before .refusal .ensures) (sym (c .before .before .before .before .before .before .is-refused .ensures) ∙ c .before .before .before .before .before .if1 .left); mirrors = c .before .before .before .before .mirror-of .ensures }, remembers-none (a .pgns .now) _ (c .is-listed .ensures))
+    let fit = fits-all (rulesBy (a .pool .mode)) (a .pgns .now) (record { times = a .times .now; pgns = a .frame-pgns .now; sources = a .sources .now; bytes = a .«data» .now }) (a .pool) (a .counters) (a .kinds .now) (a .lengths .now) (a .arena .now) (same-limit (a .pool .mode)) blankHeard _ (c .before .before .before .before .before .before .before .refusal .ensures) (sym (c .before .before .before .before .before .before .is-refused .ensures) ∙ c .before .before .before .before .before .if1 .left) in
+    (record { run = begins (rulesBy (a .pool .mode)) (a .pgns .now) (record { times = a .times .now; pgns = a .frame-pgns .now; sources = a .sources .now; bytes = a .«data» .now }) (a .pool) (a .counters) (a .kinds .now) (a .lengths .now) (a .arena .now) whole fit; possible = possible (rulesBy (a .pool .mode)) (a .pgns .now) (record { times = a .times .now; pgns = a .frame-pgns .now; sources = a .sources .now; bytes = a .«data» .now }) (a .pool) (a .counters) (a .kinds .now) (a .lengths .now) (a .arena .now) (same-limit (a .pool .mode)) blankHeard _ (c .before .before .before .before .before .before .before .refusal .ensures) (sym (c .before .before .before .before .before .before .is-refused .ensures) ∙ c .before .before .before .before .before .if1 .left); mirrors = c .before .before .before .before .mirror-of .ensures }, remembers-none (a .pgns .now) _ (c .is-listed .ensures))
 
 frame-at-requires : tie.Need-frame-at-requires Inv-loop μ-loop
 frame-at-requires c κs =
@@ -86,7 +82,7 @@ same-length-3 c = search (needs, c .before .before .before .before .before .befo
 returns-2 : tie.Need-returns-2 Inv-loop μ-loop
 returns-2 c =
     let a = c .before .before .before .before .before .before .before .before .before .before .before .before .before .before .before .before .before .before .before .before .before .before .before .before .before .before .before .before .before .before .before .before .before .before .args in
-    batched (gives-run (rulesBy (a .pool .mode)) (a .pgns .now) (record { times = a .times .now; pgns = a .frame-pgns .now; sources = a .sources .now; bytes = a .«data» .now }) (a .pool) (a .counters) (a .kinds .now) (a .lengths .now) (a .arena .now) (limit (a .pool .mode)) blankHeard _ (c .before .before .before .before .before .before .before .before .before .before .before .before .before .before .before .before .before .before .before .before .before .before .before .before .refusal .ensures) (sym (c .before .before .before .before .before .before .before .before .before .before .before .before .before .before .before .before .before .before .before .before .before .before .before .is-refused .ensures) ∙ c .before .before .before .before .before .before .before .before .before .before .before .before .before .before .before .before .before .before .before .before .before .before .if1 .left) _
+    batched (gives-run (rulesBy (a .pool .mode)) (a .pgns .now) (record { times = a .times .now; pgns = a .frame-pgns .now; sources = a .sources .now; bytes = a .«data» .now }) (a .pool) (a .counters) (a .kinds .now) (a .lengths .now) (a .arena .now) (same-limit (a .pool .mode)) blankHeard _ (c .before .before .before .before .before .before .before .before .before .before .before .before .before .before .before .before .before .before .before .before .before .before .before .before .refusal .ensures) (sym (c .before .before .before .before .before .before .before .before .before .before .before .before .before .before .before .before .before .before .before .before .before .before .before .is-refused .ensures) ∙ c .before .before .before .before .before .before .before .before .before .before .before .before .before .before .before .before .before .before .before .before .before .before .if1 .left) _
     (stop-short _ _ _ _ _ _ _ _ _ _ _ _ _ _ _ _ _ _ (c .before .before .before .before .before .before .before .before .before .before .before .before .before .before .before .before .loop .inv .0) (c .before .before .before .before .before .before .before .before .before .before .before .before .before .before .before .loop-test .taken) _ (c .before .before .before .before .before .before .before .before .before .before .before .before .before .before .frame-at .ensures) _ (looked-right _ _ _ (c .before .before .before .before .before .before .before .before .before .before .before .before .before .before .before .before .loop .inv .1) _ _ _ _ (c .before .before .before .before .before .before .before .before .before .before .before .looked-up .ensures) .0) _ (c .before .before .before .before .before .before .before .before .before .before .key-of-frame .ensures) _ (c .before .before .before .before .before .before .seek .ensures) (c .before .before .before .before .if2 .taken) _ (c .before .before .before .short-in .ensures .0) (c .before .before .if3 .left) _ (c .before .no-room .ensures) (c .if4 .taken)))
 
 deliver-short-requires : tie.Need-deliver-short-requires Inv-loop μ-loop
@@ -148,7 +144,7 @@ same-length-6 c = search (needs, c .before .before .before .before .before .befo
 returns-3 : tie.Need-returns-3 Inv-loop μ-loop
 returns-3 c =
     let a = c .before .before .before .before .before .before .before .before .before .before .before .before .before .before .before .before .before .before .before .before .before .before .before .before .before .before .before .before .before .before .before .before .before .before .before .before .args in
-    batched (gives-run (rulesBy (a .pool .mode)) (a .pgns .now) (record { times = a .times .now; pgns = a .frame-pgns .now; sources = a .sources .now; bytes = a .«data» .now }) (a .pool) (a .counters) (a .kinds .now) (a .lengths .now) (a .arena .now) (limit (a .pool .mode)) blankHeard _ (c .before .before .before .before .before .before .before .before .before .before .before .before .before .before .before .before .before .before .before .before .before .before .before .before .before .before .refusal .ensures) (sym (c .before .before .before .before .before .before .before .before .before .before .before .before .before .before .before .before .before .before .before .before .before .before .before .before .before .is-refused .ensures) ∙ c .before .before .before .before .before .before .before .before .before .before .before .before .before .before .before .before .before .before .before .before .before .before .before .before .if1 .left) _
+    batched (gives-run (rulesBy (a .pool .mode)) (a .pgns .now) (record { times = a .times .now; pgns = a .frame-pgns .now; sources = a .sources .now; bytes = a .«data» .now }) (a .pool) (a .counters) (a .kinds .now) (a .lengths .now) (a .arena .now) (same-limit (a .pool .mode)) blankHeard _ (c .before .before .before .before .before .before .before .before .before .before .before .before .before .before .before .before .before .before .before .before .before .before .before .before .before .before .refusal .ensures) (sym (c .before .before .before .before .before .before .before .before .before .before .before .before .before .before .before .before .before .before .before .before .before .before .before .before .before .is-refused .ensures) ∙ c .before .before .before .before .before .before .before .before .before .before .before .before .before .before .before .before .before .before .before .before .before .before .before .before .if1 .left) _
     (stop-by _ _ _ _ _ _ _ _ _ _ _ _ _ _ _ _ _ _ (c .before .before .before .before .before .before .before .before .before .before .before .before .before .before .before .before .before .before .loop .inv .0) (c .before .before .before .before .before .before .before .before .before .before .before .before .before .before .before .before .before .loop-test .taken) _ (c .before .before .before .before .before .before .before .before .before .before .before .before .before .before .before .before .frame-at .ensures) _ (looked-right _ _ _ (c .before .before .before .before .before .before .before .before .before .before .before .before .before .before .before .before .before .before .loop .inv .1) _ _ _ _ (c .before .before .before .before .before .before .before .before .before .before .before .before .before .looked-up .ensures) .0) _ (c .before .before .before .before .before .before .before .before .before .before .before .before .key-of-frame .ensures) _ (c .before .before .before .before .before .before .before .before .seek .ensures) (c .before .before .before .before .before .before .if2 .left) _ _ (c .before .before .decide .ensures) _ (c .before .no-room2 .ensures) (c .if6 .taken)))
 
 take-requires : tie.Need-take-requires Inv-loop μ-loop
@@ -192,7 +188,7 @@ same-length-9 c = search (needs, c .before .loop .inv .0 .run .arena)
 returns-4 : tie.Need-returns-4 Inv-loop μ-loop
 returns-4 c =
     let a = c .before .before .before .before .before .before .before .before .before .before .before .before .before .before .before .before .before .before .before .args in
-    batched (gives-run (rulesBy (a .pool .mode)) (a .pgns .now) (record { times = a .times .now; pgns = a .frame-pgns .now; sources = a .sources .now; bytes = a .«data» .now }) (a .pool) (a .counters) (a .kinds .now) (a .lengths .now) (a .arena .now) (limit (a .pool .mode)) blankHeard _ (c .before .before .before .before .before .before .before .before .before .refusal .ensures) (sym (c .before .before .before .before .before .before .before .before .is-refused .ensures) ∙ c .before .before .before .before .before .before .before .if1 .left) _
+    batched (gives-run (rulesBy (a .pool .mode)) (a .pgns .now) (record { times = a .times .now; pgns = a .frame-pgns .now; sources = a .sources .now; bytes = a .«data» .now }) (a .pool) (a .counters) (a .kinds .now) (a .lengths .now) (a .arena .now) (same-limit (a .pool .mode)) blankHeard _ (c .before .before .before .before .before .before .before .before .before .refusal .ensures) (sym (c .before .before .before .before .before .before .before .before .is-refused .ensures) ∙ c .before .before .before .before .before .before .before .if1 .left) _
     (ends (rulesBy (a .pool .mode)) _ _ _ _ _ _ _ _ _ _ _ _ _ _ (c .before .loop .inv .0 .run) (c .loop-test .left)))
 
 pub process-frames-spec : {M : Type 1} → statement M
