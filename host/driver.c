@@ -39,6 +39,8 @@ static void put(const void *p, uint64_t n) {
 struct slice { void *p; uint64_t n, back; };
 #define S(k) (s[k].p)
 #define N(k, T) (s[k].n / sizeof(T))
+/* A pool's size, mode and kind stand first among the numbers of each call on one. */
+#define P x[0], (uint32_t)x[1], (uint32_t)x[2]
 
 static uint64_t call(uint64_t entry, const uint64_t *x, struct slice *s) {
     switch (entry) {
@@ -54,19 +56,23 @@ static uint64_t call(uint64_t entry, const uint64_t *x, struct slice *s) {
     case 9: return hf_raw_next_frame(S(0), (uint8_t)x[0], x[1], S(1), N(1, uint8_t), S(2), S(3), S(4));
     case 10: hf_raw_builder_build(S(0), S(1)); return 0;
     case 11: return hf_raw_frame_iterator_next(S(0), S(1), S(2), N(2, uint8_t), S(3), S(4));
-    case 12: return hf_raw_pool_new(x[0], S(0), S(1), S(2), S(3));
-    case 13: return hf_raw_pool_default(S(0), S(1), S(2), S(3));
-    case 14: return hf_raw_pool_with_mode(x[0], (uint32_t)x[1], S(0), S(1), S(2), S(3));
-    case 15: return hf_raw_process_frame(x[0], (uint32_t)x[1], S(0), S(1), S(2), S(3), N(3, uint32_t), x[2], (uint32_t)x[3], (uint8_t)x[4], S(4), S(5), S(6));
-    case 16: return hf_raw_receive(x[0], (uint32_t)x[1], S(0), S(1), S(2), S(3), N(3, uint32_t), x[2], (uint32_t)x[3], (uint8_t)x[4], S(4), S(5), S(6));
-    case 17: return hf_raw_process_frame_with_length(x[0], (uint32_t)x[1], S(0), S(1), S(2), S(3), N(3, uint32_t), x[2], (uint32_t)x[3], (uint8_t)x[4], S(4), x[5], S(5), S(6));
-    case 18:
-        return hf_raw_process_frames(x[0], (uint32_t)x[1], S(0), S(1), S(2), S(3), N(3, uint32_t), S(4), N(4, uint64_t), S(5), N(5, uint32_t), S(6), N(6, uint8_t), S(7), N(7, uint8_t),
+    case 12: return hf_raw_pool_new(x[0], S(0), S(1), S(2), S(3), S(4));
+    case 13: return hf_raw_pool_default(S(0), S(1), S(2), S(3), S(4));
+    case 14: return hf_raw_pool_with_mode(x[0], (uint32_t)x[1], S(0), S(1), S(2), S(3), S(4));
+    case 15: return hf_raw_pool_with_kind(x[0], (uint32_t)x[1], (uint32_t)x[2], S(0), S(1), S(2), S(3), S(4));
+    case 16: return hf_raw_process_frame(P, S(0), S(1), S(2), S(3), N(3, uint32_t), x[3], (uint32_t)x[4], (uint8_t)x[5], S(4), S(5), S(6));
+    case 17: return hf_raw_receive(P, S(0), S(1), S(2), S(3), N(3, uint32_t), x[3], (uint32_t)x[4], (uint8_t)x[5], S(4), S(5), S(6));
+    case 18: return hf_raw_process_frame_with_length(P, S(0), S(1), S(2), S(3), N(3, uint32_t), x[3], (uint32_t)x[4], (uint8_t)x[5], S(4), x[6], S(5), S(6));
+    case 19: return hf_raw_process_frame_by_id(P, S(0), S(1), S(2), S(3), N(3, uint32_t), x[3], (uint32_t)x[4], S(4), S(5), S(6));
+    case 20: return hf_raw_receive_by_id(P, S(0), S(1), S(2), S(3), N(3, uint32_t), x[3], (uint32_t)x[4], S(4), S(5), S(6));
+    case 21: return hf_raw_process_frame_by_id_with_length(P, S(0), S(1), S(2), S(3), N(3, uint32_t), x[3], (uint32_t)x[4], S(4), x[5], S(5), S(6));
+    case 22:
+        return hf_raw_process_frames(P, S(0), S(1), S(2), S(3), N(3, uint32_t), S(4), N(4, uint64_t), S(5), N(5, uint32_t), S(6), N(6, uint8_t), S(7), N(7, uint8_t),
                                  S(8), N(8, uint8_t), S(9), N(9, uint8_t), S(10), N(10, uint8_t), S(11));
-    case 19: return hf_reassemble(S(0), N(0, uint32_t), S(1), N(1, uint8_t), S(2), N(2, size_t), (uint8_t)x[0], (uint32_t)x[1], S(3), N(3, size_t), S(4), N(4, uint8_t), S(5));
-    case 20: return hf_frame_count(x[0], x[1], x[2]);
-    case 21: return hf_fast_packet_frames((uint32_t)x[0], (uint8_t)x[1], S(0), N(0, uint8_t), S(1), N(1, uint32_t), S(2), N(2, uint8_t), S(3), N(3, size_t), S(4));
-    case 22: return hf_check_tx(S(0), N(0, uint32_t), S(1), N(1, uint8_t), S(2), N(2, size_t), (uint8_t)x[0], x[1], (uint32_t)x[2], S(3));
+    case 23: return hf_reassemble(S(0), N(0, uint32_t), S(1), N(1, uint8_t), S(2), N(2, size_t), (uint8_t)x[0], (uint32_t)x[1], S(3), N(3, size_t), S(4), N(4, uint8_t), S(5));
+    case 24: return hf_frame_count(x[0], x[1], x[2]);
+    case 25: return hf_fast_packet_frames((uint32_t)x[0], (uint8_t)x[1], S(0), N(0, uint8_t), S(1), N(1, uint32_t), S(2), N(2, uint8_t), S(3), N(3, size_t), S(4));
+    case 26: return hf_check_tx(S(0), N(0, uint32_t), S(1), N(1, uint8_t), S(2), N(2, size_t), (uint8_t)x[0], x[1], (uint32_t)x[2], S(3));
     }
     return ~0ul;
 }

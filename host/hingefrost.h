@@ -5,8 +5,8 @@
  * archive, on Arm (aarch64) Linux the same module compiled for Arm. Of C's library it needs memcpy and memset.
  *
  * Answers. A function that may refuse returns HF_OK, a refusal's number (1 to 99, docs/REFUSALS.md) or one of the kinds below.
- * A refusal changes no lent memory but what the answer itself is put into (*value, *size, *mode, *length, a message's length,
- * `counts`, `values`, *frames, and of the next frame `data`, `frame` and the progress that it makes).
+ * A refusal changes no lent memory but what the answer itself is put into (*value, *size, *mode, *kind, *length, a message's
+ * length, `counts`, `values`, *frames, and of the next frame `data`, `frame` and the progress that it makes).
  *
  * The PGN list is lent to each call that looks into it: any order; empty and repeated are allowed. Nothing is asked before a frame
  * is received: the answer says whether its PGN is listed.
@@ -39,7 +39,7 @@ extern "C" {
 #define HF_MAX_FAST_PACKET_PAYLOAD 223 /* a message's bytes, at most */
 #define HF_POOL_SLOTS 32               /* a pool's slots, at most */
 #define HF_DEFAULT_SLOTS 4             /* those of hf_pool_default */
-#define HF_SLOT_NUMBERS 8              /* the numbers of a slot, HF_SLOT_.. */
+#define HF_SLOT_NUMBERS 9              /* the numbers of a slot, HF_SLOT_.. */
 #define HF_POOL_HEADS (HF_POOL_SLOTS * HF_SLOT_NUMBERS)
 #define HF_POOL_BYTES (HF_POOL_SLOTS * HF_MAX_FAST_PACKET_PAYLOAD)
 #define HF_COUNTERS 5                  /* HF_EXPIRED_SESSIONS .. */
@@ -56,6 +56,12 @@ extern "C" {
 
 #define HF_AS_ORIGINAL 0         /* silent for 0 ms: it can live until the clock has come back */
 #define HF_SET_BACK_IS_SILENCE 1 /* silent over 500 ms: free and expired for a first frame, and no continuation finds it */
+
+/* ---- the kinds of a pool: which key its messages have. A kind is chosen when the pool is made and stays with it, and each has calls of its
+ * own: those of the other refuse it by 1. Any other number is no kind: no pool is made of it, and every call refuses it by 1. */
+
+#define HF_ORIGINAL 0  /* source, PGN and sequence; its calls take PGN and source */
+#define HF_ADDRESSED 1 /* the destination too, or none where PF is 240 or more; its calls, hf_.._by_id.., take the identifier */
 
 /* ---- answers */
 
@@ -155,44 +161,63 @@ uint32_t hf_raw_frame_iterator_next(const uint64_t builder[HF_BUILDER_NUMBERS], 
 
 enum {
     HF_SLOT_IN_PROGRESS, HF_SLOT_SOURCE, HF_SLOT_SEQUENCE, HF_SLOT_LAST_INDEX,
-    HF_SLOT_PGN, HF_SLOT_EXPECTED_SIZE, HF_SLOT_CURRENT_SIZE, HF_SLOT_LAST_TIME
+    HF_SLOT_PGN, HF_SLOT_PART, HF_SLOT_EXPECTED_SIZE, HF_SLOT_CURRENT_SIZE, HF_SLOT_LAST_TIME
 };
+/* HF_SLOT_PART is the part of a message's key that is its destination: 0 for none, or the destination plus 1. An idle slot's is not looked at. */
 /* The counters' places; the answers that go with the last four are HF_POOL_FULL, HF_REJECTED, HF_LOST and HF_NOT_LISTED. */
 enum { HF_EXPIRED_SESSIONS, HF_POOL_EXHAUSTED, HF_REJECTED_FRAMES, HF_LOST_FRAGMENTS, HF_UNKNOWN_PGN };
 
-/* HF_OK and a fresh pool, with the number of its mode in *mode: HF_AS_ORIGINAL, and of the last the one asked for. Above HF_POOL_SLOTS, 1 and
- * *size 0, with `heads` and `bytes` as they were; the same where the number asked for is no mode, and then *mode is 0. */
-uint32_t hf_raw_pool_new(size_t wanted, uint64_t heads[HF_POOL_HEADS], uint8_t bytes[HF_POOL_BYTES], size_t *size, uint32_t *mode);
-uint32_t hf_raw_pool_default(uint64_t heads[HF_POOL_HEADS], uint8_t bytes[HF_POOL_BYTES], size_t *size, uint32_t *mode);
-uint32_t hf_raw_pool_with_mode(size_t wanted, uint32_t asked, uint64_t heads[HF_POOL_HEADS], uint8_t bytes[HF_POOL_BYTES], size_t *size, uint32_t *mode);
+/* HF_OK and a fresh pool, with the numbers of its mode and kind in *mode and *kind: HF_AS_ORIGINAL and HF_ORIGINAL, or those asked for. Above
+ * HF_POOL_SLOTS, 1 and *size 0, with `heads` and `bytes` as they were; the same where a number asked for is no mode or no kind, and then
+ * *mode or *kind is 0. */
+uint32_t hf_raw_pool_new(size_t wanted, uint64_t heads[HF_POOL_HEADS], uint8_t bytes[HF_POOL_BYTES], size_t *size, uint32_t *mode, uint32_t *kind);
+uint32_t hf_raw_pool_default(uint64_t heads[HF_POOL_HEADS], uint8_t bytes[HF_POOL_BYTES], size_t *size, uint32_t *mode, uint32_t *kind);
+uint32_t hf_raw_pool_with_mode(size_t wanted, uint32_t asked, uint64_t heads[HF_POOL_HEADS], uint8_t bytes[HF_POOL_BYTES], size_t *size, uint32_t *mode,
+                               uint32_t *kind);
+uint32_t hf_raw_pool_with_kind(size_t wanted, uint32_t asked, uint32_t asked_kind, uint64_t heads[HF_POOL_HEADS], uint8_t bytes[HF_POOL_BYTES],
+                               size_t *size, uint32_t *mode, uint32_t *kind);
 
 /* One of the kinds 102 to 107; or 1, whatever the PGN, and all lent memory but *length as it was: for a pool with a slot that no call
- * leaves, a size above HF_POOL_SLOTS, or a number for its mode that is none. Each number of `heads` is read in the width of its field (a
- * flag is any number but 0, a source is taken modulo 256), and written only where that field has changed. *length is the message's length,
- * or 0 without one; `payload` holds the message and zeros after it, and is not written without one. */
-uint32_t hf_raw_process_frame(size_t size, uint32_t mode, uint64_t heads[HF_POOL_HEADS], uint8_t bytes[HF_POOL_BYTES], uint32_t counters[HF_COUNTERS],
-                              const uint32_t *pgns, size_t pgns_len, uint64_t now_ms, uint32_t pgn, uint8_t source_address,
-                              const uint8_t data[HF_FRAME_BYTES], uint8_t payload[HF_MAX_FAST_PACKET_PAYLOAD], size_t *length);
+ * leaves, a size above HF_POOL_SLOTS, a number for its mode that is none, or any for its kind but HF_ORIGINAL. Each number of `heads` is
+ * read in the width of its field (a flag is any number but 0, a source is taken modulo 256, a part modulo 65,536), and written only where
+ * that field has changed. *length is the message's length, or 0 without one; `payload` holds the message and zeros after it, and is not
+ * written without one. */
+uint32_t hf_raw_process_frame(size_t size, uint32_t mode, uint32_t kind, uint64_t heads[HF_POOL_HEADS], uint8_t bytes[HF_POOL_BYTES],
+                              uint32_t counters[HF_COUNTERS], const uint32_t *pgns, size_t pgns_len, uint64_t now_ms, uint32_t pgn,
+                              uint8_t source_address, const uint8_t data[HF_FRAME_BYTES], uint8_t payload[HF_MAX_FAST_PACKET_PAYLOAD], size_t *length);
 /* The same by the call that has the counters by value: fewer copies of the pool. */
-uint32_t hf_raw_receive(size_t size, uint32_t mode, uint64_t heads[HF_POOL_HEADS], uint8_t bytes[HF_POOL_BYTES], uint32_t counters[HF_COUNTERS],
-                        const uint32_t *pgns, size_t pgns_len, uint64_t now_ms, uint32_t pgn, uint8_t source_address,
-                        const uint8_t data[HF_FRAME_BYTES], uint8_t payload[HF_MAX_FAST_PACKET_PAYLOAD], size_t *length);
+uint32_t hf_raw_receive(size_t size, uint32_t mode, uint32_t kind, uint64_t heads[HF_POOL_HEADS], uint8_t bytes[HF_POOL_BYTES],
+                        uint32_t counters[HF_COUNTERS], const uint32_t *pgns, size_t pgns_len, uint64_t now_ms, uint32_t pgn,
+                        uint8_t source_address, const uint8_t data[HF_FRAME_BYTES], uint8_t payload[HF_MAX_FAST_PACKET_PAYLOAD], size_t *length);
 /* Of the frame's eight bytes only the first min(frame_length, 8) were sent; at 8 or more it is hf_raw_process_frame. A frame of a
  * listed PGN without a byte is HF_REJECTED, and so is a first frame that lacks its size or a byte of the message: one that announces
  * n bytes has 2 + min(6, n) or more. A continuation that lacks a byte its live session needs is HF_LOST and ends the session. */
-uint32_t hf_raw_process_frame_with_length(size_t size, uint32_t mode, uint64_t heads[HF_POOL_HEADS], uint8_t bytes[HF_POOL_BYTES],
+uint32_t hf_raw_process_frame_with_length(size_t size, uint32_t mode, uint32_t kind, uint64_t heads[HF_POOL_HEADS], uint8_t bytes[HF_POOL_BYTES],
                                           uint32_t counters[HF_COUNTERS], const uint32_t *pgns, size_t pgns_len, uint64_t now_ms, uint32_t pgn,
                                           uint8_t source_address, const uint8_t data[HF_FRAME_BYTES], size_t frame_length,
                                           uint8_t payload[HF_MAX_FAST_PACKET_PAYLOAD], size_t *length);
 
-/* Many frames in one call: rows of times, PGNs, sources and eight bytes a frame. HF_OK, 1 for an impossible pool, 27 for a row
+/* The same three for a pool of the kind HF_ADDRESSED: source, PGN and destination are those that hf_can_id_read reads in the identifier. 8 for
+ * a number of 2^29 or more, before all else; then 1, also for any kind but HF_ADDRESSED; each with all lent memory but *length as it was. */
+uint32_t hf_raw_process_frame_by_id(size_t size, uint32_t mode, uint32_t kind, uint64_t heads[HF_POOL_HEADS], uint8_t bytes[HF_POOL_BYTES],
+                                    uint32_t counters[HF_COUNTERS], const uint32_t *pgns, size_t pgns_len, uint64_t now_ms, uint32_t id,
+                                    const uint8_t data[HF_FRAME_BYTES], uint8_t payload[HF_MAX_FAST_PACKET_PAYLOAD], size_t *length);
+uint32_t hf_raw_receive_by_id(size_t size, uint32_t mode, uint32_t kind, uint64_t heads[HF_POOL_HEADS], uint8_t bytes[HF_POOL_BYTES],
+                              uint32_t counters[HF_COUNTERS], const uint32_t *pgns, size_t pgns_len, uint64_t now_ms, uint32_t id,
+                              const uint8_t data[HF_FRAME_BYTES], uint8_t payload[HF_MAX_FAST_PACKET_PAYLOAD], size_t *length);
+uint32_t hf_raw_process_frame_by_id_with_length(size_t size, uint32_t mode, uint32_t kind, uint64_t heads[HF_POOL_HEADS], uint8_t bytes[HF_POOL_BYTES],
+                                                uint32_t counters[HF_COUNTERS], const uint32_t *pgns, size_t pgns_len, uint64_t now_ms, uint32_t id,
+                                                const uint8_t data[HF_FRAME_BYTES], size_t frame_length,
+                                                uint8_t payload[HF_MAX_FAST_PACKET_PAYLOAD], size_t *length);
+
+/* Many frames in one call: rows of times, PGNs, sources and eight bytes a frame. HF_OK, 1 as hf_raw_process_frame, 27 for a row
  * shorter than `times`, each refusal with all lent memory but `counts` as it was. Of each frame taken, `kinds` gets its kind and
  * `lengths` the message's length; messages stand end to end from the arena's start. It stops before the first frame whose message
  * has no room. `counts` is the frames taken and the arena's bytes taken, 0 and 0 with a refusal. The heads are written as by
  * hf_raw_process_frame. */
 enum { HF_COUNT_TAKEN, HF_COUNT_USED };
-uint32_t hf_raw_process_frames(size_t size, uint32_t mode, uint64_t heads[HF_POOL_HEADS], uint8_t bytes[HF_POOL_BYTES], uint32_t counters[HF_COUNTERS],
-                               const uint32_t *pgns, size_t pgns_len, const uint64_t *times, size_t times_len,
+uint32_t hf_raw_process_frames(size_t size, uint32_t mode, uint32_t kind, uint64_t heads[HF_POOL_HEADS], uint8_t bytes[HF_POOL_BYTES],
+                               uint32_t counters[HF_COUNTERS], const uint32_t *pgns, size_t pgns_len, const uint64_t *times, size_t times_len,
                                const uint32_t *frame_pgns, size_t frame_pgns_len, const uint8_t *sources, size_t sources_len,
                                const uint8_t *data, size_t data_len, uint8_t *kinds, size_t kinds_len,
                                uint8_t *lengths, size_t lengths_len, uint8_t *arena, size_t arena_len, uint64_t counts[HF_COUNTS]);
@@ -218,6 +243,7 @@ uint32_t hf_check_tx(const uint32_t *ids, size_t ids_len, const uint8_t *bytes, 
 typedef struct hf_pool {
     size_t size;
     uint32_t mode; /* HF_AS_ORIGINAL or HF_SET_BACK_IS_SILENCE, as it was made; no call changes it */
+    uint32_t kind; /* HF_ORIGINAL or HF_ADDRESSED, likewise */
     uint64_t heads[HF_POOL_HEADS];
     uint8_t bytes[HF_POOL_BYTES];
 } hf_pool;
@@ -252,44 +278,66 @@ typedef struct hf_frame {
     uint64_t carried;
 } hf_frame;
 
-/* HF_OK, or 1 above HF_POOL_SLOTS: the pool is then of size 0, its slots as they were. The mode is HF_AS_ORIGINAL. */
+/* HF_OK, or 1 above HF_POOL_SLOTS: the pool is then of size 0, its slots as they were. The mode is HF_AS_ORIGINAL, the kind HF_ORIGINAL. */
 static inline uint32_t hf_pool_new(hf_pool *pool, size_t wanted) {
-    return hf_raw_pool_new(wanted, pool->heads, pool->bytes, &pool->size, &pool->mode);
+    return hf_raw_pool_new(wanted, pool->heads, pool->bytes, &pool->size, &pool->mode, &pool->kind);
 }
 static inline void hf_pool_default(hf_pool *pool) {
-    hf_raw_pool_default(pool->heads, pool->bytes, &pool->size, &pool->mode);
+    hf_raw_pool_default(pool->heads, pool->bytes, &pool->size, &pool->mode, &pool->kind);
 }
 /* The same in a mode of one's choice; 1 also where it is none. */
 static inline uint32_t hf_pool_with_mode(hf_pool *pool, size_t wanted, uint32_t mode) {
-    return hf_raw_pool_with_mode(wanted, mode, pool->heads, pool->bytes, &pool->size, &pool->mode);
+    return hf_raw_pool_with_mode(wanted, mode, pool->heads, pool->bytes, &pool->size, &pool->mode, &pool->kind);
+}
+/* And of a kind of one's choice; 1 also where it is none. */
+static inline uint32_t hf_pool_with_kind(hf_pool *pool, size_t wanted, uint32_t mode, uint32_t kind) {
+    return hf_raw_pool_with_kind(wanted, mode, kind, pool->heads, pool->bytes, &pool->size, &pool->mode, &pool->kind);
 }
 static inline void hf_counters_new(hf_counters *counters) {
     for (int i = 0; i < HF_COUNTERS; i++) counters->counts[i] = 0;
 }
 
-/* HF_NOT_LISTED, HF_REJECTED, HF_POOL_FULL, HF_LOST, HF_FRAGMENT_CONSUMED or HF_MESSAGE_COMPLETE; 1 for a pool that no call made. */
+/* HF_NOT_LISTED, HF_REJECTED, HF_POOL_FULL, HF_LOST, HF_FRAGMENT_CONSUMED or HF_MESSAGE_COMPLETE; 1 for a pool that no call made, or one of
+ * the kind HF_ADDRESSED. */
 static inline uint32_t hf_process_frame(hf_pool *pool, hf_counters *counters, const uint32_t *pgns, size_t pgns_len, uint64_t now_ms, uint32_t pgn,
                                         uint8_t source_address, const uint8_t data[HF_FRAME_BYTES], hf_message *message) {
-    return hf_raw_process_frame(pool->size, pool->mode, pool->heads, pool->bytes, counters->counts, pgns, pgns_len, now_ms, pgn, source_address, data,
-                                message->payload, &message->length);
+    return hf_raw_process_frame(pool->size, pool->mode, pool->kind, pool->heads, pool->bytes, counters->counts, pgns, pgns_len, now_ms, pgn,
+                                source_address, data, message->payload, &message->length);
 }
 static inline uint32_t hf_receive(hf_pool *pool, hf_counters *counters, const uint32_t *pgns, size_t pgns_len, uint64_t now_ms, uint32_t pgn,
                                   uint8_t source_address, const uint8_t data[HF_FRAME_BYTES], hf_message *message) {
-    return hf_raw_receive(pool->size, pool->mode, pool->heads, pool->bytes, counters->counts, pgns, pgns_len, now_ms, pgn, source_address, data,
-                          message->payload, &message->length);
+    return hf_raw_receive(pool->size, pool->mode, pool->kind, pool->heads, pool->bytes, counters->counts, pgns, pgns_len, now_ms, pgn,
+                          source_address, data, message->payload, &message->length);
 }
 static inline uint32_t hf_process_frame_with_length(hf_pool *pool, hf_counters *counters, const uint32_t *pgns, size_t pgns_len, uint64_t now_ms,
                                                     uint32_t pgn, uint8_t source_address, const uint8_t data[HF_FRAME_BYTES], size_t frame_length,
                                                     hf_message *message) {
-    return hf_raw_process_frame_with_length(pool->size, pool->mode, pool->heads, pool->bytes, counters->counts, pgns, pgns_len, now_ms, pgn,
-                                            source_address, data, frame_length, message->payload, &message->length);
+    return hf_raw_process_frame_with_length(pool->size, pool->mode, pool->kind, pool->heads, pool->bytes, counters->counts, pgns, pgns_len, now_ms,
+                                            pgn, source_address, data, frame_length, message->payload, &message->length);
 }
-/* Rows of `frames` elements each (`data` of 8 a frame), in and out. */
+/* The same three by the identifier, for a pool of the kind HF_ADDRESSED; 8 for one of 2^29 or more, whatever the pool is. */
+static inline uint32_t hf_process_frame_by_id(hf_pool *pool, hf_counters *counters, const uint32_t *pgns, size_t pgns_len, uint64_t now_ms, uint32_t id,
+                                              const uint8_t data[HF_FRAME_BYTES], hf_message *message) {
+    return hf_raw_process_frame_by_id(pool->size, pool->mode, pool->kind, pool->heads, pool->bytes, counters->counts, pgns, pgns_len, now_ms, id, data,
+                                      message->payload, &message->length);
+}
+static inline uint32_t hf_receive_by_id(hf_pool *pool, hf_counters *counters, const uint32_t *pgns, size_t pgns_len, uint64_t now_ms, uint32_t id,
+                                        const uint8_t data[HF_FRAME_BYTES], hf_message *message) {
+    return hf_raw_receive_by_id(pool->size, pool->mode, pool->kind, pool->heads, pool->bytes, counters->counts, pgns, pgns_len, now_ms, id, data,
+                                message->payload, &message->length);
+}
+static inline uint32_t hf_process_frame_by_id_with_length(hf_pool *pool, hf_counters *counters, const uint32_t *pgns, size_t pgns_len, uint64_t now_ms,
+                                                          uint32_t id, const uint8_t data[HF_FRAME_BYTES], size_t frame_length, hf_message *message) {
+    return hf_raw_process_frame_by_id_with_length(pool->size, pool->mode, pool->kind, pool->heads, pool->bytes, counters->counts, pgns, pgns_len,
+                                                  now_ms, id, data, frame_length, message->payload, &message->length);
+}
+/* Rows of `frames` elements each (`data` of 8 a frame), in and out; for a pool of the kind HF_ORIGINAL. */
 static inline uint32_t hf_process_frames(hf_pool *pool, hf_counters *counters, const uint32_t *pgns, size_t pgns_len, size_t frames, const uint64_t *times,
                                          const uint32_t *frame_pgns, const uint8_t *sources, const uint8_t *data, uint8_t *kinds, uint8_t *lengths,
                                          uint8_t *arena, size_t arena_len, uint64_t counts[HF_COUNTS]) {
-    return hf_raw_process_frames(pool->size, pool->mode, pool->heads, pool->bytes, counters->counts, pgns, pgns_len, times, frames, frame_pgns, frames,
-                                 sources, frames, data, HF_FRAME_BYTES * frames, kinds, frames, lengths, frames, arena, arena_len, counts);
+    return hf_raw_process_frames(pool->size, pool->mode, pool->kind, pool->heads, pool->bytes, counters->counts, pgns, pgns_len, times, frames,
+                                 frame_pgns, frames, sources, frames, data, HF_FRAME_BYTES * frames, kinds, frames, lengths, frames, arena, arena_len,
+                                 counts);
 }
 
 /* Returns the number that the caller holds from now on. */

@@ -84,7 +84,7 @@ static hf_counters counters;
 static hf_message message;
 
 static int same(const hf_pool *a, const hf_pool *b) {
-    return a->size == b->size && a->mode == b->mode && !memcmp(a->heads, b->heads, sizeof a->heads) && !memcmp(a->bytes, b->bytes, sizeof a->bytes);
+    return a->size == b->size && a->mode == b->mode && a->kind == b->kind && !memcmp(a->heads, b->heads, sizeof a->heads) && !memcmp(a->bytes, b->bytes, sizeof a->bytes);
 }
 
 static uint32_t hear(uint64_t now_ms, const char *data) {
@@ -136,8 +136,8 @@ static void messages(void) {
     expect(HF_POOL_SLOTS == 32 && hf_pool_new(&pool, 32) == HF_OK && pool.size == 32 && hear(0, "\x00\x07" "abcdef") == HF_FRAGMENT_CONSUMED, "a pool of 32, and a frame for it");
     expect(hf_pool_new(&pool, 33) == HF_REFUSED_IMPOSSIBLE_POOL && pool.size == 0, "a pool of 33: 1");
     hf_pool_default(&pool);
-    expect(pool.size == HF_DEFAULT_SLOTS && pool.mode == HF_AS_ORIGINAL, "four slots by default, as the original");
-    expect(hf_pool_new(&pool, 1) == HF_OK && pool.size == 1 && pool.mode == HF_AS_ORIGINAL, "one slot, as the original");
+    expect(pool.size == HF_DEFAULT_SLOTS && pool.mode == HF_AS_ORIGINAL && pool.kind == HF_ORIGINAL, "four slots by default, as the original");
+    expect(hf_pool_new(&pool, 1) == HF_OK && pool.size == 1 && pool.mode == HF_AS_ORIGINAL && pool.kind == HF_ORIGINAL, "one slot, as the original");
     expect(hear(0, "\x00\x00......") == HF_REJECTED && counters.counts[HF_REJECTED_FRAMES] == 1, "P9: announced 0");
     expect(hear(0, "\x00\xE0......") == HF_REJECTED && counters.counts[HF_REJECTED_FRAMES] == 2, "P9: announced 224");
     expect(hear(1000, "\x00\x07" "abcdef") == HF_FRAGMENT_CONSUMED, "P10: opened");
@@ -177,7 +177,7 @@ static void messages(void) {
 /* A pool of one slot in this mode, whose message was last heard at 1000. */
 static void half_heard(uint32_t mode) {
     hf_counters_new(&counters);
-    expect(hf_pool_with_mode(&pool, 1, mode) == HF_OK && pool.size == 1 && pool.mode == mode, "a pool in a mode");
+    expect(hf_pool_with_mode(&pool, 1, mode) == HF_OK && pool.size == 1 && pool.mode == mode && pool.kind == HF_ORIGINAL, "a pool in a mode");
     expect(hear(1000, "\x00\x0E" "abcdef") == HF_FRAGMENT_CONSUMED, "opened at 1000");
 }
 
@@ -202,31 +202,163 @@ static void clock_set_back(void) {
     expect(hear(999, "\x20\x07" "abcdef") == HF_POOL_FULL && hear(999, "\x01ghijklm") == HF_FRAGMENT_CONSUMED && pool.heads[HF_SLOT_LAST_TIME] == 999, "as the original: alive at 999");
 }
 
-/* A number that is no mode: none is made in it, and every call refuses it. */
-static void no_mode(void) {
+/* What each call of the original's kind answers to a frame of this PGN, if all answer alike, and 0 else; the batch may write into its rows. */
+static uint32_t by_every_old_call(const uint32_t *pgns, size_t pgns_len, uint32_t pgn, const char *bytes) {
+    const uint8_t *data = (const uint8_t *)bytes;
+    const uint64_t times[1] = {1000};
+    const uint8_t sources[1] = {35};
+    uint64_t counts[HF_COUNTS];
+    uint8_t kinds[1], lengths[1], arena[8];
+    const uint32_t answer = hf_process_frame(&pool, &counters, pgns, pgns_len, 1000, pgn, 35, data, &message);
+    const int alike = hf_receive(&pool, &counters, pgns, pgns_len, 1000, pgn, 35, data, &message) == answer
+                      && hf_process_frame_with_length(&pool, &counters, pgns, pgns_len, 1000, pgn, 35, data, 8, &message) == answer
+                      && hf_process_frames(&pool, &counters, pgns, pgns_len, 1, times, &pgn, sources, data, kinds, lengths, arena, 8, counts) == answer && counts[HF_COUNT_TAKEN] == 0;
+    return alike ? answer : 0;
+}
+
+/* The same of each call of the other kind, to a frame with this identifier. */
+static uint32_t by_every_new_call(const uint32_t *pgns, size_t pgns_len, uint32_t id, const char *bytes) {
+    const uint8_t *data = (const uint8_t *)bytes;
+    const uint32_t answer = hf_process_frame_by_id(&pool, &counters, pgns, pgns_len, 1000, id, data, &message);
+    const int alike = hf_receive_by_id(&pool, &counters, pgns, pgns_len, 1000, id, data, &message) == answer
+                      && hf_process_frame_by_id_with_length(&pool, &counters, pgns, pgns_len, 1000, id, data, 8, &message) == answer;
+    return alike ? answer : 0;
+}
+
+/* One gateway's 126208 to two displays, P3 and beside it, and P1, which goes to everybody. */
+#define TO_16 0x0DED1023
+#define TO_17 0x0DED1123
+#define TO_EVERYBODY 0x19F20123
+static const uint32_t BOTH[] = {126208, 127489};
+
+/* Every call refuses the pool by 1, listed or not, but by 8 before it where an identifier is too wide; and nothing has changed. */
+static void refused_by_every_call(const char *what) {
+    static hf_pool before;
+    static hf_counters counted;
+    before = pool;
+    counted = counters;
+    for (size_t listed = 0; listed <= 2; listed += 2) {
+        expect(by_every_old_call(BOTH, listed, 127489, "\x00\x06......") == HF_REFUSED_IMPOSSIBLE_POOL && by_every_old_call(BOTH, listed, 126208, "\x01.......") == HF_REFUSED_IMPOSSIBLE_POOL, what);
+        expect(by_every_new_call(BOTH, listed, TO_EVERYBODY, "\x00\x06......") == HF_REFUSED_IMPOSSIBLE_POOL && by_every_new_call(BOTH, listed, TO_16, "\x01.......") == HF_REFUSED_IMPOSSIBLE_POOL, what);
+        expect(by_every_new_call(BOTH, listed, 0x20000000, "\x00\x06......") == HF_REFUSED_TOO_WIDE && by_every_new_call(BOTH, listed, UINT32_MAX, "\x01.......") == HF_REFUSED_TOO_WIDE, what);
+    }
+    expect(message.length == 0 && same(&before, &pool) && !memcmp(&counted, &counters, sizeof counters), what);
+}
+
+/* Numbers that are no mode, and no kind: none is made by them, and every call refuses them. */
+static void neither(void) {
     static const uint32_t numbers[] = {2, 3, 255, 256, UINT32_MAX};
     static hf_pool before;
-    uint64_t counts[HF_COUNTS], times[1] = {1000};
-    uint8_t sources[1] = {35}, kinds[1], lengths[1], arena[8];
     for (int i = 0; i < 5; i++) {
         half_heard(HF_SET_BACK_IS_SILENCE);
         before = pool;
         before.size = 0;
         before.mode = HF_AS_ORIGINAL;
         expect(hf_pool_with_mode(&pool, 1, numbers[i]) == HF_REFUSED_IMPOSSIBLE_POOL && same(&before, &pool), "no mode: 1, size 0, and the slots as they were");
+        before.kind = HF_ADDRESSED;
+        expect(hf_pool_with_kind(&pool, 1, numbers[i], HF_ADDRESSED) == HF_REFUSED_IMPOSSIBLE_POOL && same(&before, &pool), "no mode of a kind: 1, of that kind");
+        before.mode = HF_SET_BACK_IS_SILENCE;
+        before.kind = HF_ORIGINAL;
+        expect(hf_pool_with_kind(&pool, 1, HF_SET_BACK_IS_SILENCE, numbers[i]) == HF_REFUSED_IMPOSSIBLE_POOL && same(&before, &pool), "no kind in a mode: 1, in that mode");
         half_heard(HF_SET_BACK_IS_SILENCE);
         pool.mode = numbers[i];
-        before = pool;
-        expect(hear(1000, "\x01ghijklm") == HF_REFUSED_IMPOSSIBLE_POOL && message.length == 0, "no mode: 1");
-        expect(hf_receive(&pool, &counters, LIST, 1, 1000, 127489, 35, (const uint8_t *)"\x00\x06......", &message) == HF_REFUSED_IMPOSSIBLE_POOL, "no mode, by value: 1");
-        expect(hear_cut("\x00\x06......", 8) == HF_REFUSED_IMPOSSIBLE_POOL, "no mode, with a length: 1");
-        expect(hf_process_frames(&pool, &counters, LIST, 1, 1, times, LIST, sources, (const uint8_t *)"\x00\x06......", kinds, lengths, arena, 8, counts)
-                   == HF_REFUSED_IMPOSSIBLE_POOL && counts[HF_COUNT_TAKEN] == 0, "no mode, in a batch: 1");
-        expect(same(&before, &pool) && counters.counts[HF_REJECTED_FRAMES] == 0 && counters.counts[HF_LOST_FRAGMENTS] == 0, "no mode: nothing has changed");
+        refused_by_every_call("no mode: 1, and nothing has changed");
+        half_heard(HF_SET_BACK_IS_SILENCE);
+        pool.kind = numbers[i];
+        refused_by_every_call("no kind: 1, and nothing has changed");
     }
     half_heard(HF_AS_ORIGINAL);
     expect(hf_pool_with_mode(&pool, 33, HF_SET_BACK_IS_SILENCE) == HF_REFUSED_IMPOSSIBLE_POOL && pool.size == 0 && pool.mode == HF_SET_BACK_IS_SILENCE
                && pool.heads[HF_SLOT_IN_PROGRESS] == 1, "a pool of 33 in a mode: 1, and of size 0 in it");
+    expect(hf_pool_with_kind(&pool, 33, HF_AS_ORIGINAL, HF_ADDRESSED) == HF_REFUSED_IMPOSSIBLE_POOL && pool.size == 0 && pool.kind == HF_ADDRESSED
+               && pool.heads[HF_SLOT_IN_PROGRESS] == 1, "a pool of 33 of a kind: 1, and of size 0 of it");
+}
+
+static void fresh_of(uint32_t kind) {
+    hf_counters_new(&counters);
+    expect(hf_pool_with_kind(&pool, 2, HF_AS_ORIGINAL, kind) == HF_OK && pool.size == 2 && pool.mode == HF_AS_ORIGINAL && pool.kind == kind, "a pool of a kind");
+}
+
+static uint32_t hear_by_id(uint32_t id, const char *data) {
+    return hf_process_frame_by_id(&pool, &counters, BOTH, 2, 1000, id, (const uint8_t *)data, &message);
+}
+
+/* The same frames, whose identifiers the original's kind is not handed. */
+static uint32_t hear_by_pgn(uint32_t pgn, const char *data) {
+    return hf_process_frame(&pool, &counters, BOTH, 2, 1000, pgn, 35, (const uint8_t *)data, &message);
+}
+
+static int whole(const char *text) {
+    return message.length == strlen(text) && !memcmp(message.payload, text, message.length);
+}
+
+/* The table of two displays. */
+static void two_displays(void) {
+    const uint64_t *second = pool.heads + HF_SLOT_NUMBERS;
+    fresh_of(HF_ADDRESSED);
+    expect(hear_by_id(TO_16, "\x00\x08" "abcdef") == HF_FRAGMENT_CONSUMED && hear_by_id(TO_17, "\x00\x08" "ABCDEF") == HF_FRAGMENT_CONSUMED
+               && pool.heads[HF_SLOT_PGN] == 126208 && pool.heads[HF_SLOT_PART] == 17 && second[HF_SLOT_PGN] == 126208 && second[HF_SLOT_PART] == 18, "to 16 and to 17: two keys");
+    expect(hear_by_id(0x0DED1223, "\x01ij.....") == HF_LOST && hear_by_id(TO_16, "\x01gh.....") == HF_MESSAGE_COMPLETE && whole("abcdefgh"), "to 18 none, to 16 whole");
+    expect(hf_receive_by_id(&pool, &counters, BOTH, 2, 1000, TO_17, (const uint8_t *)"\x01GH.....", &message) == HF_MESSAGE_COMPLETE && whole("ABCDEFGH"), "and to 17 whole");
+    expect(pool.heads[HF_SLOT_PART] == 0 && pool.heads[HF_SLOT_SOURCE] == 35 && second[HF_SLOT_PART] == 0 && second[HF_SLOT_SOURCE] == 35, "a reset makes the part none");
+    expect(hear_by_id(TO_16, "\x00\x08" "abcdef") == HF_FRAGMENT_CONSUMED
+               && hf_process_frame_by_id_with_length(&pool, &counters, BOTH, 2, 1000, TO_16, (const uint8_t *)"\x01gh.....", 2, &message) == HF_LOST && pool.heads[HF_SLOT_IN_PROGRESS] == 0
+               && pool.heads[HF_SLOT_PART] == 0, "cut short: the session has ended");
+    expect(hear_by_id(TO_EVERYBODY, "\x00\x08" "abcdef") == HF_FRAGMENT_CONSUMED && pool.heads[HF_SLOT_PGN] == 127489 && pool.heads[HF_SLOT_PART] == 0
+               && hear_by_id(TO_EVERYBODY, "\x01gh.....") == HF_MESSAGE_COMPLETE && whole("abcdefgh"), "127489: a key with none, as in the original's kind");
+    expect(hf_process_frame_by_id(&pool, &counters, NULL, 0, 1000, TO_16, (const uint8_t *)"\x00\x06......", &message) == HF_NOT_LISTED && counters.counts[HF_UNKNOWN_PGN] == 1, "not listed");
+    fresh_of(HF_ORIGINAL);
+    expect(hear_by_pgn(126208, "\x00\x08" "abcdef") == HF_FRAGMENT_CONSUMED && hear_by_pgn(126208, "\x00\x08" "ABCDEF") == HF_FRAGMENT_CONSUMED
+               && hear_by_pgn(126208, "\x01gh.....") == HF_MESSAGE_COMPLETE && whole("ABCDEFgh") && hear_by_pgn(126208, "\x01GH.....") == HF_LOST && second[HF_SLOT_LAST_TIME] == 0,
+           "the same in the original's kind: one key, as the original has it");
+}
+
+/* A pool of this kind at the other's entries. */
+static void other_kind(void) {
+    static hf_pool before;
+    fresh_of(HF_ORIGINAL);
+    before = pool;
+    expect(by_every_new_call(BOTH, 2, TO_16, "\x00\x06......") == HF_REFUSED_IMPOSSIBLE_POOL && by_every_new_call(BOTH, 0, TO_EVERYBODY, "\x00\x06......") == HF_REFUSED_IMPOSSIBLE_POOL
+               && by_every_new_call(BOTH, 2, 0x20000000, "\x00\x06......") == HF_REFUSED_TOO_WIDE && same(&before, &pool), "the original's kind by the identifier: 1, but 8 before it");
+    fresh_of(HF_ADDRESSED);
+    before = pool;
+    expect(by_every_old_call(BOTH, 2, 126208, "\x00\x06......") == HF_REFUSED_IMPOSSIBLE_POOL && by_every_old_call(BOTH, 0, 127489, "\x00\x06......") == HF_REFUSED_IMPOSSIBLE_POOL
+               && same(&before, &pool), "the other kind by PGN and source: 1");
+    expect(by_every_new_call(BOTH, 2, 0x20000000, "\x00\x06......") == HF_REFUSED_TOO_WIDE && message.length == 0 && same(&before, &pool), "an identifier of 2^29: 8");
+    expect(counters.counts[HF_UNKNOWN_PGN] == 0, "and nothing is counted");
+}
+
+/* A pool of this kind with a slot half heard, of this PGN and with this part. */
+static void half_heard_with(uint32_t kind, uint32_t pgn, uint64_t part) {
+    static const uint64_t head[HF_SLOT_NUMBERS] = {[HF_SLOT_IN_PROGRESS] = 1, [HF_SLOT_SOURCE] = 35, [HF_SLOT_EXPECTED_SIZE] = 14, [HF_SLOT_CURRENT_SIZE] = 6, [HF_SLOT_LAST_TIME] = 1000};
+    fresh_of(kind);
+    memcpy(pool.heads, head, sizeof head);
+    pool.heads[HF_SLOT_PGN] = pgn;
+    pool.heads[HF_SLOT_PART] = part;
+}
+
+/* The table of the part: which a slot in progress may have by its PGN. */
+static void parts(void) {
+    half_heard_with(HF_ADDRESSED, 126208, 0);
+    refused_by_every_call("126208 with none: 1");
+    half_heard_with(HF_ADDRESSED, 127489, 17);
+    refused_by_every_call("127489 to 16: 1");
+    half_heard_with(HF_ADDRESSED, 126208, 257);
+    refused_by_every_call("126208 with a part past the last destination: 1");
+    half_heard_with(HF_ORIGINAL, 126208, 17);
+    refused_by_every_call("a destination in the original's kind: 1");
+    half_heard_with(HF_ADDRESSED, 126208, 256);
+    expect(hear_by_id(0x0DEDFE23, "\x01ghijklm") == HF_LOST && hear_by_id(0x0DEDFF23, "\x01ghijklm") == HF_FRAGMENT_CONSUMED, "126208 to 255: taken");
+    half_heard_with(HF_ADDRESSED, 126208, 65536 + 17);
+    expect(hear_by_id(TO_16, "\x01ghijklm") == HF_FRAGMENT_CONSUMED && pool.heads[HF_SLOT_PART] == 65536 + 17, "a part is read modulo 65536, and not written where it stays");
+    for (uint32_t kind = HF_ORIGINAL; kind <= HF_ADDRESSED; kind++) {
+        half_heard_with(kind, 126208, 65535);
+        pool.heads[HF_SLOT_IN_PROGRESS] = 0;
+        expect((kind == HF_ORIGINAL ? hear_by_pgn(126208, "\x01ghijklm") : hear_by_id(TO_16, "\x01ghijklm")) == HF_LOST && pool.heads[HF_SLOT_PART] == 65535, "an idle slot: not looked at");
+        pool.heads[HF_SLOT_IN_PROGRESS] = 1;
+        pool.size = 0;
+        expect((kind == HF_ORIGINAL ? hear_by_pgn(126208, "\x01ghijklm") : hear_by_id(TO_16, "\x01ghijklm")) == HF_LOST && pool.heads[HF_SLOT_PART] == 65535, "past the size: not looked at");
+    }
 }
 
 static void bench(void) {
@@ -294,8 +426,8 @@ static void batch(void) {
     expect(hf_process_frames(&pool, &counters, NULL, 0, 2, times, pgns, sources, data, kinds, lengths, NULL, 0, counts) == HF_OK && counts[HF_COUNT_TAKEN] == 2
                && kinds[1] == HF_NOT_LISTED && counters.counts[HF_UNKNOWN_PGN] == 2, "a batch with no list and no arena, at NULL");
     expect(hf_process_frames(&pool, &counters, NULL, 0, 0, NULL, NULL, NULL, NULL, NULL, NULL, NULL, 0, counts) == HF_OK && counts[HF_COUNT_TAKEN] == 0, "a batch of no frames, at NULL");
-    expect(hf_raw_process_frames(pool.size, pool.mode, pool.heads, pool.bytes, counters.counts, LIST, 1, times, 2, pgns, 1, sources, 2, data, 16, kinds, 2, lengths, 2, arena,
-                                 16, counts) == HF_REFUSED_NO_ROOM && counts[HF_COUNT_TAKEN] == 0, "a row too short: 27");
+    expect(hf_raw_process_frames(pool.size, pool.mode, pool.kind, pool.heads, pool.bytes, counters.counts, LIST, 1, times, 2, pgns, 1, sources, 2, data, 16, kinds, 2, lengths, 2,
+                                 arena, 16, counts) == HF_REFUSED_NO_ROOM && counts[HF_COUNT_TAKEN] == 0, "a row too short: 27");
 }
 
 /* All of the above on a stack of its own, painted first: what is not the paint any more was used. */
@@ -308,7 +440,10 @@ static void calls(void) {
     cut_frames();
     messages();
     clock_set_back();
-    no_mode();
+    neither();
+    two_displays();
+    other_kind();
+    parts();
     batch();
     batch_names();
     bench();

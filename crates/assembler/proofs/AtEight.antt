@@ -15,8 +15,8 @@ use Rattle.assembler.specs.declared.ArrivalWithLength.{ArrivalWithLength
 use Rattle.assembler.specs.declared.Pool.{Pool}
 use Rattle.assembler.specs.declared.Processed.{Processed}
 use Rattle.assembler.specs.declared.Received.{Received}
-use Rattle.assembler.specs.Arrivals.{heardOf, heardWithLength}
-use Rattle.assembler.specs.Promises.{ReceivesHeard, ProcessesHeard, Receives, ReceivesWithLength, Processes, ProcessesWithLength}
+use Rattle.assembler.specs.Arrivals.{heardOf, cutTo, heardWithLength}
+use Rattle.assembler.specs.Promises.{atOriginal, ReceivesHeard, ProcessesHeard, Receives, ReceivesWithLength, Processes, ProcessesWithLength}
 
 fill-all : (n : ℕ) (bytes : List ℕ) → length bytes ≡ n → fill n bytes ≡ bytes
 unfolding fill
@@ -30,7 +30,7 @@ module _ (a : Arrival) (eight : length (a .«data») ≡ 8) (n : ℕ) (all : 8 �
   sent = record { arrival = a; length = n }
 
   pub heard-eight : heardWithLength sent ≡ heardOf a
-  unfolding heardWithLength heardOf filledFrom
+  unfolding heardWithLength cutTo heardOf filledFrom
   heard-eight =
       let most : min n 8 ≡ 8 = omega (arith, all) in
       rw (most, take-all 8 (a .«data») (omega (arith, eight)), fill-all 8 (a .«data») eight)
@@ -38,14 +38,14 @@ module _ (a : Arrival) (eight : length (a .«data») ≡ 8) (n : ℕ) (all : 8 �
   module _ (pgns : List ℕ) (pool : Pool) (counters : Counters) where
     -- `receive_with_length` and `process_frame_with_length_through` promise what `receive` and `process_frame_through` do, and the other way round
     pub received-at-eight : (r : Received) → ReceivesWithLength pgns sent pool counters r → Receives pgns a pool counters r
-    received-at-eight r h = subst (λ (f : Heard). ReceivesHeard pgns f pool counters r) heard-eight h
+    received-at-eight r h = subst (λ (f : Heard). ReceivesHeard pgns (atOriginal pool f) pool counters r) heard-eight h
 
     pub received-as-eight : (r : Received) → Receives pgns a pool counters r → ReceivesWithLength pgns sent pool counters r
-    received-as-eight r h = subst (λ (f : Heard). ReceivesHeard pgns f pool counters r) (sym heard-eight) h
+    received-as-eight r h = subst (λ (f : Heard). ReceivesHeard pgns (atOriginal pool f) pool counters r) (sym heard-eight) h
 
     -- and so do `process_frame_with_length` and `process_frame`
     pub processed-at-eight : (r : Processed) (after : Counters) → ProcessesWithLength pgns sent pool counters r after → Processes pgns a pool counters r after
-    processed-at-eight r after h = subst (λ (f : Heard). ProcessesHeard pgns f pool counters r after) heard-eight h
+    processed-at-eight r after h = subst (λ (f : Heard). ProcessesHeard pgns (atOriginal pool f) pool counters r after) heard-eight h
 
     pub processed-as-eight : (r : Processed) (after : Counters) → Processes pgns a pool counters r after → ProcessesWithLength pgns sent pool counters r after
-    processed-as-eight r after h = subst (λ (f : Heard). ProcessesHeard pgns f pool counters r after) (sym heard-eight) h
+    processed-as-eight r after h = subst (λ (f : Heard). ProcessesHeard pgns (atOriginal pool f) pool counters r after) (sym heard-eight) h

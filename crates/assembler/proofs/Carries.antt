@@ -25,10 +25,10 @@ use Rattle.session.specs.declared.Kind.the-variants.{ImpossiblePool}
 use Rattle.session.specs.declared.Mark.the-variants.{Nothing}
 use Rattle.session.specs.Rules.{Rules, poolLimit}
 use Rattle.session.specs.Frames.{indexOf, sizeOf, firstBytes, nextBytes, isEmpty, badFirst}
-use Rattle.session.specs.Heads.{impossibleHead, hasKey, isFree, isFreeOfSource, hasLiveKey, isExpired, isNext, openedHead, resetHead, wanted, copiedHead, allThere}
+use Rattle.session.specs.Heads.{impossibleHead, hasKey, isFree, isFreeOfSource, hasLiveKey, isSilent, isExpired, isNext, openedHead, resetHead, wanted, copiedHead, allThere}
 use Rattle.session.specs.Counting.{raised, expiredMark}
 use Rattle.session.specs.inner.Search.{nothingFound, seen, seenIf, foundIn, firstOf, placeOf, withinLimit}
-use Rattle.session.specs.inner.Plan.{idle, planOpen, planShort, planSized, planFirst, planCopy, planTurn, planNext, planIndex, planSent, planListed, planOf}
+use Rattle.session.specs.inner.Plan.{isLate, idle, planOpen, planShort, planSized, planFirst, planCopy, planTurn, planNext, planIndex, planSent, planListed, planOf}
 use Rattle.session.proofs.Seen.{found, place, spot, Inside, placed-found, placed-spot, inside-first, inside-or, first-of, seen-bad, seen-key, seen-live, seen-own, seen-free}
 use Rattle.session.proofs.Sound.{Sound, sound, none-at, busy-live}
 use Rattle.assembler.specs.declared.Pool.{Pool}
@@ -50,7 +50,7 @@ carried d g f p k =
       payload =
           paste (paste (replicate 223 0) 0 (drop (g * 223) (paste (p .bytes) (g * 223 + d .at) (drop (d .from) (f .«data»)) (d .count))) (d .whole)) 0 (drop 2 (f .«data»)) (d .short);
       length = d .whole + d .short;
-      pool = record { mode = p .mode; size = p .size; heads = set (p .heads) g (d .head); bytes = paste (p .bytes) (g * 223 + d .at) (drop (d .from) (f .«data»)) (d .count) };
+      pool = record { kind = p .kind; mode = p .mode; size = p .size; heads = set (p .heads) g (d .head); bytes = paste (p .bytes) (g * 223 + d .at) (drop (d .from) (f .«data»)) (d .count) };
       counters = raised (d .mark) k;
     }
 
@@ -78,7 +78,7 @@ module _ (R : Rules) (f : Heard) (p : Pool) (k : Counters) (w : Whole p) (eight 
   slots = take (p .size) (slotsFrom (p .heads) (p .bytes))
 
   abbrev after : Event → Received
-  after e = shown (p .mode) (outcome f e (slotsOf p) k)
+  after e = shown (p .kind) (p .mode) (outcome f e (slotsOf p) k)
 
   does-ignored : (e : Event) (why : Why) (g : ℕ) → saidOf f slots e ≡ ignored why → slotsAfter f slots e ≡ slots → Does f p k (idle (whyKind why) (markOf e) (getD (p .heads) g d)) g (after e)
   unfolding idle carried shown outcome slotsOf replyKind replyPayload replyLength zeros
@@ -88,8 +88,8 @@ module _ (R : Rules) (f : Heard) (p : Pool) (k : Counters) (w : Whole p) (eight 
         is = rw (said, kept, set-getD (p .heads) g d, sym (copy-none (p .bytes) (g * 223 + 0)), view-same p w);
       }
 
-  does-refused : (g : ℕ) → Does f p k (idle ImpossiblePool Nothing (getD (p .heads) g d)) g (shown (p .mode) (record { reply = refuses 1 []; pool = slotsOf p; counters = k }))
-  unfolding idle carried shown replyKind replyPayload replyLength zeros raised
+  does-refused : (g : ℕ) → Does f p k (idle ImpossiblePool Nothing (getD (p .heads) g d)) g (shown (p .kind) (p .mode) (record { reply = refuses 1 []; pool = slotsOf p; counters = k }))
+  unfolding idle carried shown replyKind pick replyPayload replyLength zeros raised
   does-refused g =
       record {
         fits = record { room = omega arith; there = omega arith; whole = omega arith; short = omega arith; total = omega arith };
@@ -104,7 +104,7 @@ module _ (R : Rules) (f : Heard) (p : Pool) (k : Counters) (w : Whole p) (eight 
   unfolding nextBytes
   next-seven = simp length-drop (rw eight)
 
-  does-short : (t : Bool) (g : ℕ) → sizeOf f ≤ 6 → Does f p k (planShort true t R f (getD (p .heads) g d)) g (after shortMessage)
+  does-short : (t : Bool) (g : ℕ) → sizeOf f ≤ 6 → Does f p k (planShort true t (R .silent) f (getD (p .heads) g d)) g (after shortMessage)
   unfolding planShort carried shown outcome saidOf slotsAfter markOf slotsOf message firstBytes replyKind replyPayload replyLength
   does-short t g h =
       let reach : sizeOf f ≤ length (drop 2 (f .«data»)) = omega (arith, first-six) in
@@ -125,8 +125,8 @@ module _ (R : Rules) (f : Heard) (p : Pool) (k : Counters) (w : Whole p) (eight 
     slot-here : (i : ℕ) → i < p .size → getD slots i freshSlot ≡ record { head = getD (p .heads) i d; buffer = take 223 (drop (i * 223) (p .bytes)) }
     slot-here i h = getD-take (p .size) (slotsFrom (p .heads) (p .bytes)) i freshSlot h ∙ slot-at (p .heads) (p .bytes) i d freshSlot (omega (arith, w .heads))
 
-    does-open : (o : Option ℕ) → Inside (p .size) o → Does f p k (planOpen (found o) R f (getD (p .heads) (spot o) d)) (spot o) (after (opensAt R f slots o))
-    unfolding found spot planOpen opensAt
+    does-open : (o : Option ℕ) → Inside (p .size) o → Does f p k (planOpen (found o) (R .silent) f (getD (p .heads) (spot o) d)) (spot o) (after (opensAt R f slots o))
+    unfolding found spot planOpen isLate opensAt isExpired isSilent
     does-open none u = unfold markOf saidOf slotsAfter whyKind in does-ignored poolFull noSlot 0 refl refl
     does-open (some i) u =
         record {
@@ -210,43 +210,43 @@ module _ (R : Rules) (f : Heard) (p : Pool) (k : Counters) (w : Whole p) (eight 
     inside-choice true = inside-or (p .size) _ _ (inside-slots (hasKey R f)) (inside-or (p .size) _ _ (inside-slots (isFreeOfSource R f)) (inside-slots (isFree R f)))
     inside-choice false = inside-slots (hasLiveKey R f)
 
-    live-sound : any (onHead impossibleHead) slots ≡ false → (i : ℕ) → live R f slots ≡ some i → Sound (getD (p .heads) i d)
+    live-sound : any (onHead (impossibleHead R)) slots ≡ false → (i : ℕ) → live R f slots ≡ some i → Sound (getD (p .heads) i d)
     unfolding live
     live-sound fine i e =
         let hit = first-passes (onHead (hasLiveKey R f)) slots freshSlot i e in
         let u : i < p .size = subst (Inside (p .size)) e (inside-slots (hasLiveKey R f)) in
         let keyed : hasLiveKey R f (getD (p .heads) i d) ≡ true = rw (slot-here i u) at (hit .passed) in
-        let good : impossibleHead (getD (p .heads) i d) ≡ false = rw (slot-here i u) at (none-at (onHead impossibleHead) slots i freshSlot fine (hit .inside)) in
+        let good : impossibleHead R (getD (p .heads) i d) ≡ false = rw (slot-here i u) at (none-at (onHead (impossibleHead R)) slots i freshSlot fine (hit .inside)) in
         sound R (getD (p .heads) i d) (busy-live R f (getD (p .heads) i d) keyed) good
 
-    does-first : (b : Bool) → leb (sizeOf f) 6 ≡ b → Does f p k (planShort b (found (choice true)) R f (getD (p .heads) (spot (choice true)) d)) (spot (choice true)) (after (firstShort b R f slots))
+    does-first : (b : Bool) → leb (sizeOf f) 6 ≡ b → Does f p k (planShort b (found (choice true)) (R .silent) f (getD (p .heads) (spot (choice true)) d)) (spot (choice true)) (after (firstShort b R f slots))
     does-first true e = unfold pick in does-short (found (choice true)) (spot (choice true)) (leb-true (sizeOf f) 6 e)
     does-first false e = unfold planShort pick choice in does-open (chosen R f slots) (inside-choice true)
 
-    does-sized : (b : Bool) → Does f p k (planSized b (found (choice true)) R f (getD (p .heads) (spot (choice true)) d)) (spot (choice true)) (after (firstSized b R f slots))
+    does-sized : (b : Bool) → Does f p k (planSized b (found (choice true)) (R .silent) f (getD (p .heads) (spot (choice true)) d)) (spot (choice true)) (after (firstSized b R f slots))
     unfolding planSized pick
     does-sized true = unfold markOf saidOf slotsAfter whyKind in does-ignored rejected badFrame (spot (choice true)) refl refl
     does-sized false = does-first (leb (sizeOf f) 6) refl
 
-    module _ (fine : any (onHead impossibleHead) slots ≡ false) where
-      does-index : (b : Bool) → Does f p k (planIndex b (found (choice b)) R f (getD (p .heads) (spot (choice b)) d)) (spot (choice b)) (after (byIndex b R f slots))
+    module _ (fine : any (onHead (impossibleHead R)) slots ≡ false) where
+      does-index : (b : Bool) → Does f p k (planIndex b (found (choice b)) (R .silent) f (getD (p .heads) (spot (choice b)) d)) (spot (choice b)) (after (byIndex b R f slots))
       unfolding planIndex pick planFirst
       does-index true = does-sized (badFirst f)
       does-index false = unfold choice in does-next (live R f slots) (inside-choice false) (live-sound fine)
 
-      does-sent : (b : Bool) → Does f p k (planSent b (found (choice (eqb (indexOf f) 0))) R f (getD (p .heads) (spot (choice (eqb (indexOf f) 0))) d)) (spot (choice (eqb (indexOf f) 0))) (after (bySent b R f slots))
+      does-sent : (b : Bool) → Does f p k (planSent b (found (choice (eqb (indexOf f) 0))) (R .silent) f (getD (p .heads) (spot (choice (eqb (indexOf f) 0))) d)) (spot (choice (eqb (indexOf f) 0))) (after (bySent b R f slots))
       unfolding planSent pick
       does-sent true = unfold markOf saidOf slotsAfter whyKind in does-ignored rejected badFrame (spot (choice (eqb (indexOf f) 0))) refl refl
       does-sent false = does-index (eqb (indexOf f) 0)
 
-      does-listed : (b : Bool) → Does f p k (planListed b (found (choice (eqb (indexOf f) 0))) R f (getD (p .heads) (spot (choice (eqb (indexOf f) 0))) d)) (spot (choice (eqb (indexOf f) 0))) (after (byList b R f slots))
+      does-listed : (b : Bool) → Does f p k (planListed b (found (choice (eqb (indexOf f) 0))) (R .silent) f (getD (p .heads) (spot (choice (eqb (indexOf f) 0))) d)) (spot (choice (eqb (indexOf f) 0))) (after (byList b R f slots))
       unfolding planListed pick
       does-listed false = unfold markOf saidOf slotsAfter whyKind in does-ignored notListed unlisted (spot (choice (eqb (indexOf f) 0))) refl refl
       does-listed true = does-sent (isEmpty f)
 
-    does-checked : (l : List ℕ) (b : Bool) → any (onHead impossibleHead) slots ≡ b
-        → Does f p k (planOf b (listedIn (f .pgn) l) (found (choice (eqb (indexOf f) 0))) R f (getD (p .heads) (spot (choice (eqb (indexOf f) 0))) d)) (spot (choice (eqb (indexOf f) 0)))
-        (shown (p .mode) (stepIf b R (slotsOf p) k (record { pgns = l; heard = f })))
+    does-checked : (l : List ℕ) (b : Bool) → any (onHead (impossibleHead R)) slots ≡ b
+        → Does f p k (planOf b (listedIn (f .pgn) l) (found (choice (eqb (indexOf f) 0))) (R .silent) f (getD (p .heads) (spot (choice (eqb (indexOf f) 0))) d)) (spot (choice (eqb (indexOf f) 0)))
+        (shown (p .kind) (p .mode) (stepIf b R (slotsOf p) k (record { pgns = l; heard = f })))
     unfolding planOf stepIf
     does-checked l true e = does-refused (spot (choice (eqb (indexOf f) 0)))
     does-checked l false e = unfold eventOf slotsOf in does-listed e (listedIn (f .pgn) l)
@@ -268,14 +268,14 @@ module _ (R : Rules) (f : Heard) (p : Pool) (k : Counters) (w : Whole p) (eight 
 
   -- the whole call
   pub receives : (l : List ℕ) → R .limit ≡ poolLimit
-      → Does f p k (planOf (foundIn R f (p .size) (p .heads) .bad) (listedIn (f .pgn) l) (ltb (placeOf f (foundIn R f (p .size) (p .heads))) poolLimit) R f (getD (p .heads) (withinLimit (placeOf f (foundIn R f (p .size) (p .heads)))) d))
+      → Does f p k (planOf (foundIn R f (p .size) (p .heads) .bad) (listedIn (f .pgn) l) (ltb (placeOf f (foundIn R f (p .size) (p .heads))) poolLimit) (R .silent) f (getD (p .heads) (withinLimit (placeOf f (foundIn R f (p .size) (p .heads)))) d))
       (withinLimit (placeOf f (foundIn R f (p .size) (p .heads)))) (receiveOf R l f p k)
   unfolding foundIn seenIf receiveOf step impossible slotsOf
   receives l limit = go (ltb poolLimit (p .size)) refl (R .limit) limit
     where
       go : (b : Bool) → ltb poolLimit (p .size) ≡ b → (n : ℕ) → n ≡ poolLimit
-          → Does f p k (planOf (seenIf b R f (p .size) (p .heads) .bad) (listedIn (f .pgn) l) (ltb (placeOf f (seenIf b R f (p .size) (p .heads))) poolLimit) R f (getD (p .heads) (withinLimit (placeOf f (seenIf b R f (p .size) (p .heads)))) d))
-          (withinLimit (placeOf f (seenIf b R f (p .size) (p .heads)))) (shown (p .mode) (stepIf (ltb n (p .size) || any (onHead impossibleHead) slots) R (slotsOf p) k (record { pgns = l; heard = f })))
+          → Does f p k (planOf (seenIf b R f (p .size) (p .heads) .bad) (listedIn (f .pgn) l) (ltb (placeOf f (seenIf b R f (p .size) (p .heads))) poolLimit) (R .silent) f (getD (p .heads) (withinLimit (placeOf f (seenIf b R f (p .size) (p .heads)))) d))
+          (withinLimit (placeOf f (seenIf b R f (p .size) (p .heads)))) (shown (p .kind) (p .mode) (stepIf (ltb n (p .size) || any (onHead (impossibleHead R)) slots) R (slotsOf p) k (record { pgns = l; heard = f })))
       go true e n en = unfold nothingFound planOf stepIf in rw (en, e) (does-refused _)
       go false e n en =
           let small : p .size ≤ poolLimit = ltb-false poolLimit (p .size) e in
@@ -287,20 +287,20 @@ module _ (R : Rules) (f : Heard) (p : Pool) (k : Counters) (w : Whole p) (eight 
             placed-found o (p .size) small (inside-choice small (eqb (indexOf f) 0)),
             placed-spot o (p .size) small (inside-choice small (eqb (indexOf f) 0)),
             seen-bad R f (take (p .size) (p .heads)) 0,
-            ← any-view impossibleHead (p .size) (p .heads) (p .bytes),
-          ) (does-checked small l (any (onHead impossibleHead) slots) refl)
+            ← any-view (impossibleHead R) (p .size) (p .heads) (p .bytes),
+          ) (does-checked small l (any (onHead (impossibleHead R)) slots) refl)
 
 -- as the code comes by it: each thing that it computes is a variable with what is known of it
 module _ (R : Rules) (limit : R .limit ≡ poolLimit) (l : List ℕ) (f : Heard) (p : Pool) (k : Counters) (w : Whole p) (eight : length (f .«data») ≡ 8) (e : Head) (s : Found) (t : Bool) (i g : ℕ) (d : Plan)
     (es : s ≡ foundIn R f (p .size) (p .heads)) (et : t ≡ listedIn (f .pgn) l) (ei : i ≡ placeOf f s) (eg : g ≡ withinLimit i)
-    (ed : d ≡ planOf (s .bad) t (ltb i poolLimit) R f (getD (p .heads) g e)) where
+    (ed : d ≡ planOf (s .bad) t (ltb i poolLimit) (R .silent) f (getD (p .heads) g e)) where
   pub planned : Does f p k d g (receiveOf R l f p k)
   planned = rw (ed, eg, ei, et, es) (receives R f p k w eight e l limit)
 
   -- the answer, put together from what the calls left
   pub answered : (b : List ℕ) (c : Counters) (m n : List ℕ) → b ≡ paste (p .bytes) (g * 223 + d .at) (drop (d .from) (f .«data»)) (d .count) → c ≡ raised (d .mark) k
       → m ≡ paste (replicate 223 0) 0 (drop (g * 223) b) (d .whole) → n ≡ paste m 0 (drop 2 (f .«data»)) (d .short)
-      → record { kind = d .kind; payload = n; length = d .whole + d .short; pool = record { mode = p .mode; size = p .size; heads = set (p .heads) g (d .head); bytes = b }; counters = c } ≡ receiveOf R l f p k
+      → record { kind = d .kind; payload = n; length = d .whole + d .short; pool = record { kind = p .kind; mode = p .mode; size = p .size; heads = set (p .heads) g (d .head); bytes = b }; counters = c } ≡ receiveOf R l f p k
   unfolding carried
   answered b c m n eb ec em en = rw (en, em, ec, eb) (planned .is)
 

@@ -21,8 +21,8 @@ use Rattle.session.specs.Rules.{Rules}
 use Rattle.session.specs.Frames.{sequenceOf, indexOf, sizeOf, badSize, firstBytes, nextBytes, isEmpty, badFirst}
 use Rattle.session.specs.Heads.{impossibleHead, hasLiveKey, inTurn, isNext, openedHead, resetHead, wanted, copiedHead, allThere}
 use Rattle.session.proofs.Cuts.{first-good, next-in-turn}
-use Rattle.session.proofs.Sound.{Sound, sound, none-at, busy-live}
-use Rattle.assembler.specs.Call.{Call, CallOk, listed}
+use Rattle.session.proofs.Sound.{Sound, sound, fitting, none-at, busy-live}
+use Rattle.assembler.specs.Call.{Call, CallOk, partFits, listed}
 use Rattle.assembler.specs.Slots.{Slot, Slots, freshSlot, slotAt, within, onHead, impossible, chosen, live, openedSlot, resetSlot, copiedSlot}
 use Rattle.assembler.specs.Step.{Event, notListed, rejected, shortMessage, poolFull, opened, stray, broken, copied, completed, opensAt, continuesAt, eventOf, slotsAfter, outcome, stepIf, step}
 use Rattle.assembler.proofs.Events.{firstShort, firstSized, copyAt, turnAt, byIndex, bySent, byList}
@@ -65,21 +65,22 @@ sized-drop (more d h) (suc n) = sized-drop h n
 
 -- ---- heads that a call leaves
 
-opened-fine : (R : Rules) (f : Heard) → sequenceOf f ≤ 7 → 7 ≤ sizeOf f → sizeOf f ≤ 223 → impossibleHead (openedHead f) ≡ false
+opened-fine : (R : Rules) (f : Heard) → sequenceOf f ≤ 7 → 7 ≤ sizeOf f → sizeOf f ≤ 223 → R .allowed (f .pgn) (f .part) ≡ true → impossibleHead R (openedHead f) ≡ false
 unfolding impossibleHead openedHead
-opened-fine R f a b d = rw (le-ltb 7 (sequenceOf f) a, le-ltb (sizeOf f) 7 b, le-ltb 223 (sizeOf f) d, lt-ltb 6 (sizeOf f) b)
+opened-fine R f a b d fits = rw (fits, le-ltb 7 (sequenceOf f) a, le-ltb (sizeOf f) 7 b, le-ltb 223 (sizeOf f) d, lt-ltb 6 (sizeOf f) b)
 
-reset-fine : (R : Rules) (h : Head) → impossibleHead (resetHead h) ≡ false
+reset-fine : (R : Rules) (h : Head) → impossibleHead R (resetHead h) ≡ false
 unfolding impossibleHead resetHead
 reset-fine R h = refl
 
-copied-fine : (R : Rules) (f : Heard) (h : Head) → Sound h → isNext f h ≡ true → allThere (copiedHead f h) ≡ false → impossibleHead (copiedHead f h) ≡ false
+copied-fine : (R : Rules) (f : Heard) (h : Head) → Sound h → R .allowed (h .pgn) (h .part) ≡ true → isNext f h ≡ true → allThere (copiedHead f h) ≡ false → impossibleHead R (copiedHead f h) ≡ false
 unfolding impossibleHead copiedHead allThere inTurn wanted
-copied-fine R f h s turn short =
+copied-fine R f h s fits turn short =
     let next : indexOf f ≡ h .«last_frame_index» + 1 = eqb-true (indexOf f) (h .«last_frame_index» + 1) (next-in-turn f h turn) in
     let less : h .«current_size» + min 7 (h .«expected_size» - h .«current_size») < h .«expected_size» = leb-false (h .«expected_size») (h .«current_size» + min 7 (h .«expected_size» - h .«current_size»)) short in
     let full : h .«current_size» + min 7 (h .«expected_size» - h .«current_size») ≡ 6 + 7 * indexOf f = omega (arith, s .held, s .below) in
     rw (
+      fits,
       le-ltb 7 (h .«sequence_id») (s .sequence),
       le-ltb (h .«expected_size») 7 (s .least),
       le-ltb 223 (h .«expected_size») (s .most),
@@ -101,17 +102,17 @@ after-length f ss (broken i) = simp length-set
 after-length f ss (copied i) = simp length-set
 after-length f ss (completed i) = simp length-set
 
-module _ (R : Rules) (c : Call) (ok : CallOk c) (ss : List Slot) (fine : any (onHead impossibleHead) ss ≡ false) where
+module _ (R : Rules) (c : Call) (ok : CallOk c) (part : partFits R c ≡ true) (ss : List Slot) (fine : any (onHead (impossibleHead R)) ss ≡ false) where
   -- a record, so that antt reads the slots off the goal
   record Fine (ts : List Slot) : Type 0 where
-    possible : any (onHead impossibleHead) ts ≡ false
+    possible : any (onHead (impossibleHead R)) ts ≡ false
     sized : Sized ss → Sized ts
 
   same : Fine ss
   same = record { possible = fine; sized = λ h. h }
 
-  put : (i : ℕ) (s : Slot) → impossibleHead (s .head) ≡ false → (Sized ss → length (s .buffer) ≡ 223) → Fine (set ss i s)
-  put i s good long = record { possible = any-set (onHead impossibleHead) ss i s fine good; sized = λ h. sized-set h i s (long h) }
+  put : (i : ℕ) (s : Slot) → impossibleHead R (s .head) ≡ false → (Sized ss → length (s .buffer) ≡ 223) → Fine (set ss i s)
+  put i s good long = record { possible = any-set (onHead (impossibleHead R)) ss i s fine good; sized = λ h. sized-set h i s (long h) }
 
   few : sequenceOf (c .heard) ≤ 7
   unfolding sequenceOf
@@ -129,7 +130,7 @@ module _ (R : Rules) (c : Call) (ok : CallOk c) (ss : List Slot) (fine : any (on
   unfolding opensAt slotsAfter openedSlot
   opens low high none = same
   opens low high (some i) =
-      put i (openedSlot (c .heard) (slotAt ss i)) (opened-fine R (c .heard) few low high)
+      put i (openedSlot (c .heard) (slotAt ss i)) (opened-fine R (c .heard) few low high part)
       (λ h. length-paste (slotAt ss i .buffer) 0 (firstBytes (c .heard)) 6 (omega (arith, sized-at h i)) (omega (arith, six)) ∙ sized-at h i)
 
   short : (b : Bool) → leb (sizeOf (c .heard)) 6 ≡ b → sizeOf (c .heard) ≤ 223 → Fine (slotsAfter (c .heard) ss (firstShort b R (c .heard) ss))
@@ -144,7 +145,7 @@ module _ (R : Rules) (c : Call) (ok : CallOk c) (ss : List Slot) (fine : any (on
       short (leb (sizeOf (c .heard)) 6) refl
       (unfold badSize in ltb-false 223 (sizeOf (c .heard)) (or-right (eqb (sizeOf (c .heard)) 0) (ltb 223 (sizeOf (c .heard))) (first-good (c .heard) e)))
 
-  module _ (i : ℕ) (s : Sound (slotAt ss i .head)) where
+  module _ (i : ℕ) (s : Sound (slotAt ss i .head)) (fits : R .allowed (slotAt ss i .head .pgn) (slotAt ss i .head .part) ≡ true) where
     copied-long : Sized ss → length (copiedSlot (c .heard) (slotAt ss i) .buffer) ≡ 223
     unfolding copiedSlot wanted
     copied-long h =
@@ -154,7 +155,7 @@ module _ (R : Rules) (c : Call) (ok : CallOk c) (ss : List Slot) (fine : any (on
     copies : (b : Bool) → isNext (c .heard) (slotAt ss i .head) ≡ true → allThere (copiedHead (c .heard) (slotAt ss i .head)) ≡ b → Fine (slotsAfter (c .heard) ss (copyAt b i))
     unfolding pick slotsAfter
     copies true turn e = put i (resetSlot (copiedSlot (c .heard) (slotAt ss i))) (unfold resetSlot in reset-fine R _) (λ h. unfold resetSlot in copied-long h)
-    copies false turn e = put i (copiedSlot (c .heard) (slotAt ss i)) (unfold copiedSlot in copied-fine R (c .heard) (slotAt ss i .head) s turn e) copied-long
+    copies false turn e = put i (copiedSlot (c .heard) (slotAt ss i)) (unfold copiedSlot in copied-fine R (c .heard) (slotAt ss i .head) s fits turn e) copied-long
 
     turns : (b : Bool) → isNext (c .heard) (slotAt ss i .head) ≡ b → Fine (slotsAfter (c .heard) ss (turnAt b (c .heard) i (slotAt ss i .head)))
     unfolding pick
@@ -166,7 +167,9 @@ module _ (R : Rules) (c : Call) (ok : CallOk c) (ss : List Slot) (fine : any (on
   continues none e = unfold slotsAfter in same
   continues (some i) e =
       let hit = first-passes (onHead (hasLiveKey R (c .heard))) ss freshSlot i e in
-      turns i (sound R (slotAt ss i .head) (busy-live R (c .heard) (slotAt ss i .head) (hit .passed)) (none-at (onHead impossibleHead) ss i freshSlot fine (hit .inside)))
+      let busy = busy-live R (c .heard) (slotAt ss i .head) (hit .passed) in
+      let good = none-at (onHead (impossibleHead R)) ss i freshSlot fine (hit .inside) in
+      turns i (sound R (slotAt ss i .head) busy good) (fitting R (slotAt ss i .head) busy good)
       (isNext (c .heard) (slotAt ss i .head)) refl
 
   index : (b : Bool) → Fine (slotsAfter (c .heard) ss (byIndex b R (c .heard) ss))
@@ -194,24 +197,24 @@ pub record Kept (R : Rules) (p q : Slots) : Type 0 where
   pub possible : impossible R q ≡ false
   pub sized : Sized (p .slots) → Sized (q .slots)
 
-still-possible : (R : Rules) (p : Slots) (ts : List Slot) → length ts ≡ length (within p) → ltb (R .limit) (p .size) ≡ false → any (onHead impossibleHead) ts ≡ false
+still-possible : (R : Rules) (p : Slots) (ts : List Slot) → length ts ≡ length (within p) → ltb (R .limit) (p .size) ≡ false → any (onHead (impossibleHead R)) ts ≡ false
     → impossible R (record { slots = ts ++ drop (p .size) (p .slots); size = p .size }) ≡ false
 unfolding impossible
 still-possible R p ts long small fine = rw (small, take-rest (p .size) (p .slots) ts long) fine
 
 in-limit : (R : Rules) (p : Slots) → impossible R p ≡ false → ltb (R .limit) (p .size) ≡ false
 unfolding impossible
-in-limit R p e = or-left (ltb (R .limit) (p .size)) (any (onHead impossibleHead) (within p)) e
+in-limit R p e = or-left (ltb (R .limit) (p .size)) (any (onHead (impossibleHead R)) (within p)) e
 
-all-possible : (R : Rules) (p : Slots) → impossible R p ≡ false → any (onHead impossibleHead) (within p) ≡ false
+all-possible : (R : Rules) (p : Slots) → impossible R p ≡ false → any (onHead (impossibleHead R)) (within p) ≡ false
 unfolding impossible
-all-possible R p e = or-right (ltb (R .limit) (p .size)) (any (onHead impossibleHead) (within p)) e
+all-possible R p e = or-right (ltb (R .limit) (p .size)) (any (onHead (impossibleHead R)) (within p)) e
 
 -- the theorem
-pub keeps : (R : Rules) (p : Slots) (k : Counters) (c : Call) → CallOk c → impossible R p ≡ false → Kept R p (step R p k c .pool)
+pub keeps : (R : Rules) (p : Slots) (k : Counters) (c : Call) → CallOk c → partFits R c ≡ true → impossible R p ≡ false → Kept R p (step R p k c .pool)
 unfolding step stepIf outcome
-keeps R p k c ok e =
-    let done = event R c ok (within p) (all-possible R p e) in
+keeps R p k c ok part e =
+    let done = event R c ok part (within p) (all-possible R p e) in
     rw e
     (record {
       possible = still-possible R p (slotsAfter (c .heard) (within p) (eventOf R (within p) c)) (after-length (c .heard) (within p) (eventOf R (within p) c)) (in-limit R p e) (done .possible);

@@ -5,9 +5,11 @@ pub mod Carries
 pub mod Keeps
 pub mod Types
 pub mod Replies
+pub mod Entries
 pub mod Promised
 pub mod Unique
 pub mod ByCalls
 pub mod AtEight
 pub mod Unsent
 pub mod OneWalk
+pub mod OldKind

@@ -1,25 +1,36 @@
 -- A promise and the equation that it stands for: each gives the other. Assumes nothing.
 use Prim.Native.Nat.{ℕ}
-use mathlib.Core.List.{List}
+use mathlib.Core.List.{List, []}
 use mathlib.Core.Path.{_≡_, refl, sym, ap, subst, _∙_}
 use Rattle.base.specs.Answer.{Answer, gives, refuses}
+use Rattle.base.specs.Pick.{pick}
+use Rattle.can_id.specs.declared.CanIdParts.{CanIdParts}
+use Rattle.can_id.specs.declared.Read.{Read}
+use Rattle.can_id.specs.declared.Read.the-variants.{Parts, TooWide}
+use Rattle.can_id.specs.Read.{ofRead, readOf}
 use Rattle.session.specs.declared.Counters.{Counters}
 use Rattle.session.specs.declared.Heard.{Heard}
 use Rattle.session.specs.declared.Kind.{Kind}
 use Rattle.session.specs.declared.Mode.{Mode}
+use Rattle.session.specs.declared.PoolKind.{PoolKind}
+use Rattle.session.specs.declared.Kind.the-variants as kind
 use Rattle.session.specs.declared.Kind.the-variants.{ImpossiblePool, NotListed, Rejected, PoolFull, Lost, FragmentConsumed, MessageComplete}
+use Rattle.session.specs.declared.PoolKind.the-variants.{Addressed}
+use Rattle.assembler.specs.declared.ArrivalById.{ArrivalById}
+use Rattle.assembler.specs.declared.ArrivalByIdWithLength.{ArrivalByIdWithLength}
 use Rattle.assembler.specs.declared.Made.{Made}
 use Rattle.assembler.specs.declared.Made.the-variants as made
 use Rattle.assembler.specs.declared.MadePool.{MadePool}
 use Rattle.assembler.specs.declared.Pool.{Pool}
 use Rattle.assembler.specs.declared.Processed.{Processed}
 use Rattle.assembler.specs.declared.Received.{Received}
-use Rattle.assembler.specs.Making.{sizeMade, poolMade, ofMade, MakesPoolIn}
-use Rattle.assembler.specs.Step.{Outcome, Reply}
-use Rattle.assembler.specs.View.{poolOf, whyKind, replyKind, replyPayload, replyLength, shown, replyBy, replyOf, receiveOf}
-use Rattle.assembler.specs.Promises.{rulesOf, outcomeOn, Answers, ReceivesHeard, ProcessesHeard}
-use Rattle.assembler.specs.inner.Forms.{processedOf}
-use Rattle.assembler.proofs.Replies.{replied}
+use Rattle.assembler.specs.Making.{sizeMade, poolMade, ofMade, MakesPoolOf}
+use Rattle.assembler.specs.Arrivals.{heardFrom, heardById, allCutTo, heardByIdWithLength}
+use Rattle.assembler.specs.Step.{Reply}
+use Rattle.assembler.specs.View.{whyKind, replyKind, replyPayload, replyLength, replyBy, replyOf}
+use Rattle.assembler.specs.Promises.{entered, Result, Answers, answerTo, ReceivesHeard, ProcessesHeard, ReceivesById, ReceivesByIdWithLength}
+use Rattle.assembler.specs.inner.Forms.{processedOf, refusedAs}
+use Rattle.assembler.proofs.Entries.{Known, known-entered, known-by-id, known-by-id-with-length, answer-refused, answer-back}
 
 -- ---- a pool made
 
@@ -33,8 +44,8 @@ unfolding ofMade caseOf
 case-back made.Fresh size = refl
 case-back made.ImpossiblePool size = refl
 
-pub made-by : (mode : Mode) (wanted : ℕ) {r : MadePool} → MakesPoolIn mode wanted r → r ≡ record { result = caseOf (sizeMade wanted); pool = poolMade mode (sizeMade wanted) }
-made-by mode wanted {r} h =
+pub made-by : (kind : PoolKind) (mode : Mode) (wanted : ℕ) {r : MadePool} → MakesPoolOf kind mode wanted r → r ≡ record { result = caseOf (sizeMade wanted); pool = poolMade kind mode (sizeMade wanted) }
+made-by kind mode wanted {r} h =
     let case : r .result ≡ caseOf (sizeMade wanted) = sym (case-back (r .result) (r .pool .size)) ∙ ap caseOf (h .answer) in
     rw (case, h .left) refl
 
@@ -42,8 +53,9 @@ made-by mode wanted {r} h =
 
 -- 01's numbers give the kind back
 kind-back : (kind : Kind) (payload : List ℕ) (length : ℕ) → replyKind (replyBy kind payload length) ≡ kind
-unfolding replyKind whyKind replyBy
+unfolding replyKind whyKind replyBy pick
 kind-back ImpossiblePool payload length = refl
+kind-back kind.TooWide payload length = refl
 kind-back NotListed payload length = refl
 kind-back Rejected payload length = refl
 kind-back PoolFull payload length = refl
@@ -51,57 +63,77 @@ kind-back Lost payload length = refl
 kind-back FragmentConsumed payload length = refl
 kind-back MessageComplete payload length = refl
 
-module _ {mode : Mode} {o : Outcome} {kind : Kind} {payload : List ℕ} {length : ℕ} {pool : Pool} (h : Answers mode o kind payload length pool) where
+module _ {o : Result} {kind : Kind} {payload : List ℕ} {length : ℕ} {pool : Pool} (h : Answers o kind payload length pool) where
   kind-of : kind ≡ replyKind (o .reply)
   kind-of = sym (kind-back kind payload length) ∙ ap replyKind (h .told)
 
-  answer-is : record { kind = kind; payload = payload; length = length; pool = pool } ≡ processedOf (shown mode o)
-  unfolding shown
+  answer-is : _≡_ {A = Processed} (record { kind = kind; payload = payload; length = length; pool = pool }) (record { kind = replyKind (o .reply); payload = replyPayload (o .reply); length = replyLength (o .reply); pool = o .pool })
   answer-is = rw (kind-of, h .bytes, h .size, h .left) refl
 
-  received-is : (k : Counters) → k ≡ o .counters → record { kind = kind; payload = payload; length = length; pool = pool; counters = k } ≡ shown mode o
-  unfolding shown
-  received-is k e = rw (kind-of, h .bytes, h .size, h .left, e) refl
+module _ (pgns : List ℕ) (a : Answer Heard) (p : Pool) (k : Counters) where
+  pub received-by : {r : Received} → ReceivesHeard pgns a p k r → r ≡ answerTo pgns a p k
+  unfolding answerTo
+  received-by {r} h = rw (kind-of (h .answer), h .answer .bytes, h .answer .size, h .answer .left, h .counted) refl
 
--- what an outcome shows is its answer
-shown-answers : (m : Mode) (o : Outcome) → replyOf (shown m o) ≡ o .reply → Answers m o (shown m o .kind) (shown m o .payload) (shown m o .length) (shown m o .pool)
-unfolding shown replyOf
-shown-answers m o e = record { told = e; bytes = refl; size = refl; left = refl }
-
-module _ (pgns : List ℕ) (f : Heard) (p : Pool) (k : Counters) where
-  the-outcome : receiveOf (rulesOf p) pgns f p k ≡ shown (p .mode) (outcomeOn pgns f p k)
-  unfolding receiveOf outcomeOn
-  the-outcome = refl
-
-  the-counters : receiveOf (rulesOf p) pgns f p k .counters ≡ outcomeOn pgns f p k .counters
-  unfolding receiveOf outcomeOn shown
-  the-counters = refl
-
-  pub received-by : {r : Received} → ReceivesHeard pgns f p k r → r ≡ receiveOf (rulesOf p) pgns f p k
-  received-by {r} h = received-is (h .answer) (r .counters) (h .counted) ∙ sym the-outcome
-
-  the-call : ReceivesHeard pgns f p k (receiveOf (rulesOf p) pgns f p k)
-  unfolding receiveOf outcomeOn
-  the-call =
+  the-call : Known a → ReceivesHeard pgns a p k (answerTo pgns a p k)
+  unfolding answerTo
+  the-call known =
       record {
-        answer = shown-answers (p .mode) (outcomeOn pgns f p k) (replied (rulesOf p) pgns f p k);
-        counted = unfold shown in refl;
+        answer = record { told = unfold answerTo replyOf in answer-back pgns p k known; bytes = refl; size = refl; left = refl };
+        counted = refl;
       }
 
-  pub promised : {r : Received} → r ≡ receiveOf (rulesOf p) pgns f p k → ReceivesHeard pgns f p k r
-  promised e = subst (ReceivesHeard pgns f p k) (sym e) the-call
-
-  -- of a frame that is turned into what the steps hear
-  pub promised-of : {r : Received} {g : Heard} → g ≡ f → r ≡ receiveOf (rulesOf p) pgns g p k → ReceivesHeard pgns f p k r
-  promised-of e h = promised (h ∙ ap (λ (x : Heard). receiveOf (rulesOf p) pgns x p k) e)
+  pub promised : Known a → {r : Received} → r ≡ answerTo pgns a p k → ReceivesHeard pgns a p k r
+  promised known e = subst (ReceivesHeard pgns a p k) (sym e) (the-call known)
 
   -- with the counters lent
-  pub processed-by : {r : Processed} {after : Counters} → ProcessesHeard pgns f p k r after
-      → (r ≡ processedOf (receiveOf (rulesOf p) pgns f p k)) × (after ≡ receiveOf (rulesOf p) pgns f p k .counters)
-  processed-by h = (answer-is (h .answer) ∙ ap processedOf (sym the-outcome), h .counted ∙ sym the-counters)
+  pub processed-by : {r : Processed} {after : Counters} → ProcessesHeard pgns a p k r after
+      → (r ≡ processedOf (answerTo pgns a p k)) × (after ≡ answerTo pgns a p k .counters)
+  unfolding answerTo
+  processed-by h = (answer-is (h .answer), h .counted)
 
-  pub process-promised : {r : Processed} {after : Counters} → r ≡ processedOf (receiveOf (rulesOf p) pgns f p k) → after ≡ receiveOf (rulesOf p) pgns f p k .counters
-      → ProcessesHeard pgns f p k r after
-  process-promised {r} {after} e c =
-      subst (λ (x : Processed). ProcessesHeard pgns f p k x after) (sym e)
-      (record { answer = the-call .answer; counted = c ∙ the-call .counted })
+  pub process-promised : Known a → {r : Processed} {after : Counters} → r ≡ processedOf (answerTo pgns a p k) → after ≡ answerTo pgns a p k .counters
+      → ProcessesHeard pgns a p k r after
+  process-promised known {r} {after} e c =
+      subst (λ (x : Processed). ProcessesHeard pgns a p k x after) (sym e)
+      (record { answer = the-call known .answer; counted = c ∙ the-call known .counted })
+
+-- of a frame that is turned into what the steps hear
+module _ (pgns : List ℕ) (entry : PoolKind) (p : Pool) (k : Counters) where
+  pub promised-as : {a b : Answer Heard} → Known a → b ≡ a → {r : Received} → r ≡ answerTo pgns (entered entry p b) p k → ReceivesHeard pgns (entered entry p a) p k r
+  promised-as {a} known e h = promised pgns (entered entry p a) p k (known-entered entry p known) (h ∙ ap (λ (x : Answer Heard). answerTo pgns (entered entry p x) p k) e)
+
+refused-wide : (pgns : List ℕ) (entry : PoolKind) (p : Pool) (k : Counters) → refusedAs kind.TooWide p k ≡ answerTo pgns (entered entry p (refuses 8 [])) p k
+unfolding entered replyKind pick
+refused-wide pgns entry p k = sym (answer-refused pgns p k 8 [])
+
+-- of a frame by its identifier
+heard-is : (read : Read) (a : ArrivalById) → ofRead read ≡ readOf (a .id .0) → heardFrom a (ofRead read) ≡ heardById a
+unfolding heardById
+heard-is read a es = ap (heardFrom a) es
+
+cut-is : (read : Read) (x : ArrivalByIdWithLength) → ofRead read ≡ readOf (x .arrival .id .0) → allCutTo (x .length) (heardFrom (x .arrival) (ofRead read)) ≡ heardByIdWithLength x
+unfolding heardByIdWithLength
+cut-is read x es = ap (allCutTo (x .length)) (heard-is read (x .arrival) es)
+
+module _ (pgns : List ℕ) (p : Pool) (k : Counters) (read : Read) where
+  module _ (a : ArrivalById) (es : ofRead read ≡ readOf (a .id .0)) where
+    pub id-wide : {r : Received} → read ≡ TooWide → r ≡ refusedAs kind.TooWide p k → ReceivesById pgns a p k r
+    id-wide e h =
+        let wide : refuses 8 [] ≡ heardById a = unfold heardFrom in rw e at (heard-is read a es) in
+        promised-as pgns Addressed p k (known-by-id a) wide (h ∙ refused-wide pgns Addressed p k)
+
+    pub id-parts : (parts : CanIdParts) (f : Heard) {r : Received} → read ≡ Parts parts → gives f ≡ heardFrom a (gives parts) → r ≡ answerTo pgns (entered Addressed p (gives f)) p k → ReceivesById pgns a p k r
+    id-parts parts f e ef h = promised-as pgns Addressed p k (known-by-id a) (ef ∙ (rw e at (heard-is read a es))) h
+
+  module _ (x : ArrivalByIdWithLength) (es : ofRead read ≡ readOf (x .arrival .id .0)) where
+    pub id-wide-with-length : {r : Received} → read ≡ TooWide → r ≡ refusedAs kind.TooWide p k → ReceivesByIdWithLength pgns x p k r
+    id-wide-with-length e h =
+        let wide : refuses 8 [] ≡ heardByIdWithLength x = unfold heardFrom allCutTo in rw e at (cut-is read x es) in
+        promised-as pgns Addressed p k (known-by-id-with-length x) wide (h ∙ refused-wide pgns Addressed p k)
+
+    pub id-parts-with-length : (parts : CanIdParts) (f : Heard) {r : Received} → read ≡ Parts parts → gives f ≡ allCutTo (x .length) (heardFrom (x .arrival) (gives parts)) → r ≡ answerTo pgns (entered Addressed p (gives f)) p k
+        → ReceivesByIdWithLength pgns x p k r
+    id-parts-with-length parts f e ef h = promised-as pgns Addressed p k (known-by-id-with-length x) (ef ∙ (rw e at (cut-is read x es))) h
+
+pub ruleset by-id = (id-wide, id-parts, id-wide-with-length, id-parts-with-length)

@@ -4,9 +4,11 @@ use mathlib.Core.Path.{_≡_, refl}
 use mathlib.Core.Bool.{Bool, true, false}
 use mathlib.Core.List.{List}
 use Rattle.base.specs.Answer.{gives}
+use Rattle.base.specs.Pick.{pick}
 use Rattle.session.specs.declared.Counters.{Counters}
 use Rattle.session.specs.declared.Heard.{Heard}
 use Rattle.session.specs.declared.Mode.{Mode}
+use Rattle.session.specs.declared.PoolKind.{PoolKind}
 use Rattle.session.specs.Rules.{Rules}
 use Rattle.assembler.specs.declared.Pool.{Pool}
 use Rattle.assembler.specs.Call.{Call}
@@ -23,11 +25,11 @@ said-back (ignored lost) = refl
 said-back consumed = refl
 said-back (complete bytes n) = refl
 
-step-back : (b : Bool) (m : Mode) (R : Rules) (p : Slots) (k : Counters) (c : Call) → replyOf (shown m (stepIf b R p k c)) ≡ stepIf b R p k c .reply
+step-back : (b : Bool) (d : PoolKind) (m : Mode) (R : Rules) (p : Slots) (k : Counters) (c : Call) → replyOf (shown d m (stepIf b R p k c)) ≡ stepIf b R p k c .reply
 unfolding replyOf shown stepIf
-step-back true m R p k c = unfold replyBy replyKind in refl
-step-back false m R p k c = unfold outcome in said-back _
+step-back true d m R p k c = unfold replyBy replyKind pick in refl
+step-back false d m R p k c = unfold outcome in said-back _
 
 pub replied : (R : Rules) (pgns : List ℕ) (f : Heard) (p : Pool) (k : Counters) → replyOf (receiveOf R pgns f p k) ≡ step R (slotsOf p) k (record { pgns = pgns; heard = f }) .reply
 unfolding receiveOf step
-replied R pgns f p k = step-back (impossible R (slotsOf p)) (p .mode) R (slotsOf p) k (record { pgns = pgns; heard = f })
+replied R pgns f p k = step-back (impossible R (slotsOf p)) (p .kind) (p .mode) R (slotsOf p) k (record { pgns = pgns; heard = f })

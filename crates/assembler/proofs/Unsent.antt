@@ -25,10 +25,10 @@ use Rattle.assembler.specs.Call.{Call, listed}
 use Rattle.assembler.specs.Slots.{Slot, Slots, within, slotAt, onHead, impossible, chosen, live, openedSlot, copiedSlot}
 use Rattle.assembler.specs.Step.{Event, rejected, shortMessage, copied, completed, opensAt, continuesAt, eventOf, slotsAfter, markOf, saidOf, outcome, stepIf, step}
 
-module _ (now pgn source sent : ℕ) where
+module _ (now pgn source part sent : ℕ) where
   -- the frame with these eight bytes, of which the first `sent` were sent
   abbrev frame : List ℕ → Heard
-  frame bytes = record { «now_ms» = now; pgn = pgn; «source_address» = source; «data» = bytes; length = sent }
+  frame bytes = record { «now_ms» = now; pgn = pgn; «source_address» = source; part = part; «data» = bytes; length = sent }
 
   module _ (d e : List ℕ) (same : take sent d ≡ take sent e) where
     byte-same : (i : ℕ) → i < sent → getD d i 0 ≡ getD e i 0

@@ -9,6 +9,7 @@ use native.Mathlib.Omega.{arith}
 use Rattle.base.specs.Lists.{here, firstAt, any}
 use Rattle.session.specs.declared.Head.{Head}
 use Rattle.session.specs.declared.Mode.{Mode}
+use Rattle.session.specs.declared.PoolKind.{PoolKind}
 use Rattle.session.specs.declared.Heard.{Heard}
 use Rattle.session.specs.declared.Counters.{Counters}
 use Rattle.session.specs.Rules.{Rules, poolLimit}
@@ -97,11 +98,11 @@ pub record Whole (p : Pool) : Type 0 where
   pub bytes : length (p .bytes) ≡ poolBytes
 
 -- back from the slots is the pool itself
-pub view-back : (p : Pool) → Whole p → poolOf (p .mode) (slotsOf p) ≡ p
+pub view-back : (p : Pool) → Whole p → poolOf (p .kind) (p .mode) (slotsOf p) ≡ p
 unfolding poolOf slotsOf
 view-back p w = rw (heads-back (p .heads) (p .bytes), flat-back (p .heads) (p .bytes) (omega (arith, w .heads, w .bytes)))
 
-pub view-same : (p : Pool) → Whole p → poolOf (p .mode) (record { slots = take (p .size) (slotsFrom (p .heads) (p .bytes)) ++ drop (p .size) (slotsFrom (p .heads) (p .bytes)); size = p .size }) ≡ p
+pub view-same : (p : Pool) → Whole p → poolOf (p .kind) (p .mode) (record { slots = take (p .size) (slotsFrom (p .heads) (p .bytes)) ++ drop (p .size) (slotsFrom (p .heads) (p .bytes)); size = p .size }) ≡ p
 view-same p w = rw (take-append-drop (p .size) (slotsFrom (p .heads) (p .bytes))) (unfold slotsOf in view-back p w)
 
 set-within : {A : Type 0} (n : ℕ) (l : List A) (i : ℕ) (a : A) → i < n → set (take n l) i a ++ drop n l ≡ set l i a
@@ -109,8 +110,8 @@ set-within n l i a h = rw (← take-set-lt n l i a h, ← drop-set-lt n l i a h)
 
 -- a slot within the size, changed
 pub view-set : (p : Pool) → Whole p → (i : ℕ) (h : Head) (at : ℕ) (src : List ℕ) (n : ℕ) → i < p .size → p .size ≤ poolLimit → at + n ≤ 223 → n ≤ length src
-    → poolOf (p .mode) (record { slots = set (take (p .size) (slotsFrom (p .heads) (p .bytes))) i (record { head = h; buffer = paste (take 223 (drop (i * 223) (p .bytes))) at src n }) ++ drop (p .size) (slotsFrom (p .heads) (p .bytes)); size = p .size })
-    ≡ record { mode = p .mode; size = p .size; heads = set (p .heads) i h; bytes = paste (p .bytes) (i * 223 + at) src n }
+    → poolOf (p .kind) (p .mode) (record { slots = set (take (p .size) (slotsFrom (p .heads) (p .bytes))) i (record { head = h; buffer = paste (take 223 (drop (i * 223) (p .bytes))) at src n }) ++ drop (p .size) (slotsFrom (p .heads) (p .bytes)); size = p .size })
+    ≡ record { kind = p .kind; mode = p .mode; size = p .size; heads = set (p .heads) i h; bytes = paste (p .bytes) (i * 223 + at) src n }
 unfolding poolOf slotsOf
 view-set p w i h at src n lt small fits there =
     let s : Slot = record { head = h; buffer = paste (take 223 (drop (i * 223) (p .bytes))) at src n } in
@@ -157,16 +158,21 @@ slots-forth none = refl
 slots-forth (more {s} {ss} e h) =
     rw (take-at (s .buffer) (flat ss) 223 e, drop-at (s .buffer) (flat ss) 223 e) (ap (_∷_ s) (slots-forth h))
 
-pub view-forth : (mode : Mode) (q : Slots) → Sized (q .slots) → slotsOf (poolOf mode q) ≡ q
+pub view-forth : (kind : PoolKind) (mode : Mode) (q : Slots) → Sized (q .slots) → slotsOf (poolOf kind mode q) ≡ q
 unfolding slotsOf poolOf
-view-forth mode q h = rw (slots-forth h)
+view-forth kind mode q h = rw (slots-forth h)
 
--- ---- no call changes the mode
+-- ---- no call changes the kind or the mode
 
-pub mode-of : (mode : Mode) (q : Slots) → poolOf mode q .mode ≡ mode
+-- a pool of this kind and in this mode
+pub record Made (kind : PoolKind) (mode : Mode) (p : Pool) : Type 0 where
+  pub of-kind : p .kind ≡ kind
+  pub in-mode : p .mode ≡ mode
+
+pub made-of : (kind : PoolKind) (mode : Mode) (q : Slots) → Made kind mode (poolOf kind mode q)
 unfolding poolOf
-mode-of mode q = refl
+made-of kind mode q = record { of-kind = refl; in-mode = refl }
 
-pub mode-kept : (R : Rules) (pgns : List ℕ) (f : Heard) (p : Pool) (k : Counters) → receiveOf R pgns f p k .pool .mode ≡ p .mode
+pub made-kept : (R : Rules) (pgns : List ℕ) (f : Heard) (p : Pool) (k : Counters) → Made (p .kind) (p .mode) (receiveOf R pgns f p k .pool)
 unfolding receiveOf shown
-mode-kept R pgns f p k = mode-of (p .mode) (step R (slotsOf p) k (record { pgns = pgns; heard = f }) .pool)
+made-kept R pgns f p k = made-of (p .kind) (p .mode) (step R (slotsOf p) k (record { pgns = pgns; heard = f }) .pool)

@@ -8,4 +8,5 @@ pub mod View
 pub mod Arrivals
 pub mod Promises
 pub mod Possible
+pub mod OldKind
 pub mod inner

@@ -44,7 +44,7 @@ onHead t = λ (s : Slot). t (s .head)
 
 -- step 1: "the pool size is over 8", by No. 7 over 32, "or an in-progress slot within it has .."
 unfoldable pub impossible : Rules → Slots → Bool
-impossible R p = ltb (R .limit) (p .size) || any (onHead impossibleHead) (within p)
+impossible R p = ltb (R .limit) (p .size) || any (onHead (impossibleHead R)) (within p)
 
 -- step 3: "take the first slot in progress with this key, expired or not; else the first free slot with this source ..; else the first free slot"
 unfoldable pub chosen : Rules → Heard → List Slot → Option ℕ

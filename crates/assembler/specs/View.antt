@@ -2,14 +2,17 @@
 use mathlib.Core.List.{List, [], _∷_, _++_, map}
 use Prim.Native.Nat.{ℕ}
 use lib.ListN.{take, drop, replicate}
+use lib.Dec.{eqb}
+use Rattle.base.specs.Pick.{pick}
 use Rattle.base.specs.Answer.{gives, refuses}
 use Rattle.fast_packet.specs.FastPacket.{maxPayload}
 use Rattle.session.specs.declared.Head.{Head}
 use Rattle.session.specs.declared.Heard.{Heard}
 use Rattle.session.specs.declared.Counters.{Counters}
 use Rattle.session.specs.declared.Kind.{Kind}
-use Rattle.session.specs.declared.Kind.the-variants.{ImpossiblePool, NotListed, Rejected, PoolFull, Lost, FragmentConsumed, MessageComplete}
+use Rattle.session.specs.declared.Kind.the-variants.{ImpossiblePool, TooWide, NotListed, Rejected, PoolFull, Lost, FragmentConsumed, MessageComplete}
 use Rattle.session.specs.declared.Mode.{Mode}
+use Rattle.session.specs.declared.PoolKind.{PoolKind}
 use Rattle.session.specs.Rules.{Rules}
 use Rattle.assembler.specs.declared.Pool.{Pool}
 use Rattle.assembler.specs.declared.Received.{Received}
@@ -35,9 +38,9 @@ unfoldable pub flat : List Slot → List ℕ
 flat [] = []
 flat (s ∷ ss) = s .buffer ++ flat ss
 
--- in the mode that the pool was made with
-unfoldable pub poolOf : Mode → Slots → Pool
-poolOf mode p = record { mode = mode; size = p .size; heads = map headOf (p .slots); bytes = flat (p .slots) }
+-- of the kind and in the mode that the pool was made with
+unfoldable pub poolOf : PoolKind → Mode → Slots → Pool
+poolOf kind mode p = record { kind = kind; mode = mode; size = p .size; heads = map headOf (p .slots); bytes = flat (p .slots) }
 
 -- ---- 01's answers as kind, payload and length: "other answers carry 223 zeros and length 0"
 
@@ -51,9 +54,9 @@ whyKind badFrame = Rejected
 whyKind noSlot = PoolFull
 whyKind lost = Lost
 
--- the one refusal of a receive call is 1
+-- the refusals of a receive call are 1, and 8 where it is handed an identifier
 unfoldable pub replyKind : Reply → Kind
-replyKind (refuses n carried) = ImpossiblePool
+replyKind (refuses n carried) = pick (eqb n 8) TooWide ImpossiblePool
 replyKind (gives (ignored why)) = whyKind why
 replyKind (gives consumed) = FragmentConsumed
 replyKind (gives (complete bytes n)) = MessageComplete
@@ -70,12 +73,13 @@ replyLength (gives (ignored why)) = 0
 replyLength (gives consumed) = 0
 replyLength (gives (complete bytes n)) = n
 
-unfoldable pub shown : Mode → Outcome → Received
-shown mode o = record { kind = replyKind (o .reply); payload = replyPayload (o .reply); length = replyLength (o .reply); pool = poolOf mode (o .pool); counters = o .counters }
+unfoldable pub shown : PoolKind → Mode → Outcome → Received
+shown kind mode o = record { kind = replyKind (o .reply); payload = replyPayload (o .reply); length = replyLength (o .reply); pool = poolOf kind mode (o .pool); counters = o .counters }
 
 -- 01's number and values of each kind of answer, with the payload and length beside it
 unfoldable pub replyBy : Kind → List ℕ → ℕ → Reply
 replyBy ImpossiblePool payload length = refuses 1 []
+replyBy TooWide payload length = refuses 8 []
 replyBy NotListed payload length = gives (ignored unlisted)
 replyBy Rejected payload length = gives (ignored badFrame)
 replyBy PoolFull payload length = gives (ignored noSlot)
@@ -88,6 +92,6 @@ replyOf r = replyBy (r .kind) (r .payload) (r .length)
 
 -- ---- the call
 
--- one call with eight bytes; the pool keeps its mode
+-- one call of a frame as the steps hear it; the pool keeps its kind and mode
 unfoldable pub receiveOf : Rules → List ℕ → Heard → Pool → Counters → Received
-receiveOf R pgns f p k = shown (p .mode) (step R (slotsOf p) k (record { pgns = pgns; heard = f }))
+receiveOf R pgns f p k = shown (p .kind) (p .mode) (step R (slotsOf p) k (record { pgns = pgns; heard = f }))

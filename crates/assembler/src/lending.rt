@@ -1,13 +1,17 @@
 // The calls with the counters lent: one thin function over each by-value core reads the record, and writes back what the core says of it.
 ghost use mathlib.Core.Path.{_≡_};
-ghost use Rattle.assembler.specs.Promises.{Receives, ReceivesWithLength, Processes, ProcessesWithLength};
+ghost use Rattle.assembler.specs.Promises.{Receives, ReceivesWithLength, ReceivesById, ReceivesByIdWithLength, Processes, ProcessesWithLength, ProcessesById, ProcessesByIdWithLength};
 ghost use Rattle.assembler.specs.inner.Forms.{processedOf, receivedOf};
 use crate::Arrival;
+use crate::ArrivalById;
+use crate::ArrivalByIdWithLength;
 use crate::ArrivalWithLength;
 use crate::Pool;
 use crate::Processed;
 use crate::Received;
 use crate::receiving::receive;
+use crate::receiving::receive_by_id;
+use crate::receiving::receive_by_id_with_length;
 use crate::receiving::receive_with_length;
 use session::Counters;
 
@@ -62,6 +66,36 @@ pub fn process_frame_with_length(
     processed_of(out)
 }
 
+// Process a CAN frame by its identifier, on a pool whose key has the destination.
+pub fn process_frame_by_id(
+    pool: Pool,
+    counters: &mut Counters,
+    pgns: &[u32],
+    arrival: ArrivalById,
+) -> Processed
+    ensures { λ r. ⌜ ProcessesById (now (pgns .entry)) arrival pool (now (counters .entry)) r (now (counters .exit)) ⌝ }
+{
+    let c = *counters;
+    let out = receive_by_id(pool, c, pgns, arrival);
+    *counters = counters_of(out);
+    processed_of(out)
+}
+
+// The same for a frame with a length.
+pub fn process_frame_by_id_with_length(
+    pool: Pool,
+    counters: &mut Counters,
+    pgns: &[u32],
+    x: ArrivalByIdWithLength,
+) -> Processed
+    ensures { λ r. ⌜ ProcessesByIdWithLength (now (pgns .entry)) x pool (now (counters .entry)) r (now (counters .exit)) ⌝ }
+{
+    let c = *counters;
+    let out = receive_by_id_with_length(pool, c, pgns, x);
+    *counters = counters_of(out);
+    processed_of(out)
+}
+
 fn joined(a: Processed, counters: Counters) -> Received
     ensures { λ r. ⌜ r ≡ receivedOf a counters ⌝ }
 {
@@ -102,5 +136,33 @@ pub fn process_frame_with_length_through(
 {
     let mut c = counters;
     let a = process_frame_with_length(pool, &mut c, pgns, x);
+    joined(a, c)
+}
+
+// `process_frame_by_id` with the counters by value.
+pub fn process_frame_by_id_through(
+    pool: Pool,
+    counters: Counters,
+    pgns: &[u32],
+    arrival: ArrivalById,
+) -> Received
+    ensures { λ r. ⌜ ReceivesById (now (pgns .entry)) arrival pool counters r ⌝ }
+{
+    let mut c = counters;
+    let a = process_frame_by_id(pool, &mut c, pgns, arrival);
+    joined(a, c)
+}
+
+// The same for a frame with a length.
+pub fn process_frame_by_id_with_length_through(
+    pool: Pool,
+    counters: Counters,
+    pgns: &[u32],
+    x: ArrivalByIdWithLength,
+) -> Received
+    ensures { λ r. ⌜ ReceivesByIdWithLength (now (pgns .entry)) x pool counters r ⌝ }
+{
+    let mut c = counters;
+    let a = process_frame_by_id_with_length(pool, &mut c, pgns, x);
     joined(a, c)
 }

@@ -1,22 +1,30 @@
-// NMEA 2000 Fast Packet assembler: the pool, the receive call, and its other forms, for a frame with a length and with the counters lent.
+// NMEA 2000 Fast Packet assembler: the pool, the receive call, and its other forms: by the identifier, for a frame with a length, with the counters lent.
 mod arrivals;
 mod bytes;
 mod lending;
 mod making;
 mod receiving;
 
+use can_id::CanId;
 use fast_packet::MAX_FAST_PACKET_PAYLOAD;
 pub use lending::process_frame;
+pub use lending::process_frame_by_id;
+pub use lending::process_frame_by_id_through;
+pub use lending::process_frame_by_id_with_length;
+pub use lending::process_frame_by_id_with_length_through;
 pub use lending::process_frame_through;
 pub use lending::process_frame_with_length;
 pub use lending::process_frame_with_length_through;
 pub use receiving::receive;
+pub use receiving::receive_by_id;
+pub use receiving::receive_by_id_with_length;
 pub use receiving::receive_with_length;
 use session::Counters;
 use session::Head;
 use session::Kind;
 use session::Mode;
 use session::POOL_LIMIT;
+use session::PoolKind;
 
 // Sessions in the default pool, one for each message in flight.
 pub const DEFAULT_SESSIONS: usize = 4;
@@ -25,8 +33,9 @@ pub const DEFAULT_SESSIONS: usize = 4;
 pub const POOL_BYTES: usize = POOL_LIMIT * MAX_FAST_PACKET_PAYLOAD;
 
 // A fixed pool of reusable sessions: session k is heads[k] with the MAX_FAST_PACKET_PAYLOAD bytes from MAX_FAST_PACKET_PAYLOAD * k on. Those from
-// `size` on are not used. The mode is the one that the pool was made with; no call changes it.
+// `size` on are not used. Kind and mode are those that the pool was made with; no call changes them.
 pub struct Pool {
+    pub kind: PoolKind,
     pub mode: Mode,
     pub size: usize,
     pub heads: [Head; POOL_LIMIT],
@@ -56,6 +65,19 @@ pub struct Arrival {
 // A frame that arrived with a length: of its eight bytes the first `length` were sent.
 pub struct ArrivalWithLength {
     pub arrival: Arrival,
+    pub length: usize,
+}
+
+// A frame that arrived with its identifier, for a pool whose key has the destination.
+pub struct ArrivalById {
+    pub now_ms: u64,
+    pub id: CanId,
+    pub data: [u8; 8],
+}
+
+// The same with a length.
+pub struct ArrivalByIdWithLength {
+    pub arrival: ArrivalById,
     pub length: usize,
 }
 

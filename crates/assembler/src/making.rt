@@ -1,6 +1,6 @@
 // Making a pool.
 ghost use mathlib.Core.Path.{_≡_};
-ghost use Rattle.assembler.specs.Making.{freshPool, freshPoolIn, MakesPool, MakesPoolIn};
+ghost use Rattle.assembler.specs.Making.{freshPool, freshPoolIn, MakesPool, MakesPoolIn, MakesPoolOf};
 use crate::DEFAULT_SESSIONS;
 use crate::Made;
 use crate::MadePool;
@@ -8,14 +8,16 @@ use crate::POOL_BYTES;
 use crate::Pool;
 use session::Mode;
 use session::POOL_LIMIT;
+use session::PoolKind;
 use session::fresh_head;
 
-fn fresh_pool(mode: Mode, size: usize) -> Pool
-    ensures { λ r. ⌜ r ≡ freshPoolIn mode size ⌝ }
+fn fresh_pool(kind: PoolKind, mode: Mode, size: usize) -> Pool
+    ensures { λ r. ⌜ r ≡ freshPoolIn kind mode size ⌝ }
 {
     let h = fresh_head();
     let heads = [h; POOL_LIMIT];
     Pool {
+        kind: kind,
         mode: mode,
         size: size,
         heads: heads,
@@ -35,14 +37,21 @@ impl Pool {
     pub fn with_mode(size: usize, mode: Mode) -> MadePool
         ensures { λ r. ⌜ MakesPoolIn mode size r ⌝ }
     {
+        Pool::with_kind(size, mode, PoolKind::Original)
+    }
+
+    // The same of the kind that is chosen here.
+    pub fn with_kind(size: usize, mode: Mode, kind: PoolKind) -> MadePool
+        ensures { λ r. ⌜ MakesPoolOf kind mode size r ⌝ }
+    {
         if POOL_LIMIT < size {
-            let pool = fresh_pool(mode, 0);
+            let pool = fresh_pool(kind, mode, 0);
             MadePool {
                 result: Made::ImpossiblePool,
                 pool: pool,
             }
         } else {
-            let pool = fresh_pool(mode, size);
+            let pool = fresh_pool(kind, mode, size);
             MadePool {
                 result: Made::Fresh,
                 pool: pool,
@@ -53,6 +62,6 @@ impl Pool {
     pub fn default() -> Pool
         ensures { λ r. ⌜ r ≡ freshPool 4 ⌝ }
     {
-        fresh_pool(Mode::AsOriginal, DEFAULT_SESSIONS)
+        fresh_pool(PoolKind::Original, Mode::AsOriginal, DEFAULT_SESSIONS)
     }
 }

@@ -57,7 +57,7 @@ module _ (hs : List Head) (ks os ts : List ℕ) where
   module _ (f : Heard) (d : Head) where
     shows-copied : (h : Head) (k o t : ℕ) → Shows h k o t → Shows (copiedHead f h) k o (f .«now_ms»)
     unfolding copiedHead keyNumber
-    shows-copied h k o t s = record { key = s .key; owner = s .owner; last = refl; range = record { pgn = s .range .pgn; byte = s .range .byte } }
+    shows-copied h k o t s = record { key = s .key; owner = s .owner; last = refl; range = record { source = s .range .source; pgn = s .range .pgn; byte = s .range .byte } }
 
     pub mirrors-run : (i : ℕ) → i < poolLimit → (t : Head) → t ≡ copiedHead f (getD hs i d) → length hs ≡ poolLimit → Mirrors poolLimit hs ks os ts → Mirrors poolLimit (set hs i t) ks os (set ts i (f .«now_ms»))
     mirrors-run i lt t et long m =

@@ -9,20 +9,21 @@ use Rattle.base.specs.OneWalk.{never, oneWalk}
 use Rattle.session.specs.declared.Head.{Head}
 use Rattle.session.specs.declared.Heard.{Heard}
 use Rattle.session.specs.declared.Mode.{Mode}
+use Rattle.session.specs.declared.PoolKind.{PoolKind}
 use Rattle.session.specs.Rules.{rulesBy, poolLimit}
 use Rattle.session.specs.Heads.{freshHead, hasKey, isFree, isFreeOfSource, hasLiveKey}
 use Rattle.session.proofs.Seen.{place}
 use Rattle.session.proofs.OneWalk.{seen-first, seen-continuation}
-use Rattle.batch.specs.inner.Mirror.{frameKey, InRange, Mirrors, chosenIn, liveIn}
+use Rattle.batch.specs.inner.Mirror.{frameKey, Keyed, Mirrors, chosenIn, liveIn}
 use Rattle.batch.proofs.Sought.{seen-here, chosen-is, live-is}
 
-module _ (mode : Mode) (f : Heard) (n : ℕ) (hs : List Head) (ks os ts : List ℕ) (long : length hs ≡ poolLimit) (small : n ≤ poolLimit) (m : Mirrors poolLimit hs ks os ts) (r : InRange (f .pgn) (getD (f .«data») 0 0)) where
-  pub rows-first : chosenIn mode ks os ts n (frameKey f) (f .«source_address») (f .«now_ms») ≡ place (oneWalk (hasKey (rulesBy mode) f) (isFreeOfSource (rulesBy mode) f) (isFree (rulesBy mode) f) (take n hs))
+module _ (kind : PoolKind) (mode : Mode) (f : Heard) (n : ℕ) (hs : List Head) (ks os ts : List ℕ) (long : length hs ≡ poolLimit) (small : n ≤ poolLimit) (m : Mirrors poolLimit hs ks os ts) (r : Keyed f) where
+  pub rows-first : chosenIn mode ks os ts n (frameKey f) (f .«source_address») (f .«now_ms») ≡ place (oneWalk (hasKey (rulesBy kind mode) f) (isFreeOfSource (rulesBy kind mode) f) (isFree (rulesBy kind mode) f) (take n hs))
   rows-first =
-      chosen-is mode f n hs ks os ts long small m r freshHead
-      ∙ rw (seen-here mode f n hs ks os ts long small m r freshHead) (seen-first (rulesBy mode) f (take n hs) (omega (arith, length-take-le n hs (omega (arith, long)))))
+      chosen-is kind mode f n hs ks os ts long small m r freshHead
+      ∙ rw (seen-here kind mode f n hs ks os ts long small m r freshHead) (seen-first (rulesBy kind mode) f (take n hs) (omega (arith, length-take-le n hs (omega (arith, long)))))
 
-  pub rows-continuation : liveIn mode ks ts n (frameKey f) (f .«now_ms») ≡ place (oneWalk (hasLiveKey (rulesBy mode) f) never never (take n hs))
+  pub rows-continuation : liveIn mode ks ts n (frameKey f) (f .«now_ms») ≡ place (oneWalk (hasLiveKey (rulesBy kind mode) f) never never (take n hs))
   rows-continuation =
-      live-is mode f n hs ks os ts long small m r freshHead
-      ∙ rw (seen-here mode f n hs ks os ts long small m r freshHead) (seen-continuation (rulesBy mode) f (take n hs))
+      live-is kind mode f n hs ks os ts long small m r freshHead
+      ∙ rw (seen-here kind mode f n hs ks os ts long small m r freshHead) (seen-continuation (rulesBy kind mode) f (take n hs))

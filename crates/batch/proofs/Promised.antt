@@ -49,7 +49,7 @@ module _ {l : BatchLeft} {r : Batch} {kinds lengths arena : List ℕ} (h : AreLe
 -- ---- the promise
 
 module _ {list times pgns sources bytes : List ℕ} {p : Pool} {k : Counters} {kinds lengths arena : List ℕ} {r : Batch} {kinds′ lengths′ arena′ : List ℕ} where
-  promised : leftBy r kinds′ lengths′ arena′ ≡ batchOf (rulesBy (p .mode)) list (record { times = times; pgns = pgns; sources = sources; bytes = bytes }) p k kinds lengths arena
+  promised : leftBy r kinds′ lengths′ arena′ ≡ batchOf (rulesBy (p .kind) (p .mode)) list (record { times = times; pgns = pgns; sources = sources; bytes = bytes }) p k kinds lengths arena
       → r .taken ≡ takenIn (ofBatched (r .result) (r .taken)) → Batches list times pgns sources bytes p k kinds lengths arena r kinds′ lengths′ arena′
   unfolding rulesOf
   promised e t =
@@ -75,7 +75,7 @@ module _ {list times pgns sources bytes : List ℕ} {p : Pool} {k : Counters} {k
   -- of a batch that ran
   pub batched : {taken used : ℕ} {c : Counters} {q : Pool} {kinds′ lengths′ arena′ : List ℕ}
       → record { answer = gives taken; used = used; counters = c; pool = q; kinds = kinds′; lengths = lengths′; arena = arena′ }
-      ≡ batchOf (rulesBy (p .mode)) list (record { times = times; pgns = pgns; sources = sources; bytes = bytes }) p k kinds lengths arena
+      ≡ batchOf (rulesBy (p .kind) (p .mode)) list (record { times = times; pgns = pgns; sources = sources; bytes = bytes }) p k kinds lengths arena
       → Batches list times pgns sources bytes p k kinds lengths arena (record { result = Done; taken = taken; used = used; counters = c; pool = q }) kinds′ lengths′ arena′
   unfolding ofBatched
   batched e = promised e (unfold takenIn in refl)
@@ -83,7 +83,7 @@ module _ {list times pgns sources bytes : List ℕ} {p : Pool} {k : Counters} {k
   -- and of one that was refused
   pub batch-refused : (b : Batched) → isRefused b ≡ true
       → record { answer = ofBatched b 0; used = 0; counters = k; pool = p; kinds = kinds; lengths = lengths; arena = arena }
-      ≡ batchOf (rulesBy (p .mode)) list (record { times = times; pgns = pgns; sources = sources; bytes = bytes }) p k kinds lengths arena
+      ≡ batchOf (rulesBy (p .kind) (p .mode)) list (record { times = times; pgns = pgns; sources = sources; bytes = bytes }) p k kinds lengths arena
       → Batches list times pgns sources bytes p k kinds lengths arena (record { result = b; taken = 0; used = 0; counters = k; pool = p }) kinds lengths arena
   unfolding isRefused ofBatched takenIn
   batch-refused Done y e = absurd (true≢false (sym y))

@@ -30,7 +30,7 @@ module _ (bad short b : Bool) (eb : b ≡ bad) where
     refused-none z = rw (← eb, y, ← es, z)
 
 -- where a place stands in memory
-pub head-place : (g : ℕ) → g < poolLimit → g * 32 < 18446744073709551616
+pub head-place : (g : ℕ) → g < poolLimit → g * 40 < 18446744073709551616
 head-place g low = omega arith
 
 pub number-place : (g : ℕ) → g < poolLimit → g * 8 < 18446744073709551616

@@ -2,7 +2,7 @@
 use Prim.Native.Nat.{ℕ, suc, _+_, _*_, _-_, _≤_, _<_}
 use mathlib.Core.Path.{_≡_, refl, sym, ap, subst, _∙_}
 use mathlib.Core.Logic.{_⊎_, inl, inr}
-use mathlib.Core.Bool.{Bool, true, false, _||_, true≢false}
+use mathlib.Core.Bool.{Bool, true, false, not, _||_, true≢false}
 use mathlib.Core.List.{List, _++_}
 use lib.ListN.{length, getD, take, drop, set, replicate, length-set, length-drop, take-append-drop}
 use lib.Seq.{paste, paste-zero, take-paste, drop-paste, set-getD, length-paste, length-take-le, take-suc-set, drop-set-lt, drop-drop, take-at}
@@ -19,7 +19,10 @@ use Rattle.session.specs.declared.Head.{Head}
 use Rattle.session.specs.declared.Plan.{Plan}
 use Rattle.session.specs.declared.Counters.{Counters}
 use Rattle.session.specs.Kinds.{kindNumber}
-use Rattle.session.specs.Rules.{Rules, poolLimit}
+use Rattle.session.specs.Rules.{Rules, poolLimit, partAllowed, rulesBy}
+use Rattle.session.specs.declared.Mode.{Mode}
+use Rattle.session.specs.declared.PoolKind.{PoolKind}
+use Rattle.session.specs.declared.PoolKind.the-variants.{Original, Addressed}
 use Rattle.session.specs.declared.Kind.{Kind}
 use Rattle.session.specs.declared.Mark.{Mark}
 use Rattle.session.specs.Heads.{impossibleHead, copiedHead}
@@ -29,16 +32,18 @@ use Rattle.session.specs.inner.Plan.{idle}
 use Rattle.session.proofs.Seen.{seen-bad}
 use Rattle.base.proofs.Bools.{or-left, or-right}
 use Rattle.assembler.specs.declared.Pool.{Pool}
+use Rattle.assembler.specs.Call.{partFits}
 use Rattle.assembler.specs.Slots.{onHead, impossible}
 use Rattle.assembler.specs.Making.{poolBytes}
 use Rattle.assembler.specs.View.{slotsFrom, slotsOf, receiveOf}
+use Rattle.assembler.specs.Promises.{sameKind}
 use Rattle.assembler.proofs.Views.{Whole, any-view}
 use Rattle.assembler.proofs.Carries.{carried, Does, slot-long}
 use Rattle.batch.proofs.WayLaws.{shortPlan, runPlan}
 use Rattle.batch.specs.declared.Batched.{Batched}
 use Rattle.batch.specs.inner.Ways.{refusalOf, isRefused}
 use Rattle.batch.specs.Lengths.{tooShort}
-use Rattle.batch.specs.Rows.{Rows, frameInRows, Run, emptyRun, took, answerIn, runFrom, runOf, BatchLeft, over, leaves, refusedBy, batchOf, ofBatched}
+use Rattle.batch.specs.Rows.{Rows, frameInRows, refusesPool, Run, emptyRun, took, answerIn, runFrom, runOf, BatchLeft, over, leaves, refusedBy, batchOf, ofBatched}
 
 -- ---- the bytes of a message, in the arena and as the answer has them
 
@@ -108,9 +113,9 @@ unfolding foundIn seenIf nothingFound impossible slotsOf
 looked-at R f p limit = go (ltb poolLimit (p .size)) refl (R .limit) limit
   where
     go : (b : Bool) → ltb poolLimit (p .size) ≡ b → (n : ℕ) → n ≡ poolLimit
-        → seenIf b R f (p .size) (p .heads) .bad ≡ (ltb n (p .size) || any (onHead impossibleHead) (take (p .size) (slotsFrom (p .heads) (p .bytes))))
+        → seenIf b R f (p .size) (p .heads) .bad ≡ (ltb n (p .size) || any (onHead (impossibleHead R)) (take (p .size) (slotsFrom (p .heads) (p .bytes))))
     go true e n en = rw (en, e)
-    go false e n en = rw (en, e, any-view impossibleHead (p .size) (p .heads) (p .bytes)) (seen-bad R f (take (p .size) (p .heads)) 0)
+    go false e n en = rw (en, e, any-view (impossibleHead R) (p .size) (p .heads) (p .bytes)) (seen-bad R f (take (p .size) (p .heads)) 0)
 
 -- ---- plans
 
@@ -224,7 +229,7 @@ module _ (R : Rules) (l : List ℕ) (w : Rows) (p : Pool) (k : Counters) (ks₀ 
 
         -- the pool after the frame
         abbrev after : Pool
-        after = record { mode = q .mode; size = q .size; heads = set (q .heads) g (d .head); bytes = bs }
+        after = record { kind = q .kind; mode = q .mode; size = q .size; heads = set (q .heads) g (d .head); bytes = bs }
 
         whole-there : d .whole ≤ length (drop (g * 223) bs)
         whole-there = simp length-drop (omega (arith, buffer-long, does .fits .whole))
@@ -279,7 +284,7 @@ module _ (R : Rules) (l : List ℕ) (w : Rows) (p : Pool) (k : Counters) (ks₀ 
       goes-past y low eight e u ar′ ear m em v ev =
           let bs : List ℕ = paste (q .bytes) (g * 223 + d .at) (drop (d .from) (f .«data»)) (d .count) in
           let kept : bs ≡ q .bytes = rw (u .count) (sym (paste-zero (q .bytes) (g * 223 + d .at) (drop (d .from) (f .«data»)))) in
-          let same : record { mode = q .mode; size = q .size; heads = set (q .heads) g (d .head); bytes = bs } ≡ q = rw (u .head, kept, set-getD (q .heads) g e) in
+          let same : record { kind = q .kind; mode = q .mode; size = q .size; heads = set (q .heads) g (d .head); bytes = bs } ≡ q = rw (u .head, kept, set-getD (q .heads) g e) in
           let laid-short : ar′ ≡ paste (paste ar used (drop (g * 223) bs) (d .whole)) used (drop 2 (f .«data»)) (d .short) = rw (u .whole, ← paste-zero ar used (drop (g * 223) bs)) ear in
           subst (λ (x : Pool). Running (set ks i v) (set ls i n) ar′ x m (used + n) (i + 1)) same
           (goes-on y low eight (inl (u .whole)) bs refl ar′ laid-short m em v ev)
@@ -299,37 +304,37 @@ module _ (R : Rules) (l : List ℕ) (w : Rows) (p : Pool) (k : Counters) (ks₀ 
           (goes-past lt f ef (idle kind mark (getD (q .heads) g e)) g does 0 refl false no-bytes refl low eight e (record { head = refl; count = refl; whole = refl }) ar (paste-zero ar used (drop 2 (f .«data»))) m em v ev)
 
       -- a message in one frame
-      pub goes-short : (n : ℕ) → Does f q c (shortPlan R f (getD (q .heads) g e) n) g (receiveOf R l f q c) → (b : Bool) → b ≡ ltb (length ar) (used + n) → b ≡ false
+      pub goes-short : (n : ℕ) → Does f q c (shortPlan f (getD (q .heads) g e) n) g (receiveOf R l f q c) → (b : Bool) → b ≡ ltb (length ar) (used + n) → b ≡ false
           → (ar′ : List ℕ) → ar′ ≡ paste ar used (drop 2 (f .«data»)) n → Running (set ks i 103) (set ls i n) ar′ q c (used + n) (i + 1)
       unfolding shortPlan kindNumber raised
       goes-short n does b eb y ar′ ear =
-          goes-past lt f ef (shortPlan R f (getD (q .heads) g e) n) g does n (sym (zero-add n)) b eb y low eight e (record { head = refl; count = refl; whole = refl }) ar′ ear c refl 103 refl
+          goes-past lt f ef (shortPlan f (getD (q .heads) g e) n) g does n (sym (zero-add n)) b eb y low eight e (record { head = refl; count = refl; whole = refl }) ar′ ear c refl 103 refl
 
       -- seven bytes more
-      pub goes-running : Does f q c (runPlan R f (getD (q .heads) g e)) g (receiveOf R l f q c) → (t : Head) → t ≡ copiedHead f (getD (q .heads) g e)
+      pub goes-running : Does f q c (runPlan f (getD (q .heads) g e)) g (receiveOf R l f q c) → (t : Head) → t ≡ copiedHead f (getD (q .heads) g e)
           → (bs : List ℕ) → bs ≡ paste (q .bytes) (g * 223 + getD (q .heads) g e .«current_size») (drop 1 (f .«data»)) 7
-          → Running (set ks i 102) (set ls i 0) ar (record { mode = q .mode; size = q .size; heads = set (q .heads) g t; bytes = bs }) c used (i + 1)
+          → Running (set ks i 102) (set ls i 0) ar (record { kind = q .kind; mode = q .mode; size = q .size; heads = set (q .heads) g t; bytes = bs }) c used (i + 1)
       unfolding runPlan kindNumber raised
       goes-running does t et bs ebs =
           let laid-none : ar ≡ paste (paste ar used (drop (g * 223) bs) 0) used (drop 2 (f .«data»)) 0 = paste-zero ar used (drop (g * 223) bs) ∙ paste-zero (paste ar used (drop (g * 223) bs) 0) used (drop 2 (f .«data»)) in
           rw (add-zero used, ← et) at
-          (goes-on lt f ef (runPlan R f (getD (q .heads) g e)) g does 0 refl false no-bytes refl low eight (inl refl) bs ebs ar laid-none c refl 102 refl)
+          (goes-on lt f ef (runPlan f (getD (q .heads) g e)) g does 0 refl false no-bytes refl low eight (inl refl) bs ebs ar laid-none c refl 102 refl)
 
       -- by any plan for a slot
       pub goes-by : (d : Plan) → Does f q c d g (receiveOf R l f q c) → d .short ≡ 0 → (b : Bool) → b ≡ ltb (length ar) (used + d .whole) → b ≡ false
           → (bs : List ℕ) → bs ≡ paste (q .bytes) (g * 223 + d .at) (drop (d .from) (f .«data»)) (d .count) → (ar′ : List ℕ) → ar′ ≡ paste ar used (drop (g * 223) bs) (d .whole)
           → (m : Counters) → m ≡ raised (d .mark) c → (v : ℕ) → v ≡ kindNumber (d .kind)
-          → Running (set ks i v) (set ls i (d .whole)) ar′ (record { mode = q .mode; size = q .size; heads = set (q .heads) g (d .head); bytes = bs }) m (used + d .whole) (i + 1)
+          → Running (set ks i v) (set ls i (d .whole)) ar′ (record { kind = q .kind; mode = q .mode; size = q .size; heads = set (q .heads) g (d .head); bytes = bs }) m (used + d .whole) (i + 1)
       goes-by d does none b eb y bs ebs ar′ ear m em v ev =
           let all : d .whole ≡ d .whole + d .short = rw none (sym (add-zero (d .whole))) in
           let laid-whole : ar′ ≡ paste (paste ar used (drop (g * 223) bs) (d .whole)) used (drop 2 (f .«data»)) (d .short) = rw none (ear ∙ paste-zero (paste ar used (drop (g * 223) bs) (d .whole)) used (drop 2 (f .«data»))) in
           goes-on lt f ef d g does (d .whole) all b eb y low eight (inr none) bs ebs ar′ laid-whole m em v ev
 
       -- a message in one frame, or one from a slot, that has no room
-      pub stops-short : (n : ℕ) → Does f q c (shortPlan R f (getD (q .heads) g e) n) g (receiveOf R l f q c) → (b : Bool) → b ≡ ltb (length ar) (used + n) → b ≡ true
+      pub stops-short : (n : ℕ) → Does f q c (shortPlan f (getD (q .heads) g e) n) g (receiveOf R l f q c) → (b : Bool) → b ≡ ltb (length ar) (used + n) → b ≡ true
           → record { answer = gives i; used = used; counters = c; pool = q; kinds = ks; lengths = ls; arena = ar } ≡ leaves (runOf R l w (length ar₀) p k) ks₀ ls₀ ar₀
       unfolding shortPlan
-      stops-short n does b eb y = stops lt f ef (shortPlan R f (getD (q .heads) g e) n) g does n (sym (zero-add n)) b eb y
+      stops-short n does b eb y = stops lt f ef (shortPlan f (getD (q .heads) g e) n) g does n (sym (zero-add n)) b eb y
 
       pub stops-by : (d : Plan) → Does f q c d g (receiveOf R l f q c) → d .short ≡ 0 → (b : Bool) → b ≡ ltb (length ar) (used + d .whole) → b ≡ true
           → record { answer = gives i; used = used; counters = c; pool = q; kinds = ks; lengths = ls; arena = ar } ≡ leaves (runOf R l w (length ar₀) p k) ks₀ ls₀ ar₀
@@ -337,17 +342,28 @@ module _ (R : Rules) (l : List ℕ) (w : Rows) (p : Pool) (k : Counters) (ks₀ 
 
 -- ---- the call's ways out
 
+is-original : (kind : PoolKind) → not (sameKind Original kind) ≡ false → kind ≡ Original
+unfolding sameKind
+is-original Original e = refl
+is-original Addressed e = absurd (true≢false e)
+
+-- a pool that a batch does not refuse is of the original's kind
+pub unrefused-kind : (R : Rules) (p : Pool) → refusesPool R p ≡ false → p .kind ≡ Original
+unfolding refusesPool
+unrefused-kind R p e = is-original (p .kind) (or-left (not (sameKind Original (p .kind))) (impossible R (slotsOf p)) e)
+
 module _ (R : Rules) (l : List ℕ) (w : Rows) (p : Pool) (k : Counters) (ks ls ar : List ℕ) where
   abbrev short : Bool
   short = tooShort (length (w .times)) (length (w .pgns)) (length (w .sources)) (length (w .bytes)) (length ks) (length ls)
 
-  module _ (limit : R .limit ≡ poolLimit) (f : Heard) (r : Batched) (said : r ≡ refusalOf (foundIn R f (p .size) (p .heads) .bad) short) where
-    er : r ≡ refusalOf (impossible R (slotsOf p)) short
+  module _ (limit : R .limit ≡ poolLimit) (f : Heard) (r : Batched) (said : r ≡ refusalOf (not (sameKind Original (p .kind)) || foundIn R f (p .size) (p .heads) .bad) short) where
+    er : r ≡ refusalOf (refusesPool R p) short
+    unfolding refusesPool
     er = said ∙ rw (looked-at R f p limit)
 
     pub gives-refused : isRefused r ≡ true → record { answer = ofBatched r 0; used = 0; counters = k; pool = p; kinds = ks; lengths = ls; arena = ar } ≡ batchOf R l w p k ks ls ar
     unfolding batchOf refusedBy refusalOf isRefused ofBatched pick
-    gives-refused y = go (impossible R (slotsOf p)) short er
+    gives-refused y = go (refusesPool R p) short er
       where
         go : (b s : Bool) → r ≡ refusalOf b s
             → record { answer = ofBatched r 0; used = 0; counters = k; pool = p; kinds = ks; lengths = ls; arena = ar } ≡ pick b (refusedBy 1 p k ks ls ar) (pick s (refusedBy 27 p k ks ls ar) (leaves (runOf R l w (length ar) p k) ks ls ar))
@@ -363,17 +379,31 @@ module _ (R : Rules) (l : List ℕ) (w : Rows) (p : Pool) (k : Counters) (ks ls 
       unrefused false false e = (refl, refl)
 
       pub possible : impossible R (slotsOf p) ≡ false
-      possible = unrefused (impossible R (slotsOf p)) short er .0
+      unfolding refusesPool
+      possible = or-right (not (sameKind Original (p .kind))) _ (unrefused (refusesPool R p) short er .0)
+
+      pub own-kind : p .kind ≡ Original
+      own-kind = unrefused-kind R p (unrefused (refusesPool R p) short er .0)
 
       pub fits-all : Fitting (length (w .times)) w ks ls
-      fits-all = fitting (length (w .times)) w ks ls (unrefused (impossible R (slotsOf p)) short er .1)
+      fits-all = fitting (length (w .times)) w ks ls (unrefused (refusesPool R p) short er .1)
 
       pub gives-run : (x : BatchLeft) → x ≡ leaves (runOf R l w (length ar) p k) ks ls ar → x ≡ batchOf R l w p k ks ls ar
       unfolding batchOf pick
-      gives-run x ex = ex ∙ rw (possible, unrefused (impossible R (slotsOf p)) short er .1)
+      gives-run x ex = ex ∙ rw (unrefused (refusesPool R p) short er .0, unrefused (refusesPool R p) short er .1)
 
 -- ---- a frame has eight bytes
 
 pub frame-long : (w : Rows) (i n : ℕ) (f : Heard) → i < n → n * 8 ≤ length (w .bytes) → f ≡ frameInRows w i → length (f .«data») ≡ 8
 unfolding frameInRows
 frame-long w i n f h long e = ap (λ (x : Heard). length (x .«data»)) e ∙ length-take-le 8 (drop (i * 8) (w .bytes)) (simp length-drop (omega arith))
+
+-- ---- and no part, which a pool of the original's kind allows
+
+pub row-part : (w : Rows) (i : ℕ) (f : Heard) → f ≡ frameInRows w i → f .part ≡ 0
+unfolding frameInRows
+row-part w i f e = ap (λ (x : Heard). x .part) e
+
+pub row-fits : (kind : PoolKind) (mode : Mode) → kind ≡ Original → (l : List ℕ) (w : Rows) (i : ℕ) (f : Heard) → f ≡ frameInRows w i → partFits (rulesBy kind mode) (record { pgns = l; heard = f }) ≡ true
+unfolding rulesBy partAllowed
+row-fits kind mode own l w i f e = rw (own, row-part w i f e)

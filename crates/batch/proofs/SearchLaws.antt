@@ -15,7 +15,7 @@ use Rattle.batch.specs.inner.Mirror.{packed, keyNumber, chosenIn, liveIn
 
 -- ---- keys
 
-pub key-busy : (h : Head) (k : ℕ) → k ≡ packed (h .«source_address») (h .pgn) (h .«sequence_id») → h .«in_progress» ≡ true → k ≡ keyNumber h
+pub key-busy : (h : Head) (k : ℕ) → k ≡ packed (h .«source_address») (h .pgn) (h .«sequence_id») (h .part) → h .«in_progress» ≡ true → k ≡ keyNumber h
 unfolding keyNumber pick
 key-busy h k e b = rw b e
 

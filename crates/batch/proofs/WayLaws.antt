@@ -13,12 +13,11 @@ use Rattle.session.specs.declared.Plan.{Plan}
 use Rattle.session.specs.declared.Counters.{Counters}
 use Rattle.session.specs.declared.Kind.the-variants.{NotListed, Rejected, PoolFull, Lost, FragmentConsumed, MessageComplete}
 use Rattle.session.specs.declared.Mark.the-variants as mark
-use Rattle.session.specs.Rules.{Rules}
 use Rattle.session.specs.Frames.{indexOf, sizeOf, badSize}
 use Rattle.session.specs.Heads.{inTurn, wanted, copiedHead, allThere}
 use Rattle.session.specs.Counting.{raised}
 use Rattle.session.specs.Kinds.{kindNumber}
-use Rattle.session.specs.inner.Plan.{idle, planOpen, planShort, planSized, planFirst, planCopy, planTurn, planNext, planIndex, planSent, planListed, planOf}
+use Rattle.session.specs.inner.Plan.{Silent, idle, planOpen, planShort, planSized, planFirst, planCopy, planTurn, planNext, planIndex, planSent, planListed, planOf}
 use Rattle.base.proofs.Bools.{and-left, and-right}
 use Rattle.session.proofs.Cuts.{eight-sent, eight-bad, eight-next}
 use Rattle.batch.specs.declared.ways.Untaken.{Untaken}
@@ -88,7 +87,7 @@ pub ruleset ways = (short-unlisted, miss-unlisted, short-next, miss-next, short-
 
 -- ---- the plans of these ways
 
-module _ (R : Rules) (f : Heard) (h : Head) where
+module _ (f : Heard) (h : Head) where
   -- a message in one frame
   unfoldable pub shortPlan : ℕ → Plan
   shortPlan n = record { kind = MessageComplete; mark = mark.Nothing; head = h; at = 0; from = 0; count = 0; whole = 0; short = n }
@@ -97,17 +96,18 @@ module _ (R : Rules) (f : Heard) (h : Head) where
   unfoldable pub runPlan : Plan
   runPlan = record { kind = FragmentConsumed; mark = mark.Nothing; head = copiedHead f h; at = h .«current_size»; from = 1; count = 7; whole = 0; short = 0 }
 
+module _ (S : Silent) (f : Heard) (h : Head) where
   none-bad : 0 ≡ sizeOf f → badSize f ≡ true
   unfolding badSize
   none-bad z = rw (eq-eqb (sizeOf f) 0 (sym z))
 
-  miss-sized : (b s : Bool) → badSize f ≡ b → leb (sizeOf f) 6 ≡ s → 0 ≡ pick s (sizeOf f) 0 → planSized b false R f h ≡ idle (pick b Rejected PoolFull) (pick b mark.Rejected mark.Exhausted) h
+  miss-sized : (b s : Bool) → badSize f ≡ b → leb (sizeOf f) 6 ≡ s → 0 ≡ pick s (sizeOf f) 0 → planSized b false S f h ≡ idle (pick b Rejected PoolFull) (pick b mark.Rejected mark.Exhausted) h
   unfolding planSized planShort planOpen pick
   miss-sized true s eb es z = refl
   miss-sized false true eb es z = absurd (true≢false (sym (none-bad z) ∙ eb))
   miss-sized false false eb es z = rw es
 
-  short-sized : (s : Bool) → leb (sizeOf f) 6 ≡ s → (pick s (sizeOf f) 0 ≡ 0 → ⊥) → planSized (badSize f) false R f h ≡ shortPlan (pick s (sizeOf f) 0)
+  short-sized : (s : Bool) → leb (sizeOf f) 6 ≡ s → (pick s (sizeOf f) 0 ≡ 0 → ⊥) → planSized (badSize f) false S f h ≡ shortPlan f h (pick s (sizeOf f) 0)
   unfolding planSized planShort shortPlan pick badSize
   short-sized true es n = rw (ne-eqb (sizeOf f) 0 n, le-ltb 223 (sizeOf f) (omega (arith, leb-true (sizeOf f) 6 es)), es)
   short-sized false es n = absurd (n refl)
@@ -137,29 +137,29 @@ module _ (f : Heard) (h : Head) where
   run-more e = rw (run-seven e) (lt-leb (h .«expected_size») (h .«current_size» + 7) (omega (arith, run-missing e)))
 
 -- a row has all eight bytes of its frames
-module _ (R : Rules) (f : Heard) (all : f .length ≡ 8) (h : Head) where
+module _ (S : Silent) (f : Heard) (all : f .length ≡ 8) (h : Head) where
   -- no slot and no message: a counter, and nothing else
-  miss-index : (b : Bool) → eqb (indexOf f) 0 ≡ b → 0 ≡ pick b (pick (leb (sizeOf f) 6) (sizeOf f) 0) 0 → planIndex b false R f h
+  miss-index : (b : Bool) → eqb (indexOf f) 0 ≡ b → 0 ≡ pick b (pick (leb (sizeOf f) 6) (sizeOf f) 0) 0 → planIndex b false S f h
       ≡ idle (pick b (pick (badSize f) Rejected PoolFull) Lost) (pick b (pick (badSize f) mark.Rejected mark.Exhausted) mark.Lost) h
   unfolding planIndex planFirst planNext pick
-  miss-index true eb z = rw (eight-bad f all) (miss-sized R f h (badSize f) (leb (sizeOf f) 6) refl refl z)
+  miss-index true eb z = rw (eight-bad f all) (miss-sized S f h (badSize f) (leb (sizeOf f) 6) refl refl z)
   miss-index false eb z = refl
 
-  pub plan-missed : (t : Bool) → 0 ≡ shortIn t f → planOf false t false R f h ≡ idle (missKind t f) (missMark t f) h
+  pub plan-missed : (t : Bool) → 0 ≡ shortIn t f → planOf false t false S f h ≡ idle (missKind t f) (missMark t f) h
   unfolding planOf planListed planSent shortIn missKind missMark pick
   plan-missed true z = rw (eight-sent f all) (miss-index (eqb (indexOf f) 0) refl z)
   plan-missed false z = refl
 
-  short-index : (b : Bool) → eqb (indexOf f) 0 ≡ b → (pick b (pick (leb (sizeOf f) 6) (sizeOf f) 0) 0 ≡ 0 → ⊥) → planIndex b false R f h ≡ shortPlan R f h (pick b (pick (leb (sizeOf f) 6) (sizeOf f) 0) 0)
+  short-index : (b : Bool) → eqb (indexOf f) 0 ≡ b → (pick b (pick (leb (sizeOf f) 6) (sizeOf f) 0) 0 ≡ 0 → ⊥) → planIndex b false S f h ≡ shortPlan f h (pick b (pick (leb (sizeOf f) 6) (sizeOf f) 0) 0)
   unfolding planIndex planFirst pick
-  short-index true eb n = rw (eight-bad f all) (short-sized R f h (leb (sizeOf f) 6) refl n)
+  short-index true eb n = rw (eight-bad f all) (short-sized S f h (leb (sizeOf f) 6) refl n)
   short-index false eb n = absurd (n refl)
 
-  pub plan-short : (t : Bool) → (shortIn t f ≡ 0 → ⊥) → planOf false t false R f h ≡ shortPlan R f h (shortIn t f)
+  pub plan-short : (t : Bool) → (shortIn t f ≡ 0 → ⊥) → planOf false t false S f h ≡ shortPlan f h (shortIn t f)
   unfolding planOf planListed planSent shortIn pick
   plan-short true n = rw (eight-sent f all) (short-index (eqb (indexOf f) 0) refl n)
   plan-short false n = absurd (n refl)
 
-  pub plan-runs : runsOn f h ≡ true → planOf false true true R f h ≡ runPlan R f h
+  pub plan-runs : runsOn f h ≡ true → planOf false true true S f h ≡ runPlan f h
   unfolding planOf planListed planSent planIndex planNext planTurn planCopy runPlan
   plan-runs e = rw (eight-sent f all, run-later f h e, eight-next f all h, run-turn f h e, run-more f h e, run-seven f h e)

@@ -1,4 +1,5 @@
 -- A batch: the rows of frames that a caller lends, taken one after the other by the single call, as long as the arena has room for their messages.
+use mathlib.Core.Bool.{Bool, not, _||_}
 use mathlib.Core.List.{List, [], _∷_, _++_}
 use mathlib.Core.Path.{_≡_}
 use Prim.Native.Nat.{ℕ, zero, suc, _+_, _*_}
@@ -8,13 +9,14 @@ use Rattle.base.specs.Answer.{Answer, gives, refuses}
 use Rattle.base.specs.Pick.{pick}
 use Rattle.session.specs.declared.Heard.{Heard}
 use Rattle.session.specs.declared.Counters.{Counters}
+use Rattle.session.specs.declared.PoolKind.the-variants.{Original}
 use Rattle.session.specs.Kinds.{kindNumber}
 use Rattle.session.specs.Rules.{Rules}
 use Rattle.assembler.specs.declared.Pool.{Pool}
 use Rattle.assembler.specs.declared.Received.{Received}
 use Rattle.assembler.specs.Slots.{impossible}
 use Rattle.assembler.specs.View.{slotsOf, receiveOf}
-use Rattle.assembler.specs.Promises.{rulesOf}
+use Rattle.assembler.specs.Promises.{rulesOf, sameKind}
 use Rattle.batch.specs.Lengths.{tooShort}
 use Rattle.batch.specs.declared.Batch.{Batch}
 use Rattle.batch.specs.declared.Batched.{Batched}
@@ -30,7 +32,7 @@ pub record Rows : Type 0 where
   pub bytes : List ℕ
 
 unfoldable pub frameInRows : Rows → ℕ → Heard
-frameInRows w i = record { «now_ms» = getD (w .times) i 0; pgn = getD (w .pgns) i 0; «source_address» = getD (w .sources) i 0; «data» = take 8 (drop (i * 8) (w .bytes)); length = 8 }
+frameInRows w i = record { «now_ms» = getD (w .times) i 0; pgn = getD (w .pgns) i 0; «source_address» = getD (w .sources) i 0; part = 0; «data» = take 8 (drop (i * 8) (w .bytes)); length = 8 }
 
 -- ---- the run
 
@@ -106,10 +108,14 @@ unfoldable pub refusedBy : ℕ → Pool → Counters → List ℕ → List ℕ �
 refusedBy n p k kinds lengths arena =
     record { answer = refuses n []; used = 0; counters = k; pool = p; kinds = kinds; lengths = lengths; arena = arena }
 
--- the call: refusal 1 for an impossible pool, then 27 for a row too short, else the run
+-- refusal 1: document 02, No. 12, "a pool at the other kind's entry", since rows have no identifiers; or an impossible pool
+unfoldable pub refusesPool : Rules → Pool → Bool
+refusesPool R p = not (sameKind Original (p .kind)) || impossible R (slotsOf p)
+
+-- the call: refusal 1 by its pool, then 27 for a row too short, else the run
 unfoldable pub batchOf : Rules → List ℕ → Rows → Pool → Counters → List ℕ → List ℕ → List ℕ → BatchLeft
 batchOf R pgns w p k kinds lengths arena =
-    pick (impossible R (slotsOf p)) (refusedBy 1 p k kinds lengths arena)
+    pick (refusesPool R p) (refusedBy 1 p k kinds lengths arena)
     (pick (tooShort (length (w .times)) (length (w .pgns)) (length (w .sources)) (length (w .bytes)) (length kinds) (length lengths)) (refusedBy 27 p k kinds lengths arena)
     (leaves (runOf R pgns w (length arena) p k) kinds lengths arena))
 

@@ -1,7 +1,10 @@
 // The batch call.
 ghost use mathlib.Core.Path.{_≡_};
+ghost use mathlib.Core.Bool.{not, _||_};
+ghost use Rattle.session.specs.declared.PoolKind.the-variants.{Original};
 ghost use Rattle.session.specs.Rules.{rulesBy};
 ghost use Rattle.session.specs.inner.Search.{foundIn};
+ghost use Rattle.assembler.specs.Promises.{sameKind};
 ghost use Rattle.batch.specs.Lengths.{tooShort};
 ghost use Rattle.batch.specs.Rows.{Batches};
 ghost use Rattle.batch.specs.inner.Ways.{blankHeard, refusalOf, isRefused};
@@ -33,6 +36,7 @@ use session::Heard;
 use session::MESSAGE_COMPLETE;
 use session::Mode;
 use session::POOL_LIMIT;
+use session::PoolKind;
 use session::decide;
 
 // A blank frame: what the pool is looked at with, before the first.
@@ -43,13 +47,24 @@ fn blank() -> Heard
         now_ms: 0,
         pgn: 0,
         source_address: 0,
+        part: 0,
         data: [0; 8],
         length: 8,
     }
 }
 
-// The refusal, if there is one: of an impossible pool before that of a row that is too short for its n frames.
+fn is_other(kind: PoolKind) -> bool
+    ensures { λ r. ⌜ r ≡ not (sameKind Original kind) ⌝ }
+{
+    match kind {
+        PoolKind::Original => false,
+        PoolKind::Addressed => true,
+    }
+}
+
+// The refusal, if there is one: of an impossible pool, or one that is handed identifiers, before that of a row that is too short for its n frames.
 fn refusal(
+    kind: PoolKind,
     mode: Mode,
     heads: [Head; POOL_LIMIT],
     size: usize,
@@ -60,10 +75,10 @@ fn refusal(
     kinds: usize,
     lengths: usize,
 ) -> Batched
-    ensures { λ r. ⌜ r ≡ refusalOf (foundIn (rulesBy mode) blankHeard size heads .bad) (tooShort n pgns sources bytes kinds lengths) ⌝ }
+    ensures { λ r. ⌜ r ≡ refusalOf (not (sameKind Original kind) || foundIn (rulesBy kind mode) blankHeard size heads .bad) (tooShort n pgns sources bytes kinds lengths) ⌝ }
 {
-    let before = walk(mode, heads, size, blank());
-    if before.bad {
+    let before = walk(kind, mode, heads, size, blank());
+    if is_other(kind) | before.bad {
         return Batched::ImpossiblePool;
     }
     if too_short(n, pgns, sources, bytes, kinds, lengths) {
@@ -99,11 +114,13 @@ pub fn process_frames(
         (now (kinds .entry)) (now (lengths .entry)) (now (arena .entry)) r (now (kinds .exit)) (now (lengths .exit)) (now (arena .exit)) ⌝ }
 {
     let mut q = pool;
-    // no frame changes the mode
+    // no frame changes the kind or the mode
+    let kind = q.kind;
     let mode = q.mode;
     let heads = q.heads;
     let n = times.len();
     let result = refusal(
+        kind,
         mode,
         heads,
         q.size,

@@ -14,7 +14,7 @@ use assembler::Pool;
 pub use batching::process_frames;
 use session::Counters;
 
-// How a batch went. An impossible pool is refused by 1, a row that is too short for its frames by 27.
+// How a batch went. An impossible pool, or one whose key has the destination, is refused by 1, a row that is too short for its frames by 27.
 pub enum Batched {
     Done,
     ImpossiblePool,

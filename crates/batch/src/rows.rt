@@ -13,6 +13,7 @@ use session::MESSAGE_COMPLETE;
 use session::NOT_LISTED;
 use session::POOL_FULL;
 use session::REJECTED;
+use session::TOO_WIDE;
 
 fn eight(data: &[u8], at: usize) -> [u8; 8]
     requires { ⌜ at + 8 ≤ length (now «data») ⌝ }
@@ -36,6 +37,7 @@ pub(crate) fn frame_at(times: &[u64], pgns: &[u32], sources: &[u8], data: &[u8],
         now_ms: times[i],
         pgn: pgns[i],
         source_address: sources[i],
+        part: 0,
         data: bytes,
         length: 8,
     }
@@ -46,6 +48,7 @@ pub(crate) fn number_of(kind: Kind) -> u8
 {
     match kind {
         Kind::ImpossiblePool => IMPOSSIBLE_POOL,
+        Kind::TooWide => TOO_WIDE,
         Kind::NotListed => NOT_LISTED,
         Kind::Rejected => REJECTED,
         Kind::PoolFull => POOL_FULL,

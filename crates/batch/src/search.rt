@@ -1,6 +1,6 @@
 // The search for a slot. Keys, owners and times stand beside the heads in three small rows, so that a walk reads little.
 ghost use mathlib.Core.Path.{_≡_};
-ghost use Prim.Native.Nat.{_/_, _≤_, _<_};
+ghost use Prim.Native.Nat.{_/_, _≤_, _<_, min};
 ghost use lib.ListN.{length, getD};
 ghost use Rattle.session.specs.Rules.{rulesBy, poolLimit};
 ghost use Rattle.session.specs.Frames.{sizeOf};
@@ -15,12 +15,19 @@ use session::Head;
 use session::Heard;
 use session::Mode;
 use session::POOL_LIMIT;
+use session::PoolKind;
 use session::look;
 use session::nothing_found;
 
 // What the single call's walk sees. The batch asks it once, whether the pool is possible.
-pub(crate) fn walk(mode: Mode, heads: [Head; POOL_LIMIT], size: usize, heard: Heard) -> Found
-    ensures { λ r. ⌜ r ≡ foundIn (rulesBy mode) heard size heads ⌝ }
+pub(crate) fn walk(
+    kind: PoolKind,
+    mode: Mode,
+    heads: [Head; POOL_LIMIT],
+    size: usize,
+    heard: Heard,
+) -> Found
+    ensures { λ r. ⌜ r ≡ foundIn (rulesBy kind mode) heard size heads ⌝ }
 {
     if POOL_LIMIT < size {
         return nothing_found(true);
@@ -29,29 +36,44 @@ pub(crate) fn walk(mode: Mode, heads: [Head; POOL_LIMIT], size: usize, heard: He
     let mut i = size;
     while 0 < i {
         i -= 1;
-        s = look(mode, heads[i], s, i, heard);
+        s = look(kind, mode, heads[i], s, i, heard);
     }
     s
 }
 
 // ---- keys
 
-// Above the sequence stands the PGN, and the source above both.
+// Above the sequence stands the PGN, the source above both, and the part above all.
 const PGN_PLACE: u64 = 256;
 
 const SOURCE_PLACE: u64 = 1_099_511_627_776;
 
-fn pack(source: u8, pgn: u32, sequence: u8) -> u64
-    ensures { λ r. ⌜ (r ≡ packed source pgn sequence) × InRange pgn sequence ⌝ }
+const PART_PLACE: u64 = 281_474_976_710_656;
+
+// A part that is no destination's; what is above it counts as it, so that a key fits in one number.
+const NO_PART: u16 = 511;
+
+fn capped(part: u16) -> u16
+    ensures { λ r. ⌜ (r ≡ min part 511) × (r ≤ 511) ⌝ }
 {
-    (source as u64) * SOURCE_PLACE + (pgn as u64) * PGN_PLACE + (sequence as u64) + 1
+    if part <= NO_PART { part } else { NO_PART }
+}
+
+fn pack(source: u8, pgn: u32, sequence: u8, part: u16) -> u64
+    ensures { λ r. ⌜ (r ≡ packed source pgn sequence part) × InRange source pgn sequence ⌝ }
+{
+    (capped(part) as u64) * PART_PLACE
+        + (source as u64) * SOURCE_PLACE
+        + (pgn as u64) * PGN_PLACE
+        + (sequence as u64)
+        + 1
 }
 
 // The key of a slot in progress as one number above 0; 0 of an idle one.
 pub(crate) fn key_of(h: Head) -> u64
-    ensures { λ r. ⌜ (r ≡ keyNumber h) × InRange (h .pgn) (h .«sequence_id») ⌝ }
+    ensures { λ r. ⌜ (r ≡ keyNumber h) × InRange (h .«source_address») (h .pgn) (h .«sequence_id») ⌝ }
 {
-    let key = pack(h.source_address, h.pgn, h.sequence_id);
+    let key = pack(h.source_address, h.pgn, h.sequence_id, h.part);
     if h.in_progress { key } else { 0 }
 }
 
@@ -62,10 +84,15 @@ fn sequence_in(first: u8) -> u8
 }
 
 pub(crate) fn key_of_frame(heard: Heard) -> u64
-    ensures { λ r. ⌜ (r ≡ frameKey heard) × InRange (heard .pgn) (getD (heard .«data») 0 0) ⌝ }
+    ensures { λ r. ⌜ (r ≡ frameKey heard) × InRange (heard .«source_address») (heard .pgn) (getD (heard .«data») 0 0) ⌝ }
 {
     let data = heard.data;
-    pack(heard.source_address, heard.pgn, sequence_in(data[0]))
+    pack(
+        heard.source_address,
+        heard.pgn,
+        sequence_in(data[0]),
+        heard.part,
+    )
 }
 
 // ---- the rows

@@ -95,6 +95,7 @@ pub(crate) fn ran_on(h: Head, heard: Heard) -> Head
         sequence_id: h.sequence_id,
         last_frame_index: data[0] % 32,
         pgn: h.pgn,
+        part: h.part,
         expected_size: h.expected_size,
         current_size: h.current_size + CONTINUATION_PAYLOAD,
         last_seen_ms: heard.now_ms,

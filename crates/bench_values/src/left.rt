@@ -2,6 +2,7 @@
 use crate::say;
 use assembler::Pool;
 use session::Counters;
+use session::Head;
 
 pub(crate) fn no_counts() -> Counters {
     Counters {
@@ -29,9 +30,8 @@ fn tell_counters(c: Counters) {
     tell(b", unknown_pgn ", c.unknown_pgn as u64);
 }
 
-fn tell_slot(pool: Pool) {
-    let head = pool.heads[0];
-    say::text(b"; slot 0 ");
+fn tell_head(words: &[u8], head: Head) {
+    say::text(words);
     if head.in_progress {
         say::text(b"in progress");
     } else {
@@ -42,9 +42,10 @@ fn tell_slot(pool: Pool) {
 }
 
 fn tell_all(length: u64, counters: Counters, pool: Pool) {
+    let head = pool.heads[0];
     tell(b", length ", length);
     tell_counters(counters);
-    tell_slot(pool);
+    tell_head(b"; slot 0 ", head);
 }
 
 pub(crate) fn show(length: u64, counters: Counters, pool: Pool) {
@@ -57,4 +58,33 @@ pub(crate) fn show_with_time(length: u64, counters: Counters, pool: Pool) {
     tell_all(length, counters, pool);
     let head = pool.heads[0];
     say::counted(b", time ", head.last_seen_ms);
+}
+
+// A message of seven bytes: its first and its last tell whose it is.
+pub(crate) fn tell_message(length: u64, first: u8, last: u8) {
+    if length == 0 {
+        return;
+    }
+    tell(b", length ", length);
+    say::text(b", first byte ");
+    say::number(first as u64);
+    say::text(b", last ");
+    say::number(last as u64);
+}
+
+fn tell_part(head: Head) {
+    say::text(b", part ");
+    say::number(head.part as u64);
+}
+
+// The first two slots, with the part of their key.
+pub(crate) fn show_with_parts(counters: Counters, pool: Pool) {
+    let head = pool.heads[0];
+    let next = pool.heads[1];
+    tell_counters(counters);
+    tell_head(b"; slot 0 ", head);
+    tell_part(head);
+    tell_head(b"; slot 1 ", next);
+    tell_part(next);
+    say::line();
 }

@@ -11,6 +11,7 @@ use assembler::receive;
 use session::Counters;
 use session::Kind;
 use session::Mode;
+use session::PoolKind;
 
 const PGN: u32 = 127489;
 
@@ -33,6 +34,7 @@ fn unlisted_frame() -> Arrival {
 pub(crate) fn show_kind(kind: Kind) {
     match kind {
         Kind::ImpossiblePool => say::refused_by(1),
+        Kind::TooWide => say::refused_by(8),
         Kind::NotListed => say::text(b"NotListed"),
         Kind::Rejected => say::text(b"Rejected"),
         Kind::PoolFull => say::text(b"PoolFull"),
@@ -127,6 +129,34 @@ fn made_in_a_mode(words: &[u8], size: usize, mode: Mode) {
     say::line();
 }
 
+fn show_pool_kind(kind: PoolKind) {
+    match kind {
+        PoolKind::Original => say::text(b"key without destination"),
+        PoolKind::Addressed => say::text(b"key with destination"),
+    }
+}
+
+fn made_of_a_kind(words: &[u8], size: usize, mode: Mode, kind: PoolKind) {
+    say::text(words);
+    let made = Pool::with_kind(size, mode, kind);
+    show_made(made);
+    let pool = made.pool;
+    let kept = pool.mode;
+    let of = pool.kind;
+    say::text(b", ");
+    show_mode(kept);
+    say::text(b", ");
+    show_pool_kind(of);
+    say::line();
+}
+
+fn made_of_each_kind(words: &[u8], size: usize) {
+    made_of_a_kind(words, size, Mode::AsOriginal, PoolKind::Original);
+    made_of_a_kind(words, size, Mode::AsOriginal, PoolKind::Addressed);
+    made_of_a_kind(words, size, Mode::SetBackIsSilence, PoolKind::Original);
+    made_of_a_kind(words, size, Mode::SetBackIsSilence, PoolKind::Addressed);
+}
+
 pub(crate) fn made() {
     made_as_original(b"a pool of 32: ", 32);
     made_as_original(b"a pool of 33: ", 33);
@@ -134,6 +164,8 @@ pub(crate) fn made() {
     made_in_a_mode(b"a pool of 32 in a mode: ", 32, Mode::SetBackIsSilence);
     made_in_a_mode(b"a pool of 33 in a mode: ", 33, Mode::AsOriginal);
     made_in_a_mode(b"a pool of 33 in a mode: ", 33, Mode::SetBackIsSilence);
+    made_of_each_kind(b"a pool of 32 of a kind: ", 32);
+    made_of_each_kind(b"a pool of 33 of a kind: ", 33);
 }
 
 fn heard_by_size(words: &[u8], size: usize, arrival: Arrival) {

@@ -5,7 +5,7 @@ use mathlib.Core.Bool.{Bool, true, false, _||_}
 use Rattle.base.specs.Answer.{Answer, gives, refuses}
 use lib.Dec.{ltb, eqb}
 use Rattle.base.specs.Pick.{pick}
-use Rattle.can_id.specs.Layout.{idOf}
+use Rattle.can_id.specs.Layout.{idOf, pgnPf}
 use Rattle.can_id.specs.declared.CanId.{CanId}
 use Rattle.can_id.specs.declared.CanIdBuilder.{CanIdBuilder}
 use Rattle.can_id.specs.declared.Destination.{Destination}
@@ -51,11 +51,11 @@ idWithDestination b d = record { priority = b .priority; pgn = b .pgn; «source_
 -- ---- building
 -- the PF of a builder's PGN
 abbrev pub pfIn : CanIdBuilder → ℕ
-pfIn b = b .pgn / 256 % 256
+pfIn b = pgnPf (b .pgn)
 
 -- the identifier of a priority, a PGN's upper ten bits, a PS and a source
 abbrev pub idWith : ℕ → ℕ → ℕ → ℕ → ℕ
-idWith priority pgn ps source = idOf priority (pgn / 0x2_0000 % 2) (pgn / 0x1_0000 % 2) (pgn / 256 % 256) ps source
+idWith priority pgn ps source = idOf priority (pgn / 0x2_0000 % 2) (pgn / 0x1_0000 % 2) (pgnPf pgn) ps source
 
 -- of a builder's parts, at this PS
 abbrev pub idFrom : CanIdBuilder → ℕ → ℕ

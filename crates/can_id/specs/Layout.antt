@@ -29,6 +29,10 @@ abbrev pub idOf : ℕ → ℕ → ℕ → ℕ → ℕ → ℕ → ℕ
 idOf priority reserved page pf ps source =
     priority * 0x400_0000 + reserved * 0x200_0000 + page * 0x100_0000 + pf * 0x1_0000 + ps * 256 + source
 
+-- the PF that a PGN has
+abbrev pub pgnPf : ℕ → ℕ
+pgnPf pgn = pgn / 256 % 256
+
 -- the PGN of reserved bit, data page, PF and low byte
 abbrev pub pgnFrom : ℕ → ℕ → ℕ → ℕ → ℕ
 pgnFrom reserved page pf low = reserved * 0x2_0000 + page * 0x1_0000 + pf * 256 + low

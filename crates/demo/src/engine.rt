@@ -16,7 +16,7 @@ pub(crate) fn record(hours: u32) -> [u8; 26] {
     payload
 }
 
-fn wide(x: u8) -> u64
+pub(crate) fn wide(x: u8) -> u64
     ensures { λ r. ⌜ r < 256 ⌝ }
 {
     x as u64
@@ -41,7 +41,8 @@ pub(crate) fn frame(hours: u32, source: u8, sequence: u8, index: u8) -> [u8; 8] 
     data
 }
 
-fn sent_before(index: u8) -> usize {
+// How many bytes of a message are sent before its frame at this index.
+pub(crate) fn sent_before(index: u8) -> usize {
     if index == 0 {
         0
     } else {

@@ -1,5 +1,9 @@
 // Engine hours reassembled: an old half message, a frame cut short, a full pool, a clock set back, and frames that are not taken.
 use crate::engine;
+use crate::gateway;
+use crate::gateway::Both;
+use crate::gateway::Gateway;
+use crate::gateway::after;
 use crate::say;
 use assembler::Arrival;
 use assembler::ArrivalWithLength;
@@ -7,53 +11,23 @@ use assembler::Pool;
 use assembler::Received;
 use assembler::receive;
 use assembler::receive_with_length;
-use session::Counters;
-use session::Kind;
 use session::Mode;
 
-struct Gateway {
-    pool: Pool,
-    counters: Counters,
-}
-
 fn started_in(mode: Mode, size: usize) -> Gateway {
-    let made = Pool::with_mode(size, mode);
-    let pool = made.pool;
-    let counters = Counters {
-        expired_sessions: 0,
-        pool_exhausted: 0,
-        rejected_frames: 0,
-        lost_fragments: 0,
-        unknown_pgn: 0,
-    };
-    Gateway {
-        pool: pool,
-        counters: counters,
-    }
+    gateway::started(Pool::with_mode(size, mode))
 }
 
 fn started(size: usize) -> Gateway {
     started_in(Mode::AsOriginal, size)
 }
 
-fn show_message(r: Received) {
-    let payload = r.payload;
-    say::text(b"MessageComplete: ");
-    say::hours(engine::hours(payload));
-}
-
-// The name says why a frame was not taken; beside it, the counter that went up.
+// A delivered message is told by its hours.
 fn tell_answer(r: Received) {
-    let kind = r.kind;
-    let c = r.counters;
-    match kind {
-        Kind::ImpossiblePool => say::refusal(1),
-        Kind::NotListed => say::told(b"NotListed, unknown_pgn ", c.unknown_pgn as u64),
-        Kind::Rejected => say::told(b"Rejected, rejected_frames ", c.rejected_frames as u64),
-        Kind::PoolFull => say::told(b"PoolFull, pool_exhausted ", c.pool_exhausted as u64),
-        Kind::Lost => say::told(b"Lost, lost_fragments ", c.lost_fragments as u64),
-        Kind::FragmentConsumed => say::text(b"FragmentConsumed"),
-        Kind::MessageComplete => show_message(r),
+    gateway::tell_kind(r);
+    if 0 < r.length {
+        let payload = r.payload;
+        say::text(b": ");
+        say::hours(engine::hours(payload));
     }
 }
 
@@ -83,15 +57,6 @@ fn received(g: Gateway, arrival: Arrival) -> Received {
     let pool = g.pool;
     let counters = g.counters;
     receive(pool, counters, &[engine::PGN], arrival)
-}
-
-fn after(r: Received) -> Gateway {
-    let pool = r.pool;
-    let counters = r.counters;
-    Gateway {
-        pool: pool,
-        counters: counters,
-    }
 }
 
 fn answered(g: Gateway, arrival: Arrival) -> Gateway {
@@ -127,16 +92,9 @@ fn later(now_ms: u64) -> u64 {
     }
 }
 
-fn tell_counters(g: Gateway) {
-    let c = g.counters;
-    say::told(b"expired_sessions ", c.expired_sessions as u64);
-    say::told(b", pool_exhausted ", c.pool_exhausted as u64);
-    say::told(b", lost_fragments ", c.lost_fragments as u64);
-}
-
 fn show_counters(g: Gateway) {
     say::text(b"  ");
-    tell_counters(g);
+    gateway::tell_counters(g);
     say::text(b"\n");
 }
 
@@ -205,16 +163,11 @@ fn show_full_pool() {
     show_counters(g);
 }
 
-// The same bus heard in both modes.
-struct Both {
-    as_original: Gateway,
-    set_back_is_silence: Gateway,
-}
-
+// Heard in both modes.
 fn both_started(size: usize) -> Both {
     Both {
         as_original: started_in(Mode::AsOriginal, size),
-        set_back_is_silence: started_in(Mode::SetBackIsSilence, size),
+        otherwise: started_in(Mode::SetBackIsSilence, size),
     }
 }
 
@@ -223,15 +176,15 @@ fn both_hear(b: Both, now_ms: u64, sequence: u8, index: u8, hours: u32) -> Both 
     show_frame(now_ms, 35, sequence, index);
     let arrival = arrived_frame(now_ms, 35, sequence, index, hours);
     let as_original = b.as_original;
-    let set_back_is_silence = b.set_back_is_silence;
+    let otherwise = b.otherwise;
     let one = received(as_original, arrival);
     tell_answer(one);
     say::text(b" | ");
-    let other = received(set_back_is_silence, arrival);
+    let other = received(otherwise, arrival);
     show_answer(other);
     Both {
         as_original: after(one),
-        set_back_is_silence: after(other),
+        otherwise: after(other),
     }
 }
 
@@ -243,16 +196,6 @@ fn both_hear_tail(b: Both, now_ms: u64, sequence: u8, hours: u32) -> Both {
 fn both_hear_head(b: Both, now_ms: u64, sequence: u8, hours: u32) -> Both {
     let c = both_hear(b, now_ms, sequence, 0, hours);
     both_hear(c, later(now_ms), sequence, 1, hours)
-}
-
-fn show_both_counters(b: Both) {
-    let as_original = b.as_original;
-    let set_back_is_silence = b.set_back_is_silence;
-    say::text(b"  ");
-    tell_counters(as_original);
-    say::text(b" | ");
-    tell_counters(set_back_is_silence);
-    say::text(b"\n");
 }
 
 fn say_set_back() {
@@ -269,7 +212,7 @@ fn show_clock_set_back() {
     b = both_hear_tail(b, 5400000, 5, 0x13_0000);
     b = both_hear_head(b, 5404000, 5, 0x13_0004);
     b = both_hear_tail(b, 5404020, 5, 0x13_0004);
-    show_both_counters(b);
+    gateway::show_both_counters(b);
 }
 
 // A first frame with a PGN that is not in the list.

@@ -15,12 +15,15 @@ use Rattle.builder.specs.declared.FrameIterator.{FrameIterator}
 use Rattle.builder.specs.declared.FastPacketBuilder.{FastPacketBuilder}
 use Rattle.session.specs.declared.Heard.{Heard}
 use Rattle.session.specs.declared.Counters.{Counters}
+use Rattle.session.specs.declared.PoolKind.{PoolKind}
+use Rattle.session.specs.declared.PoolKind.the-variants.{Original, Addressed}
 use Rattle.assembler.specs.Making.{freshPool, freshPoolIn, ofMade}
-use Rattle.assembler.specs.View.{receiveOf}
 use Rattle.assembler.specs.declared.Arrival.{Arrival}
+use Rattle.assembler.specs.declared.ArrivalById.{ArrivalById}
+use Rattle.assembler.specs.declared.ArrivalByIdWithLength.{ArrivalByIdWithLength}
 use Rattle.assembler.specs.declared.ArrivalWithLength.{ArrivalWithLength}
-use Rattle.assembler.specs.Arrivals.{heardOf, heardWithLength}
-use Rattle.assembler.specs.Promises.{rulesOf, ReceivesHeard, Receives, ReceivesWithLength}
+use Rattle.assembler.specs.Arrivals.{heardOf, heardWithLength, heardById, heardByIdWithLength}
+use Rattle.assembler.specs.Promises.{rulesOf, entered, atOriginal, atAddressed, answerTo, ReceivesHeard, Receives, ReceivesWithLength, ReceivesById, ReceivesByIdWithLength}
 use Rattle.assembler.proofs.Promised.{received-by as equation}
 use Rattle.assembler.specs.declared.Received.{Received}
 use Rattle.assembler.specs.declared.Made.the-variants.{Fresh}
@@ -33,7 +36,7 @@ use Rattle.numbers.specs.Frames.{builderFrom, builderNumbers, BuilderLeft, iter
 use Rattle.numbers.specs.Pool.{poolFrom, countersFrom, CallMemory, CallLeft, PoolMemory, PoolLeft}
 use Rattle.ffi.specs.Ids.{builderOfParts, setPriority, setDestination, setOf, bothOf}
 use Rattle.ffi.specs.Frames.{newBuilderTo, NewBuilderLeft, sequenceSet, prioritySet, destinationSet, nextWith, NextFrameLeft, startedPlace, turnWith, TurnLeft}
-use Rattle.ffi.specs.Calls.{poolIn, receivedIn, receivedWithLengthIn}
+use Rattle.ffi.specs.Calls.{poolIn, receivedIn}
 use Rattle.ffi.specs.Batches.{BatchMemory, BatchMemoryLeft, batchIn, FramesLeft}
 use Rattle.ffi.specs.inner.Batches.{PoolAfter}
 
@@ -121,34 +124,39 @@ unfolding ofMade freshPool freshPoolIn
 default-by e = ap (λ (p : Pool). gives (p .size)) e
 
 -- ---- the receive call on a pool and counters from numbers
-module _ (size mode : ℕ) (pgns : List ℕ) (before : CallMemory) {p : Pool} {k : Counters} {r : Received} (e : p ≡ poolFrom size mode (before .heads) (before .bytes)) (f : k ≡ countersFrom (before .counters)) where
-  heard-by : (f : Heard) → ReceivesHeard pgns f p k r → r ≡ receiveOf (rulesOf (poolIn size mode before)) pgns f (poolIn size mode before) (countersFrom (before .counters))
-  unfolding poolIn
-  heard-by h q =
-      equation pgns h p k q
-      ∙ ap (λ (x : Pool). receiveOf (rulesOf x) pgns h x k) e
-      ∙ ap (λ (x : Counters). receiveOf (rulesOf (poolFrom size mode (before .heads) (before .bytes))) pgns h (poolFrom size mode (before .heads) (before .bytes)) x) f
+module _ (size mode kind : ℕ) (pgns : List ℕ) (before : CallMemory) {p : Pool} {k : Counters} {r : Received} (e : p ≡ poolFrom size mode kind (before .heads) (before .bytes)) (f : k ≡ countersFrom (before .counters)) where
+  entered-by : (entry : PoolKind) (a : Answer Heard) → ReceivesHeard pgns (entered entry p a) p k r → r ≡ receivedIn (poolIn size mode kind before) pgns (entered entry (poolIn size mode kind before) a) before
+  unfolding receivedIn poolIn
+  entered-by entry a q =
+      equation pgns (entered entry p a) p k q
+      ∙ ap (λ (x : Pool). answerTo pgns (entered entry x a) x k) e
+      ∙ ap (λ (x : Counters). answerTo pgns (entered entry (poolFrom size mode kind (before .heads) (before .bytes)) a) (poolFrom size mode kind (before .heads) (before .bytes)) x) f
 
-  pub received-by : (a : Arrival) → Receives pgns a p k r → r ≡ receivedIn size mode pgns a before
-  unfolding receivedIn
-  received-by a q = heard-by (heardOf a) q
+  pub received-by : (a : Arrival) → Receives pgns a p k r → r ≡ receivedIn (poolIn size mode kind before) pgns (atOriginal (poolIn size mode kind before) (heardOf a)) before
+  received-by a q = entered-by Original (gives (heardOf a)) q
 
-  pub received-with-length-by : (x : ArrivalWithLength) → ReceivesWithLength pgns x p k r → r ≡ receivedWithLengthIn size mode pgns x before
-  unfolding receivedWithLengthIn
-  received-with-length-by x q = heard-by (heardWithLength x) q
+  pub received-with-length-by : (x : ArrivalWithLength) → ReceivesWithLength pgns x p k r → r ≡ receivedIn (poolIn size mode kind before) pgns (atOriginal (poolIn size mode kind before) (heardWithLength x)) before
+  received-with-length-by x q = entered-by Original (gives (heardWithLength x)) q
+
+  pub received-by-id-by : (a : ArrivalById) → ReceivesById pgns a p k r → r ≡ receivedIn (poolIn size mode kind before) pgns (atAddressed (poolIn size mode kind before) (heardById a)) before
+  received-by-id-by a q = entered-by Addressed (heardById a) q
+
+  pub received-by-id-with-length-by : (x : ArrivalByIdWithLength) → ReceivesByIdWithLength pgns x p k r
+      → r ≡ receivedIn (poolIn size mode kind before) pgns (atAddressed (poolIn size mode kind before) (heardByIdWithLength x)) before
+  received-by-id-with-length-by x q = entered-by Addressed (heardByIdWithLength x) q
 
 -- ---- a batch on a pool and counters from numbers, and what it leaves
-module _ (size mode : ℕ) (pgns : List ℕ) (rows : Rows) (before : BatchMemory) {p : Pool} {k : Counters} (e : p ≡ poolFrom size mode (before .heads) (before .bytes)) (f : k ≡ countersFrom (before .counters)) where
-  batch-same : batchOf (rulesOf p) pgns rows p k (before .kinds) (before .lengths) (before .arena) ≡ batchIn size mode pgns rows before
+module _ (size mode kind : ℕ) (pgns : List ℕ) (rows : Rows) (before : BatchMemory) {p : Pool} {k : Counters} (e : p ≡ poolFrom size mode kind (before .heads) (before .bytes)) (f : k ≡ countersFrom (before .counters)) where
+  batch-same : batchOf (rulesOf p) pgns rows p k (before .kinds) (before .lengths) (before .arena) ≡ batchIn size mode kind pgns rows before
   unfolding batchIn
   batch-same =
       ap (λ (x : Pool). batchOf (rulesOf x) pgns rows x k (before .kinds) (before .lengths) (before .arena)) e
-      ∙ ap (λ (x : Counters). batchOf (rulesOf (poolFrom size mode (before .heads) (before .bytes))) pgns rows (poolFrom size mode (before .heads) (before .bytes)) x (before .kinds) (before .lengths) (before .arena)) f
+      ∙ ap (λ (x : Counters). batchOf (rulesOf (poolFrom size mode kind (before .heads) (before .bytes))) pgns rows (poolFrom size mode kind (before .heads) (before .bytes)) x (before .kinds) (before .lengths) (before .arena)) f
 
   pub batch-left : {r : Batch} {heads bytes counters kinds lengths arena counts : List ℕ} {code : ℕ}
       → Batches pgns (rows .times) (rows .pgns) (rows .sources) (rows .bytes) p k (before .kinds) (before .lengths) (before .arena) r kinds lengths arena
       → PoolAfter r (before .heads) code heads bytes counters counts
-      → FramesLeft size mode pgns rows before code (record { heads = heads; bytes = bytes; counters = counters; kinds = kinds; lengths = lengths; arena = arena; counts = counts })
+      → FramesLeft size mode kind pgns rows before code (record { heads = heads; bytes = bytes; counters = counters; kinds = kinds; lengths = lengths; arena = arena; counts = counts })
   batch-left {r} {heads} {bytes} {counters} {kinds} {lengths} {arena} {counts} {code} g h =
       let left = g .leaves-these in
       subst

@@ -6,6 +6,8 @@ use Rattle.base.specs.Answer.{Answer, counted}
 use Rattle.base.proofs.Cases.{determined}
 use Rattle.fast_packet.specs.FastPacket.{filledFrom}
 use Rattle.assembler.specs.declared.Arrival.{Arrival}
+use Rattle.assembler.specs.declared.ArrivalById.{ArrivalById}
+use Rattle.assembler.specs.declared.ArrivalByIdWithLength.{ArrivalByIdWithLength}
 use Rattle.assembler.specs.declared.ArrivalWithLength.{ArrivalWithLength}
 use Rattle.batch.specs.Rows.{Rows}
 use Rattle.oracle.specs.Rows.{rowIn}
@@ -18,7 +20,7 @@ use Rattle.numbers.specs.Pool.{CallMemory, PoolMemory}
 use Rattle.numbers.proofs.Unique.{leave-unique, pool-left-unique}
 use Rattle.ffi.specs.Ids.{IdRead, PartsBuilt, SetBuilt, BothBuilt}
 use Rattle.ffi.specs.Frames.{NewBuilderLeft, sequenceSet, prioritySet, destinationSet, startedPlace, FrameMemory, NextFrameLeft, TurnLeft}
-use Rattle.ffi.specs.Calls.{NewPoolLeft, PoolWithModeLeft, DefaultPoolLeft, FrameLeft, FrameWithLengthLeft}
+use Rattle.ffi.specs.Calls.{NewPoolLeft, PoolWithModeLeft, PoolWithKindLeft, DefaultPoolLeft, FrameLeft, FrameWithLengthLeft, FrameByIdLeft, FrameByIdWithLengthLeft}
 use Rattle.ffi.specs.Batches.{BatchMemory, FramesLeft}
 use Rattle.ffi.specs.BenchEntries.{ReassemblesInNumbers, SplitsInNumbers, ChecksTxInNumbers}
 
@@ -96,17 +98,29 @@ pub hf-raw-pool-with-mode-unique : (wanted asked : ℕ) (before : PoolMemory) (r
     → PoolWithModeLeft wanted asked before r a → PoolWithModeLeft wanted asked before s b → (r ≡ s) × (a ≡ b)
 hf-raw-pool-with-mode-unique wanted asked before r s a b = pool-left-unique _ _ before r s a b
 
+pub hf-raw-pool-with-kind-unique : (wanted asked kind : ℕ) (before : PoolMemory) (r s : ℕ) (a b : PoolMemory)
+    → PoolWithKindLeft wanted asked kind before r a → PoolWithKindLeft wanted asked kind before s b → (r ≡ s) × (a ≡ b)
+hf-raw-pool-with-kind-unique wanted asked kind before r s a b = pool-left-unique _ _ before r s a b
+
 pub hf-raw-pool-default-unique : (before : PoolMemory) (r s : ℕ) (a b : PoolMemory) → DefaultPoolLeft before r a → DefaultPoolLeft before s b → (r ≡ s) × (a ≡ b)
 hf-raw-pool-default-unique before r s a b = pool-left-unique _ _ before r s a b
 
-module _ (size mode : ℕ) (pgns : List ℕ) (before : CallMemory) (r s : ℕ) (a b : CallMemory) where
+module _ (size mode kind : ℕ) (pgns : List ℕ) (before : CallMemory) (r s : ℕ) (a b : CallMemory) where
   -- of `hf_raw_receive` too
-  pub hf-raw-process-frame-unique : (arrival : Arrival) → FrameLeft size mode pgns arrival before r a → FrameLeft size mode pgns arrival before s b → (r ≡ s) × (a ≡ b)
+  pub hf-raw-process-frame-unique : (arrival : Arrival) → FrameLeft size mode kind pgns arrival before r a → FrameLeft size mode kind pgns arrival before s b → (r ≡ s) × (a ≡ b)
   hf-raw-process-frame-unique arrival = leave-unique _ before r s a b
 
   pub hf-raw-process-frame-with-length-unique : (x : ArrivalWithLength)
-      → FrameWithLengthLeft size mode pgns x before r a → FrameWithLengthLeft size mode pgns x before s b → (r ≡ s) × (a ≡ b)
+      → FrameWithLengthLeft size mode kind pgns x before r a → FrameWithLengthLeft size mode kind pgns x before s b → (r ≡ s) × (a ≡ b)
   hf-raw-process-frame-with-length-unique x = leave-unique _ before r s a b
+
+  -- of `hf_raw_receive_by_id` too
+  pub hf-raw-process-frame-by-id-unique : (arrival : ArrivalById) → FrameByIdLeft size mode kind pgns arrival before r a → FrameByIdLeft size mode kind pgns arrival before s b → (r ≡ s) × (a ≡ b)
+  hf-raw-process-frame-by-id-unique arrival = leave-unique _ before r s a b
+
+  pub hf-raw-process-frame-by-id-with-length-unique : (x : ArrivalByIdWithLength)
+      → FrameByIdWithLengthLeft size mode kind pgns x before r a → FrameByIdWithLengthLeft size mode kind pgns x before s b → (r ≡ s) × (a ≡ b)
+  hf-raw-process-frame-by-id-with-length-unique x = leave-unique _ before r s a b
 
 batches-same : (a b : BatchMemory) → a .heads ≡ b .heads → a .bytes ≡ b .bytes → a .counters ≡ b .counters → a .kinds ≡ b .kinds → a .lengths ≡ b .lengths → a .arena ≡ b .arena → a .counts ≡ b .counts → a ≡ b
 batches-same a b h y c k l r t =
@@ -118,9 +132,9 @@ batches-same a b h y c k l r t =
     ∙ ap (λ (x : List ℕ). record { heads = b .heads; bytes = b .bytes; counters = b .counters; kinds = b .kinds; lengths = b .lengths; arena = x; counts = a .counts }) r
     ∙ ap (λ (x : List ℕ). record { heads = b .heads; bytes = b .bytes; counters = b .counters; kinds = b .kinds; lengths = b .lengths; arena = b .arena; counts = x }) t
 
-pub hf-raw-process-frames-unique : (size mode : ℕ) (pgns : List ℕ) (rows : Rows) (before : BatchMemory) (r s : ℕ) (a b : BatchMemory)
-    → FramesLeft size mode pgns rows before r a → FramesLeft size mode pgns rows before s b → (r ≡ s) × (a ≡ b)
-hf-raw-process-frames-unique size mode pgns rows before r s a b p q = (
+pub hf-raw-process-frames-unique : (size mode kind : ℕ) (pgns : List ℕ) (rows : Rows) (before : BatchMemory) (r s : ℕ) (a b : BatchMemory)
+    → FramesLeft size mode kind pgns rows before r a → FramesLeft size mode kind pgns rows before s b → (r ≡ s) × (a ≡ b)
+hf-raw-process-frames-unique size mode kind pgns rows before r s a b p q = (
   determined (p .told) (q .told),
   batches-same a b (determined (p .kept) (q .kept)) (determined (p .stored) (q .stored)) (determined (p .counted) (q .counted)) (determined (p .answered) (q .answered)) (determined (p .measured) (q .measured)) (determined (p .delivered) (q .delivered)) (determined (p .taken) (q .taken)),
 )

@@ -29,11 +29,11 @@ pub record BatchMemoryLeft (l : BatchLeft) (before : BatchMemory) (code : ℕ) (
   pub delivered : after .arena ≡ l .arena
   pub taken : after .counts ≡ takenIn (l .answer) ∷ l .used ∷ []
 
-unfoldable pub batchIn : ℕ → ℕ → List ℕ → Rows → BatchMemory → BatchLeft
-batchIn size mode pgns rows before =
-    let p : Pool = poolFrom size mode (before .heads) (before .bytes) in
+unfoldable pub batchIn : ℕ → ℕ → ℕ → List ℕ → Rows → BatchMemory → BatchLeft
+batchIn size mode kind pgns rows before =
+    let p : Pool = poolFrom size mode kind (before .heads) (before .bytes) in
     batchOf (rulesOf p) pgns rows p (countersFrom (before .counters)) (before .kinds) (before .lengths) (before .arena)
 
 -- `hf_raw_process_frames`
-abbrev pub FramesLeft : ℕ → ℕ → List ℕ → Rows → BatchMemory → ℕ → BatchMemory → Type 0
-FramesLeft size mode pgns rows before code after = BatchMemoryLeft (batchIn size mode pgns rows before) before code after
+abbrev pub FramesLeft : ℕ → ℕ → ℕ → List ℕ → Rows → BatchMemory → ℕ → BatchMemory → Type 0
+FramesLeft size mode kind pgns rows before code after = BatchMemoryLeft (batchIn size mode kind pgns rows before) before code after

@@ -9,7 +9,7 @@ use assembler::POOL_BYTES;
 use batch::Batch;
 use batch::Batched;
 use batch::process_frames;
-use numbers::HEAD_NUMBERS;
+use numbers::POOL_NUMBERS;
 use numbers::counter_numbers;
 use numbers::counters_from;
 use numbers::pool_from;
@@ -32,7 +32,7 @@ fn batched_number(result: Batched) -> u32
 
 fn leave_batch(
     r: Batch,
-    heads: &mut [u64; HEAD_NUMBERS],
+    heads: &mut [u64; POOL_NUMBERS],
     bytes: &mut [u8; POOL_BYTES],
     counters: &mut [u32; 5],
     counts: &mut [u64; 2],
@@ -57,7 +57,8 @@ fn leave_batch(
 pub extern "C" fn hf_raw_process_frames(
     size: usize,
     mode: u32,
-    heads: &mut [u64; HEAD_NUMBERS],
+    kind: u32,
+    heads: &mut [u64; POOL_NUMBERS],
     bytes: &mut [u8; POOL_BYTES],
     counters: &mut [u32; 5],
     pgns: &[u32],
@@ -70,11 +71,11 @@ pub extern "C" fn hf_raw_process_frames(
     arena: &mut [u8],
     counts: &mut [u64; 2],
 ) -> u32
-    ensures { λ code. ⌜ FramesLeft size mode (now (pgns .entry)) (record { times = now (times .entry); pgns = now («frame_pgns» .entry); sources = now (sources .entry); bytes = now («data» .entry) })
+    ensures { λ code. ⌜ FramesLeft size mode kind (now (pgns .entry)) (record { times = now (times .entry); pgns = now («frame_pgns» .entry); sources = now (sources .entry); bytes = now («data» .entry) })
         (record { heads = now (heads .entry); bytes = now (bytes .entry); counters = now (counters .entry); kinds = now (kinds .entry); lengths = now (lengths .entry); arena = now (arena .entry); counts = now (counts .entry) })
         code (record { heads = now (heads .exit); bytes = now (bytes .exit); counters = now (counters .exit); kinds = now (kinds .exit); lengths = now (lengths .exit); arena = now (arena .exit); counts = now (counts .exit) }) ⌝ }
 {
-    let p = pool_from(size, mode, heads, bytes);
+    let p = pool_from(size, mode, kind, heads, bytes);
     let c = counters_from(counters);
     let r = process_frames(
         p,

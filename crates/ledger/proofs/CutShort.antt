@@ -6,7 +6,7 @@ use Prim.Native.Nat.{ℕ}
 use native.Mathlib.Omega.{arith}
 use lib.Dec.{lit<, lit≤}
 use Rattle.session.specs.declared.Kind.the-variants as kind
-use Rattle.session.specs.Rules.{base}
+use Rattle.session.specs.Rules.{partAllowed, rulesBy, base}
 use Rattle.assembler.specs.Call.{Call}
 use Rattle.assembler.specs.Making.{freshPool}
 use Rattle.assembler.specs.View.{receiveOf}
@@ -83,15 +83,15 @@ every-cut =
 -- ---- the assembler that fills up within a message: it takes every frame for one of which all eight bytes were sent, as document 01 has it
 
 unfoldable pub fillsUp : Receive
-fillsUp pgns f p k = receiveOf base pgns (record { «now_ms» = f .«now_ms»; pgn = f .pgn; «source_address» = f .«source_address»; «data» = f .«data»; length = 8 }) p k
+fillsUp pgns f p k = receiveOf base pgns (record { «now_ms» = f .«now_ms»; pgn = f .pgn; «source_address» = f .«source_address»; part = f .part; «data» = f .«data»; length = 8 }) p k
 
 -- a message of eight bytes, of whose last the sender said nothing
 unfoldable pub lacking : List Call
 lacking = announces 8 0 35 ∷ endsCut 1 ∷ []
 
-lacking-ok : AllOk lacking
-unfolding lacking announces endsCut frame cutFrame
-lacking-ok = more (record { eight = refl; byte = lit< tt }) (more (record { eight = refl; byte = lit< tt }) none)
+lacking-ok : AllOk base lacking
+unfolding base rulesBy partAllowed lacking announces endsCut frame cutFrame
+lacking-ok = more (record { eight = refl; byte = lit< tt }) refl (more (record { eight = refl; byte = lit< tt }) refl none)
 
 fillsUp-says : lastLength (seenAfter fillsUp (freshPool 1) lacking .said) ≡ 8
 unfolding ran lacking announces endsCut frame cutFrame fillsUp lastLength

@@ -13,7 +13,9 @@ use Rattle.session.specs.declared.Counters.{Counters}
 use Rattle.session.specs.declared.Heard.{Heard}
 use Rattle.session.specs.declared.Mode.{Mode}
 use Rattle.session.specs.declared.Mode.the-variants.{AsOriginal}
-use Rattle.session.specs.Rules.{Rules, rulesBy, base}
+use Rattle.session.specs.declared.PoolKind.{PoolKind}
+use Rattle.session.specs.declared.PoolKind.the-variants as kind
+use Rattle.session.specs.Rules.{Rules, original}
 use Rattle.session.specs.Frames.{indexOf, sizeOf, badSize, isEmpty, cutFirst, badFirst}
 use Rattle.session.specs.Heads.{inTurn, cutNext, isNext}
 use Rattle.session.proofs.Cuts.{eight-sent, eight-first, eight-cut}
@@ -26,12 +28,13 @@ use Rattle.assembler.specs.Call.{Call, listed}
 use Rattle.assembler.specs.Slots.{Slot, Slots, within, slotAt, impossible, chosen, live}
 use Rattle.assembler.specs.Step.{Event, notListed, rejected, shortMessage, poolFull, opened, stray, broken, copied, completed, Outcome, opensAt, continuesAt, eventOf, message, saidOf, outcome, stepIf, step}
 use Rattle.assembler.specs.View.{slotsOf, poolOf, shown, receiveOf}
-use Rattle.assembler.specs.Arrivals.{heardOf, heardWithLength}
-use Rattle.assembler.specs.Promises.{rulesOf, ReceivesHeard, ProcessesHeard, Receives, ReceivesWithLength, Processes, ProcessesWithLength}
+use Rattle.assembler.specs.Arrivals.{heardOf, cutTo, heardWithLength}
+use Rattle.assembler.specs.Promises.{atOriginal, ReceivesHeard, ProcessesHeard, Receives, ReceivesWithLength, Processes, ProcessesWithLength}
 use Rattle.ledger.specs.Demand2.{continuedAt, originalEvent, cutAt, neededCut, whole, answerOf, Original, happens, originalIf, originalOf, asIgnored, readReply, asOriginal}
 use Rattle.assembler.specs.inner.Forms.{receivedOf}
 use Rattle.assembler.proofs.Replies.{replied}
-use Rattle.assembler.proofs.Promised.{received-by, processed-by}
+use Rattle.assembler.specs.OldKind.{hasPart, anyHead}
+use Rattle.assembler.proofs.OldKind.{old-kind}
 
 said-as : (f : Heard) (ss : List Slot) (e : Event) → asIgnored (saidOf f ss e) ≡ answerOf f ss e
 unfolding asIgnored saidOf answerOf message whole
@@ -47,7 +50,7 @@ said-as f ss (completed i) = refl
 
 -- an outcome of the steps, read
 abbrev readOutcome : Outcome → Original
-readOutcome o = record { answer = readReply (o .reply); pool = poolOf AsOriginal (o .pool); counters = o .counters }
+readOutcome o = record { answer = readReply (o .reply); pool = poolOf kind.Original AsOriginal (o .pool); counters = o .counters }
 
 -- ---- where no byte that is needed was cut, the event is that of document 01's own steps
 
@@ -108,50 +111,56 @@ module _ (R : Rules) (p : Slots) (k : Counters) (c : Call) (whole : neededCut R 
 abbrev pub Cut : Rules → List ℕ → Heard → Pool → Bool
 Cut R pgns f p = neededCut R (within (slotsOf p)) (record { pgns = pgns; heard = f })
 
--- what is shown of an outcome, in the original's mode
-shown-as : (m : Mode) (o : Outcome) → m ≡ AsOriginal → record { answer = readReply (o .reply); pool = shown m o .pool; counters = shown m o .counters } ≡ readOutcome o
+-- what is shown of an outcome, of the original's kind and in its mode
+shown-as : (d : PoolKind) (m : Mode) (o : Outcome) → d ≡ kind.Original → m ≡ AsOriginal → record { answer = readReply (o .reply); pool = shown d m o .pool; counters = shown d m o .counters } ≡ readOutcome o
 unfolding shown
-shown-as m o old = rw old
+shown-as d m o own old = rw (own, old)
 
-pub call-as : (R : Rules) (pgns : List ℕ) (f : Heard) (p : Pool) (k : Counters) → p .mode ≡ AsOriginal → Cut R pgns f p ≡ false → asOriginal (receiveOf R pgns f p k) ≡ originalOf R pgns f p k
+pub call-as : (R : Rules) (pgns : List ℕ) (f : Heard) (p : Pool) (k : Counters) → p .kind ≡ kind.Original → p .mode ≡ AsOriginal → Cut R pgns f p ≡ false → asOriginal (receiveOf R pgns f p k) ≡ originalOf R pgns f p k
 unfolding asOriginal
-call-as R pgns f p k old whole =
+call-as R pgns f p k own old whole =
     rw (replied R pgns f p k)
     (unfold receiveOf step originalOf in
-    shown-as (p .mode) (step R (slotsOf p) k (record { pgns = pgns; heard = f })) old
+    shown-as (p .kind) (p .mode) (step R (slotsOf p) k (record { pgns = pgns; heard = f })) own old
     ∙ step-as R (slotsOf p) k (record { pgns = pgns; heard = f }) whole (impossible R (slotsOf p)))
 
-all-sent : (pgns : List ℕ) (a : Arrival) (p : Pool) → Cut base pgns (heardOf a) p ≡ false
+all-sent : (pgns : List ℕ) (a : Arrival) (p : Pool) → Cut original pgns (heardOf a) p ≡ false
 unfolding heardOf
-all-sent pgns a p = none-cut base (within (slotsOf p)) (record { pgns = pgns; heard = heardOf a }) refl
+all-sent pgns a p = none-cut original (within (slotsOf p)) (record { pgns = pgns; heard = heardOf a }) refl
 
-pub original-rules : (p : Pool) → p .mode ≡ AsOriginal → rulesOf p ≡ base
-unfolding rulesOf base
-original-rules p old = ap rulesBy old
+-- the frames of the old kind's entries have no part
+of-part : (a : Arrival) → heardOf a .part ≡ 0
+unfolding heardOf
+of-part a = refl
 
--- "Demand 2's equality with the Rust speaks of the old mode alone": the pool is in the original's mode
-module _ {pgns : List ℕ} {p : Pool} {k : Counters} (old : p .mode ≡ AsOriginal) where
-  heard-as : (f : Heard) {r : Received} → Cut base pgns f p ≡ false → ReceivesHeard pgns f p k r → asOriginal r ≡ originalOf base pgns f p k
-  heard-as f whole h = ap asOriginal (received-by pgns f p k h) ∙ rw (original-rules p old) (call-as base pgns f p k old whole)
+length-part : (x : ArrivalWithLength) → heardWithLength x .part ≡ 0
+unfolding heardWithLength cutTo heardOf
+length-part x = refl
 
-  heard-as-lent : (f : Heard) {r : Processed} {after : Counters} → Cut base pgns f p ≡ false → ProcessesHeard pgns f p k r after → asOriginal (receivedOf r after) ≡ originalOf base pgns f p k
-  heard-as-lent f whole h =
-      let is = processed-by pgns f p k h in
-      rw (is .0, is .1, original-rules p old) (call-as base pgns f p k old whole)
+-- "Demand 2's equality with the Rust speaks of the old mode alone", and of the old kind: the pool is of the original's kind and in its mode, and no slot in
+-- progress has a part, of which the original knows nothing; then the steps are the original's own, with a key of three parts
+module _ {pgns : List ℕ} {p : Pool} {k : Counters} (own : p .kind ≡ kind.Original) (old : p .mode ≡ AsOriginal) (bare : anyHead hasPart (slotsOf p) ≡ false) where
+  heard-as : (f : Heard) {r : Received} → f .part ≡ 0 → Cut original pgns f p ≡ false → ReceivesHeard pgns (atOriginal p f) p k r → asOriginal r ≡ originalOf original pgns f p k
+  unfolding original
+  heard-as f plain whole h = ap asOriginal (old-kind AsOriginal .answers-stay pgns f p k own old bare plain h) ∙ call-as original pgns f p k own old whole
+
+  heard-as-lent : (f : Heard) {r : Processed} {after : Counters} → f .part ≡ 0 → Cut original pgns f p ≡ false → ProcessesHeard pgns (atOriginal p f) p k r after
+      → asOriginal (receivedOf r after) ≡ originalOf original pgns f p k
+  heard-as-lent f {r} {after} plain whole h = heard-as f plain whole (record { answer = h .answer; counted = h .counted })
 
   -- the theorem: eight bytes by value
-  pub demand-2 : (a : Arrival) {r : Received} → Receives pgns a p k r → asOriginal r ≡ originalOf base pgns (heardOf a) p k
-  demand-2 a h = heard-as (heardOf a) (all-sent pgns a p) h
+  pub demand-2 : (a : Arrival) {r : Received} → Receives pgns a p k r → asOriginal r ≡ originalOf original pgns (heardOf a) p k
+  demand-2 a h = heard-as (heardOf a) (of-part a) (all-sent pgns a p) h
 
   -- with the counters lent
-  pub demand-2-lent : (a : Arrival) {r : Processed} {after : Counters} → Processes pgns a p k r after → asOriginal (receivedOf r after) ≡ originalOf base pgns (heardOf a) p k
-  demand-2-lent a h = heard-as-lent (heardOf a) (all-sent pgns a p) h
+  pub demand-2-lent : (a : Arrival) {r : Processed} {after : Counters} → Processes pgns a p k r after → asOriginal (receivedOf r after) ≡ originalOf original pgns (heardOf a) p k
+  demand-2-lent a h = heard-as-lent (heardOf a) (of-part a) (all-sent pgns a p) h
 
   -- and with a length, the original being given the frame filled up
-  pub demand-2-with-length : (x : ArrivalWithLength) {r : Received} → Cut base pgns (heardWithLength x) p ≡ false → ReceivesWithLength pgns x p k r
-      → asOriginal r ≡ originalOf base pgns (heardWithLength x) p k
-  demand-2-with-length x whole h = heard-as (heardWithLength x) whole h
+  pub demand-2-with-length : (x : ArrivalWithLength) {r : Received} → Cut original pgns (heardWithLength x) p ≡ false → ReceivesWithLength pgns x p k r
+      → asOriginal r ≡ originalOf original pgns (heardWithLength x) p k
+  demand-2-with-length x whole h = heard-as (heardWithLength x) (length-part x) whole h
 
-  pub demand-2-with-length-lent : (x : ArrivalWithLength) {r : Processed} {after : Counters} → Cut base pgns (heardWithLength x) p ≡ false → ProcessesWithLength pgns x p k r after
-      → asOriginal (receivedOf r after) ≡ originalOf base pgns (heardWithLength x) p k
-  demand-2-with-length-lent x whole h = heard-as-lent (heardWithLength x) whole h
+  pub demand-2-with-length-lent : (x : ArrivalWithLength) {r : Processed} {after : Counters} → Cut original pgns (heardWithLength x) p ≡ false → ProcessesWithLength pgns x p k r after
+      → asOriginal (receivedOf r after) ≡ originalOf original pgns (heardWithLength x) p k
+  demand-2-with-length-lent x whole h = heard-as-lent (heardWithLength x) (length-part x) whole h

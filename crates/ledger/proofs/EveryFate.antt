@@ -8,7 +8,7 @@ use Rattle.base.specs.Lists.{nextPlace, here, orElse, firstAt, any, total}
 use Rattle.fast_packet.specs.FastPacket.{listedIn}
 use Rattle.session.specs.declared.Kind.{Kind}
 use Rattle.session.specs.declared.Kind.the-variants as kind
-use Rattle.session.specs.Rules.{silence, silentBy, keysEqual, rulesBy, base}
+use Rattle.session.specs.Rules.{silence, silentBy, keysEqual, threeEqual, partAllowed, anyPart, rulesBy, base, rulesWithoutPart, original}
 use Rattle.session.specs.Frames.{sequenceOf, indexOf, sizeOf, firstBytes, nextBytes, badSize, keyOf, sentBytes, isEmpty, cutFirst, badFirst}
 use Rattle.session.specs.Heads.{freshHead, headKey, impossibleHead, hasKey, isSilent, isFree, isFreeOfSource, hasLiveKey, isExpired, inTurn, cutNext, isNext, openedHead, resetHead, wanted, copiedHead, allThere}
 use Rattle.session.specs.Counting.{freshCounters, most, raise, raised, expiredMark}
@@ -26,7 +26,7 @@ use Rattle.ledger.specs.Runs as run
 
 -- to unfold `ran` is to unfold all that its line names
 unfoldable pub ran : ℕ → List Call → Seen
-unfolding base rulesBy silentBy silence keysEqual listedIn sequenceOf indexOf sizeOf firstBytes nextBytes badSize keyOf isEmpty cutFirst badFirst nextPlace here orElse firstAt any total pick freshHead headKey impossibleHead hasKey isSilent isFree isFreeOfSource hasLiveKey isExpired inTurn cutNext isNext openedHead resetHead wanted copiedHead allThere freshCounters most raise raised expiredMark freshSlot freshSlots impossible chosen live openedSlot resetSlot copiedSlot opensAt continuesAt eventOf slotsAfter markOf padded message saidOf outcome stepIf step slotsFrom slotsOf headOf flat poolOf zeros whyKind replyKind replyPayload replyLength shown receiveOf freshPoolIn freshPool start sayingOf run.afterCall receives seenIn seenAfter inProgress howMany asNumber
+unfolding base rulesBy original rulesWithoutPart partAllowed anyPart silentBy silence keysEqual threeEqual listedIn sequenceOf indexOf sizeOf firstBytes nextBytes badSize keyOf isEmpty cutFirst badFirst nextPlace here orElse firstAt any total pick freshHead headKey impossibleHead hasKey isSilent isFree isFreeOfSource hasLiveKey isExpired inTurn cutNext isNext openedHead resetHead wanted copiedHead allThere freshCounters most raise raised expiredMark freshSlot freshSlots impossible chosen live openedSlot resetSlot copiedSlot opensAt continuesAt eventOf slotsAfter markOf padded message saidOf outcome stepIf step slotsFrom slotsOf headOf flat poolOf zeros whyKind replyKind replyPayload replyLength shown receiveOf freshPoolIn freshPool start sayingOf run.afterCall receives seenIn seenAfter inProgress howMany asNumber
 ran n cs = seenAfter (receiveOf base) (freshPool n) cs
 
 -- to unfold `told` is to unfold all that tells a ledger
@@ -38,7 +38,7 @@ told n cs = ledgerOf base (sourcesOf (freshPool n)) cs
 
 -- of whose eight bytes the first n were sent
 unfoldable pub cutFrame : ℕ → ℕ → ℕ → List ℕ → Call
-cutFrame n at from bytes = record { pgns = 7 ∷ 127489 ∷ []; heard = record { «now_ms» = at; pgn = 127489; «source_address» = from; «data» = bytes; length = n } }
+cutFrame n at from bytes = record { pgns = 7 ∷ 127489 ∷ []; heard = record { «now_ms» = at; pgn = 127489; «source_address» = from; part = 0; «data» = bytes; length = n } }
 
 unfoldable pub frame : ℕ → ℕ → List ℕ → Call
 unfolding cutFrame

@@ -22,7 +22,7 @@ pub record Sender : Type 0 where
   pub byte : ℕ
 
 unfoldable pub sends : Sender → ℕ → List ℕ → Call
-sends s at bytes = record { pgns = 127489 ∷ 127488 ∷ []; heard = record { «now_ms» = at; pgn = s .pgn; «source_address» = s .source; «data» = bytes; length = 8 } }
+sends s at bytes = record { pgns = 127489 ∷ 127488 ∷ []; heard = record { «now_ms» = at; pgn = s .pgn; «source_address» = s .source; part = 0; «data» = bytes; length = 8 } }
 
 -- a message of thirteen bytes: its first frame, and its continuation
 unfoldable pub begin : Sender → ℕ → Call

@@ -15,6 +15,7 @@ pub mod Wrong
 pub mod CutShort
 pub mod TooLittle
 pub mod Keys
+pub mod Displays
 pub mod Mixed
 pub mod Demand2
 pub mod Names

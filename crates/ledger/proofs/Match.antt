@@ -26,7 +26,7 @@ use Rattle.session.specs.Frames.{indexOf, sizeOf, badSize, firstBytes, isEmpty,
 use Rattle.session.proofs.Cuts.{first-good, first-sent}
 use Rattle.session.specs.Heads.{impossibleHead, hasKey, isFree, isFreeOfSource, hasLiveKey, isExpired}
 use Rattle.session.specs.Counting.{expiredMark}
-use Rattle.assembler.specs.Call.{Call, CallOk, listed}
+use Rattle.assembler.specs.Call.{Call, CallOk, partFits, listed}
 use Rattle.assembler.specs.Slots.{Slot, slotAt, freshSlot, onHead, chosen, live, copiedSlot}
 use Rattle.assembler.specs.Step as act
 use Rattle.assembler.specs.Step.{Event, message, padded, saidOf, slotsAfter, opensAt, continuesAt, eventOf}
@@ -73,8 +73,8 @@ module _ (R : Rules) where
   unfolding live
   live-found c h = all2-first (liveHeld R c) (onHead (hasLiveKey R (c .heard))) (live-same R c) h
 
-  pub all-possible : {ps : List Place} {ss : List Slot} → All2 (Shows R) ps ss → any (onHead (impossibleHead)) ss ≡ false
-  all-possible h = all2-any (onHead (impossibleHead)) (possible R) h
+  pub all-possible : {ps : List Place} {ss : List Slot} → All2 (Shows R) ps ss → any (onHead (impossibleHead R)) ss ≡ false
+  all-possible h = all2-any (onHead (impossibleHead R)) (possible R) h
 
   -- ---- one call: what the ledger tells of it, and the event of the steps
 
@@ -121,7 +121,7 @@ module _ (R : Rules) where
   unfolding badSize
   good-size c e = ltb-false maxPayload (sizeOf (c .heard)) (or-right (eqb (sizeOf (c .heard)) 0) (ltb maxPayload (sizeOf (c .heard))) (first-good (c .heard) e))
 
-  module _ (n : ℕ) (c : Call) (ok : CallOk c) {ps : List Place} {ss : List Slot} (h : All2 (Shows R) ps ss) where
+  module _ (n : ℕ) (c : Call) (ok : CallOk c) (fits : partFits R c ≡ true) {ps : List Place} {ss : List Slot} (h : All2 (Shows R) ps ss) where
     match-open : 7 ≤ sizeOf (c .heard) → sizeOf (c .heard) ≤ maxPayload → 8 ≤ c .heard .length → (o : Option ℕ) → Within (length ps) o → Match c ss (given o (nothingMoved NoSlot ps) (opensIn R n ps c)) (opensAt R (c .heard) ss o)
     unfolding given opensIn opensAt nothingMoved slotsAfter saidOf act.markOf replySays whyKind replyKind replyPayload replyLength briefly
     match-open low high all none u = record { kept = refl; shows = h; says = unfold kindDue saying isOneOf any deedNumber pick in refl; marks = unfold markOf in refl; sent = unfold unsentIn in refl }
@@ -129,7 +129,7 @@ module _ (R : Rules) where
         let q : Shows R (getD ps i (idle 0)) (slotAt ss i) = all2-at h i u (idle 0) freshSlot in
         record {
           kept = simp length-set;
-          shows = all2-set h i (opened-shows R n c (slotAt ss i) ok low high all (room-of R (getD ps i (idle 0)) (slotAt ss i) q));
+          shows = all2-set h i (opened-shows R n c (slotAt ss i) ok fits low high all (room-of R (getD ps i (idle 0)) (slotAt ss i) q));
           says = opening-says c (getD ps i (idle 0));
           marks = opening-marks c (getD ps i (idle 0)) (slotAt ss i) q;
           sent = opening-sent c (getD ps i (idle 0));

@@ -10,6 +10,7 @@ use Rattle.base.specs.Answer.{gives}
 use Rattle.base.specs.Lists.{fill}
 use Rattle.fast_packet.specs.FastPacket.{filledFrom}
 use Rattle.session.specs.declared.Kind.the-variants.{FragmentConsumed, MessageComplete}
+use Rattle.session.specs.declared.PoolKind.the-variants.{Original}
 use Rattle.session.specs.Kinds.{kindNumber}
 use Rattle.assembler.specs.declared.Arrival.{Arrival}
 use Rattle.assembler.specs.declared.ArrivalWithLength.{ArrivalWithLength}
@@ -17,19 +18,19 @@ use Rattle.assembler.specs.declared.Received.{Received}
 use Rattle.assembler.specs.Call.{Call}
 use Rattle.assembler.specs.Step.{padded}
 use Rattle.assembler.specs.Making.{freshPool}
-use Rattle.assembler.specs.View.{receiveOf}
-use Rattle.assembler.specs.Arrivals.{heardOf, heardWithLength}
-use Rattle.assembler.specs.Promises.{rulesOf}
+use Rattle.assembler.specs.Arrivals.{heardOf, cutTo, heardWithLength}
+use Rattle.assembler.specs.Promises.{rulesOf, sameKind, entered, atOriginal, resultOf, resultOn, answerTo}
 use Rattle.assembler.specs.inner.Forms.{processedOf}
+use Rattle.assembler.proofs.Entries.{frame, known-entered}
 use Rattle.assembler.proofs.Promised.{promised, process-promised}
 use Rattle.batch.specs.declared.Batch.{Batch}
 use Rattle.batch.specs.declared.Batched.the-variants.{Done}
 use Rattle.batch.specs.Rows as rows
-use Rattle.batch.specs.Rows.{Rows, frameInRows, BatchLeft, batchOf, runFrom, runOf, took, answerIn, over, leaves, refusedBy, Batches}
+use Rattle.batch.specs.Rows.{Rows, frameInRows, BatchLeft, batchOf, runFrom, runOf, took, answerIn, over, leaves, refusesPool, refusedBy, Batches}
 use Rattle.batch.specs.Lengths.{tooShort}
 use Rattle.batch.proofs.Promised.{batched}
 use Rattle.ledger.specs.Ledger.{briefly}
-use Rattle.ledger.specs.Runs.{State, start, call, afterCall, afterLent, callsOf, kindOfNumber, saidInRows, afterBatch, receivedWithLength, processed, Ran, stop, on}
+use Rattle.ledger.specs.Runs.{State, start, callsHeard, saidTo, afterEntry, afterLent, callsOf, kindOfNumber, saidInRows, afterBatch, receivedWithLength, processed, Ran, stop, on}
 use Rattle.ledger.specs.Runs as run
 use Rattle.ledger.proofs.EveryFate.{ran}
 
@@ -52,14 +53,14 @@ third = record { times = 2 ∷ []; pgns = 127489 ∷ []; sources = 35 ∷ []; by
 -- the state after each of the three
 unfoldable pub afterFirst : State
 afterFirst =
-    let r : Received = receiveOf (rulesOf (freshPool 1)) list (heardOf first) (freshPool 1) (start (freshPool 1) .counters) in afterLent (start (freshPool 1)) (processedOf r) (r .counters)
+    let r : Received = answerTo list (atOriginal (freshPool 1) (heardOf first)) (freshPool 1) (start (freshPool 1) .counters) in afterLent (atOriginal (freshPool 1) (heardOf first)) (start (freshPool 1)) (processedOf r) (r .counters)
 
 unfoldable pub afterSecond : State
-afterSecond = afterCall afterFirst (receiveOf (rulesOf (afterFirst .pool)) list (heardWithLength second) (afterFirst .pool) (afterFirst .counters))
+afterSecond = afterEntry (atOriginal (afterFirst .pool) (heardWithLength second)) afterFirst (answerTo list (atOriginal (afterFirst .pool) (heardWithLength second)) (afterFirst .pool) (afterFirst .counters))
 
 -- to unfold `batch` is to unfold all that its line names
 unfoldable pub batch : BatchLeft
-unfolding ran rulesOf afterSecond afterFirst first second third arrives heardOf heardWithLength filledFrom fill afterLent kindNumber batchOf runFrom runOf took answerIn over leaves refusedBy tooShort frameInRows rows.emptyRun
+unfolding ran rulesOf afterSecond afterFirst first second third arrives heardOf heardWithLength cutTo filledFrom fill entered sameKind answerTo resultOn resultOf saidTo afterEntry afterLent refusesPool kindNumber batchOf runFrom runOf took answerIn over leaves refusedBy tooShort frameInRows rows.emptyRun
 batch = batchOf (rulesOf (afterSecond .pool)) list third (afterSecond .pool) (afterSecond .counters) (0 ∷ []) (0 ∷ []) (replicate 20 0)
 
 -- one frame was taken, and its message has 20 bytes
@@ -70,7 +71,8 @@ unfoldable pub afterThird : State
 afterThird = afterBatch afterSecond answer (batch .kinds) (batch .lengths) (batch .arena)
 
 unfoldable pub calls : List Call
-calls = (call list (heardOf first) ∷ []) ++ ((call list (heardWithLength second) ∷ []) ++ (callsOf list third 1 0 ++ []))
+calls =
+    callsHeard list (atOriginal (freshPool 1) (heardOf first)) ++ (callsHeard list (atOriginal (afterFirst .pool) (heardWithLength second)) ++ (callsOf list third 1 0 ++ []))
 
 -- every number of a row is a byte
 record Bytes (l : List ℕ) : Type 0 where
@@ -112,8 +114,8 @@ kept = batched (left-by batch 1 20 one-taken twenty-used ∙ is)
 pub mixed : Ran (start (freshPool 1)) calls afterThird
 unfolding calls afterThird afterSecond afterFirst answer start
 mixed =
-    on (processed list first (unfold heardOf first arrives in record { eight = refl; byte = lit< tt }) (process-promised list (heardOf first) (freshPool 1) _ refl refl))
-    (on (receivedWithLength list second (unfold heardOf second arrives in record { eight = refl; byte = lit< tt }) (promised list (heardWithLength second) _ _ refl))
+    on (processed list first (unfold first arrives in record { eight = refl; byte = lit< tt }) (process-promised list (atOriginal (freshPool 1) (heardOf first)) (freshPool 1) _ (known-entered Original _ (frame _)) refl refl))
+    (on (receivedWithLength list second (unfold second arrives in record { eight = refl; byte = lit< tt }) (promised list (atOriginal (afterFirst .pool) (heardWithLength second)) _ _ (known-entered Original _ (frame _)) refl))
     (on (run.batched (low .small) kept) stop))
 
 pub mixed-says : afterThird .said

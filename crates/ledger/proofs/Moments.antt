@@ -1,7 +1,7 @@
 -- Every beginning of a run is a run, and neither the ledger nor the answers take back what they said: so demand 3 holds at every moment of a run.
 -- And what follows of it: no call is refused by 1; and what a batch after any run leaves and says.
 -- Assumes nothing.
-use mathlib.Core.Bool.{Bool, true, false}
+use mathlib.Core.Bool.{Bool, true, false, not, _||_}
 use mathlib.Core.List.{List, [], _∷_, _++_, map, append-assoc, append-nil}
 use mathlib.Core.Path.{_≡_, refl, sym, ap, subst, _∙_}
 use Prim.Native.Nat.{ℕ, suc, _+_, _≤_, _<_}
@@ -19,12 +19,14 @@ use Rattle.assembler.specs.declared.Pool.{Pool}
 use Rattle.assembler.specs.Call.{Call}
 use Rattle.assembler.specs.Slots.{impossible}
 use Rattle.assembler.specs.View.{slotsOf, receiveOf}
-use Rattle.assembler.specs.Promises.{rulesOf}
+use Rattle.session.specs.declared.PoolKind.{PoolKind}
+use Rattle.session.specs.declared.PoolKind.the-variants.{Original}
+use Rattle.assembler.specs.Promises.{rulesOf, sameKind}
 use Rattle.batch.specs.declared.Batch.{Batch}
 use Rattle.batch.specs.declared.Batched.{Batched}
 use Rattle.batch.specs.declared.Batched.the-variants.{ImpossiblePool}
 use Rattle.batch.specs.Lengths.{tooShort}
-use Rattle.batch.specs.Rows.{Rows, runOf, leaves, refusedBy, batchOf, ofBatched, Batches}
+use Rattle.batch.specs.Rows.{refusesPool, Rows, runOf, leaves, refusedBy, batchOf, ofBatched, Batches}
 use Rattle.ledger.specs.Ledger.{Message, Entry, Ledger, tellOne, tell, tells, written, blank, ledgerOf, briefly, delivery, kindDue, saying, sayingDue, Saying}
 use Rattle.ledger.specs.Ledger as book
 use Rattle.ledger.specs.Demand3.{Seen, Agreed, Closes}
@@ -32,7 +34,7 @@ use Rattle.ledger.specs.Rows.{RowsDue}
 use Rattle.ledger.specs.Runs.{Empty, State, start, sourcesOf, seenIn, afterCall, afterBatch, callsOf, Called, batched, Ran, stop, on}
 use Rattle.ledger.specs.Assemblers.{Receive, receives}
 use Rattle.ledger.proofs.Rows.{batch-rows}
-use Rattle.ledger.proofs.Demand3.{demand-3, ran-taken, pool-possible}
+use Rattle.ledger.proofs.Demand3.{demand-3, ran-made, ran-taken, pool-possible}
 use mathlib.Core.Option.{Option, none, some}
 
 -- ---- runs after runs
@@ -82,8 +84,8 @@ answers-kept {z} {ds = ds} r = rw (ran-taken r .is) (said-kept (receiveOf (rules
 
 -- ---- what follows
 
--- of a possible pool a batch is refused by 27 or not at all
-by-length : (R : Rules) (list : List ℕ) (w : Rows) (p : Pool) (k : Counters) (kinds lengths arena : List ℕ) → impossible R (slotsOf p) ≡ false → batchOf R list w p k kinds lengths arena .answer ≡ refuses 1 [] → ⊥
+-- of a pool that it does not refuse a batch is refused by 27 or not at all
+by-length : (R : Rules) (list : List ℕ) (w : Rows) (p : Pool) (k : Counters) (kinds lengths arena : List ℕ) → refusesPool R p ≡ false → batchOf R list w p k kinds lengths arena .answer ≡ refuses 1 [] → ⊥
 unfolding batchOf pick refusedBy leaves
 by-length R list w p k kinds lengths arena e = rw e (go (tooShort (length (w .times)) (length (w .pgns)) (length (w .sources)) (length (w .bytes)) (length kinds) (length lengths)))
   where
@@ -97,6 +99,7 @@ saysRefused a = refusal (a .kind)
   where
     refusal : Kind → Bool
     refusal kind.ImpossiblePool = true
+    refusal kind.TooWide = true
     refusal kind.NotListed = false
     refusal kind.Rejected = false
     refusal kind.PoolFull = false
@@ -136,14 +139,20 @@ none-refused (e ∷ es) = rw (saying-says (book.isOneOf (book.AtOnce ∷ book.De
 pub never-refused : {s : Seen} {L : Ledger} → Agreed s L → any saysRefused (s .said) ≡ false
 never-refused {L = L} a = rw (a .answers) (none-refused (L .entries))
 
--- nor is a batch: what it is refused by, if anything, is 27
-pub batch-not-impossible : (p : Pool) → Empty p → {cs : List Call} {y : State} → Ran (start p) cs y → length cs ≤ 4294967295
+not-refused : (R : Rules) (p : Pool) → p .kind ≡ Original → impossible R (slotsOf p) ≡ false → refusesPool R p ≡ false
+unfolding refusesPool sameKind
+not-refused R p own fine = ap (λ (d : PoolKind). not (sameKind Original d) || impossible R (slotsOf p)) own ∙ fine
+
+-- nor is a batch on a pool of the original's kind: what it is refused by, if anything, is 27
+pub batch-not-impossible : (p : Pool) → Empty p → p .kind ≡ Original → {cs : List Call} {y : State} → Ran (start p) cs y → length cs ≤ 4294967295
     → {list times pgns sources bytes kinds lengths arena : List ℕ} {r : Batch} {kinds′ lengths′ arena′ : List ℕ}
     → Batches list times pgns sources bytes (y .pool) (y .counters) kinds lengths arena r kinds′ lengths′ arena′ → r .result ≡ ImpossiblePool → ⊥
-batch-not-impossible p e {cs} {y} run l {list} {times} {pgns} {sources} {bytes} {kinds} {lengths} {arena} {r} h one =
+batch-not-impossible p e own {cs} {y} run l {list} {times} {pgns} {sources} {bytes} {kinds} {lengths} {arena} {r} h one =
     let w : Rows = record { times = times; pgns = pgns; sources = sources; bytes = bytes } in
     let refused : batchOf (rulesOf (y .pool)) list w (y .pool) (y .counters) kinds lengths arena .answer ≡ refuses 1 [] = sym (h .leaves-these .answer) ∙ ap (λ (b : Batched). ofBatched b (r .taken)) one ∙ (unfold ofBatched in refl) in
-    by-length (rulesOf (y .pool)) list w (y .pool) (y .counters) kinds lengths arena (pool-possible p e run l) refused
+    let kind-kept : y .pool .kind ≡ Original = ran-made run .of-kind ∙ (unfold start in own) in
+    let taken : refusesPool (rulesOf (y .pool)) (y .pool) ≡ false = not-refused (rulesOf (y .pool)) (y .pool) kind-kept (pool-possible p e run l) in
+    by-length (rulesOf (y .pool)) list w (y .pool) (y .counters) kinds lengths arena taken refused
 
 -- a batch after any run: what is seen then closes with the ledger of its frames too, and its rows of kinds and lengths and its arena hold what the ledger's
 -- newest entries call for

@@ -7,15 +7,17 @@ use native.Mathlib.Omega.{arith}
 use lib.ListN.{length, take}
 use lib.Seq.{take-at}
 use lib.Dec.{eqb, ltb}
-use Rattle.base.specs.Answer.{gives}
+use Rattle.base.specs.Answer.{Answer, gives, refuses}
 use Rattle.base.specs.Lists.{total}
 use Rattle.base.specs.Pick.{pick}
 use Rattle.book.specs.Book.{asNumber, howMany}
 use Rattle.session.specs.declared.Counters.{Counters}
 use Rattle.session.specs.declared.Heard.{Heard}
 use Rattle.session.specs.declared.Kind.{Kind}
+use Rattle.session.specs.declared.Kind.the-variants as kind
 use Rattle.session.specs.declared.Kind.the-variants.{NotListed, Rejected, PoolFull, Lost}
 use Rattle.session.specs.declared.Mode.{Mode}
+use Rattle.session.specs.declared.PoolKind.{PoolKind}
 use Rattle.session.specs.Rules.{Rules}
 use Rattle.session.specs.Counting.{raise, raised, expiredMark}
 use Rattle.session.specs.Kinds.{kindNumber}
@@ -26,11 +28,12 @@ use Rattle.assembler.specs.Call.{Call}
 use Rattle.assembler.specs.Slots.{Slot, Slots, within, impossible}
 use Rattle.assembler.specs.Step.{Event, notListed, rejected, shortMessage, poolFull, opened, stray, broken, copied, completed, eventOf, markOf, message, saidOf, outcome, stepIf, step}
 use Rattle.assembler.specs.View.{slotsOf, whyKind, replyKind, shown, receiveOf}
-use Rattle.assembler.specs.Promises.{rulesOf, ReceivesHeard, ProcessesHeard}
+use Rattle.assembler.specs.Promises.{rulesOf, answerTo, ReceivesHeard, ProcessesHeard}
+use Rattle.assembler.proofs.Entries.{answer-steps, answer-refused}
 use Rattle.assembler.proofs.Promised.{received-by, processed-by}
 use Rattle.batch.specs.declared.Batch.{Batch}
 use Rattle.batch.specs.Lengths.{tooShort}
-use Rattle.batch.specs.Rows.{Rows, frameInRows, Run, emptyRun, took, answerIn, runFrom, runOf, BatchLeft, over, leaves, refusedBy, batchOf, takenIn, Batches}
+use Rattle.batch.specs.Rows.{Rows, frameInRows, Run, emptyRun, took, answerIn, runFrom, runOf, BatchLeft, over, leaves, refusesPool, refusedBy, batchOf, takenIn, Batches}
 use Rattle.ledger.specs.Names.{raisedBy, TellsAlike, entries, raisedTimes, RowTellsAlike}
 
 module _ (f : Heard) (ss : List Slot) (k : Counters) where
@@ -47,24 +50,36 @@ module _ (f : Heard) (ss : List Slot) (k : Counters) where
   event-alike (copied i) = record { unknown = refl; rejected = refl; exhausted = refl; lost = refl; expired = λ n. refl }
   event-alike (completed i) = record { unknown = refl; rejected = refl; exhausted = refl; lost = refl; expired = λ n. refl }
 
-step-alike : (b : Bool) (m : Mode) (R : Rules) (p : Slots) (k : Counters) (c : Call) → TellsAlike (shown m (stepIf b R p k c) .kind) k (shown m (stepIf b R p k c) .counters)
+step-alike : (b : Bool) (d : PoolKind) (m : Mode) (R : Rules) (p : Slots) (k : Counters) (c : Call) → TellsAlike (shown d m (stepIf b R p k c) .kind) k (shown d m (stepIf b R p k c) .counters)
 unfolding stepIf shown
-step-alike true m R p k c = unfold replyKind raisedBy kindNumber pick in record { unknown = refl; rejected = refl; exhausted = refl; lost = refl; expired = λ n. refl }
-step-alike false m R p k c = unfold outcome in event-alike (c .heard) (within p) k (eventOf R (within p) c)
+step-alike true d m R p k c = unfold replyKind raisedBy kindNumber pick in record { unknown = refl; rejected = refl; exhausted = refl; lost = refl; expired = λ n. refl }
+step-alike false d m R p k c = unfold outcome in event-alike (c .heard) (within p) k (eventOf R (within p) c)
 
 call-alike : (R : Rules) (pgns : List ℕ) (f : Heard) (p : Pool) (k : Counters) → TellsAlike (receiveOf R pgns f p k .kind) k (receiveOf R pgns f p k .counters)
 unfolding receiveOf step
-call-alike R pgns f p k = step-alike (impossible R (slotsOf p)) (p .mode) R (slotsOf p) k (record { pgns = pgns; heard = f })
+call-alike R pgns f p k = step-alike (impossible R (slotsOf p)) (p .kind) (p .mode) R (slotsOf p) k (record { pgns = pgns; heard = f })
 
--- by value, with a length or without
-pub tells-alike : {pgns : List ℕ} {f : Heard} {p : Pool} {k : Counters} {r : Received} → ReceivesHeard pgns f p k r → TellsAlike (r .kind) k (r .counters)
-tells-alike {pgns} {f} {p} {k} h = rw (received-by pgns f p k h) (call-alike (rulesOf p) pgns f p k)
+-- a refusal at the entry raises none
+refused-alike : (pgns : List ℕ) (n : ℕ) (carried : List ℕ) (p : Pool) (k : Counters) → TellsAlike (answerTo pgns (refuses n carried) p k .kind) k (answerTo pgns (refuses n carried) p k .counters)
+refused-alike pgns n carried p k = rw (answer-refused pgns p k n carried) (unfold replyKind in go (eqb n 8))
+  where
+    go : (b : Bool) → TellsAlike (pick b kind.TooWide kind.ImpossiblePool) k k
+    go true = unfold pick raisedBy kindNumber in record { unknown = refl; rejected = refl; exhausted = refl; lost = refl; expired = λ n. refl }
+    go false = unfold pick raisedBy kindNumber in record { unknown = refl; rejected = refl; exhausted = refl; lost = refl; expired = λ n. refl }
+
+answer-alike : (pgns : List ℕ) (a : Answer Heard) (p : Pool) (k : Counters) → TellsAlike (answerTo pgns a p k .kind) k (answerTo pgns a p k .counters)
+answer-alike pgns (gives f) p k = rw (answer-steps pgns p k f) (call-alike (rulesOf p) pgns f p k)
+answer-alike pgns (refuses n carried) p k = refused-alike pgns n carried p k
+
+-- by value, with a length or without, by the identifier or not
+pub tells-alike : {pgns : List ℕ} {a : Answer Heard} {p : Pool} {k : Counters} {r : Received} → ReceivesHeard pgns a p k r → TellsAlike (r .kind) k (r .counters)
+tells-alike {pgns} {a} {p} {k} h = rw (received-by pgns a p k h) (answer-alike pgns a p k)
 
 -- with the counters lent
-pub tells-alike-lent : {pgns : List ℕ} {f : Heard} {p : Pool} {before : Counters} {r : Processed} {after : Counters} → ProcessesHeard pgns f p before r after → TellsAlike (r .kind) before after
-tells-alike-lent {pgns} {f} {p} {before} h =
-    let is = processed-by pgns f p before h in
-    rw (is .0, is .1) (call-alike (rulesOf p) pgns f p before)
+pub tells-alike-lent : {pgns : List ℕ} {a : Answer Heard} {p : Pool} {before : Counters} {r : Processed} {after : Counters} → ProcessesHeard pgns a p before r after → TellsAlike (r .kind) before after
+tells-alike-lent {pgns} {a} {p} {before} h =
+    let is = processed-by pgns a p before h in
+    rw (is .0, is .1) (answer-alike pgns a p before)
 
 -- ---- a batch, by its row
 
@@ -121,7 +136,7 @@ module _ (R : Rules) (l : List ℕ) (w : Rows) (k : Counters) where
 
   batch-alike : (p : Pool) (kinds lengths arena : List ℕ) → Alike (batchOf R l w p k kinds lengths arena)
   unfolding batchOf pick
-  batch-alike p kinds lengths arena = go (impossible R (slotsOf p)) (tooShort (length (w .times)) (length (w .pgns)) (length (w .sources)) (length (w .bytes)) (length kinds) (length lengths))
+  batch-alike p kinds lengths arena = go (refusesPool R p) (tooShort (length (w .times)) (length (w .pgns)) (length (w .sources)) (length (w .bytes)) (length kinds) (length lengths))
     where
       ran : Run
       ran = runOf R l w (length arena) p k

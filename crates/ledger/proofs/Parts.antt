@@ -89,7 +89,7 @@ stepBy false q p k c = outcomeBy q (c .heard) (eventOf base (within p) c) p k
 
 -- the receive call with these parts
 unfoldable pub by : Parts → Receive
-by q pgns f p k = shown (p .mode) (stepBy (impossible base (slotsOf p)) q (slotsOf p) k (record { pgns = pgns; heard = f }))
+by q pgns f p k = shown (p .kind) (p .mode) (stepBy (impossible base (slotsOf p)) q (slotsOf p) k (record { pgns = pgns; heard = f }))
 
 -- with the right parts it is the receive call itself
 outcome-right : (f : Heard) (e : Event) (p : Slots) (k : Counters) → outcomeBy right f e p k ≡ outcome f e p k
@@ -111,4 +111,4 @@ step-right false p k c = outcome-right (c .heard) (eventOf base (within p) c) p 
 
 pub right-is : (pgns : List ℕ) (f : Heard) (p : Pool) (k : Counters) → by right pgns f p k ≡ receiveOf base pgns f p k
 unfolding by receiveOf step
-right-is pgns f p k = ap (shown (p .mode)) (step-right (impossible base (slotsOf p)) (slotsOf p) k (record { pgns = pgns; heard = f }))
+right-is pgns f p k = ap (shown (p .kind) (p .mode)) (step-right (impossible base (slotsOf p)) (slotsOf p) k (record { pgns = pgns; heard = f }))

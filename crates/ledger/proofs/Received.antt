@@ -60,18 +60,18 @@ module _ (R : Rules) where
   next-same : (z : State) (w : World) (c : Call) → Same z w → Sized (callOne (step R) w c .pool .slots) → Same (afterCall z (receiveOf R (c .pgns) (c .heard) (z .pool) (z .counters))) (callOne (step R) w c)
   unfolding afterCall callOne afterOutcome receiveOf shown sayingOf replySays
   next-same z w c s h =
-      rw (s .pool, s .counters) (record { pool = view-forth (z .pool .mode) (step R (w .pool) (w .counters) c .pool) h; counters = refl; said = ap (_∷_ (replySays (step R (w .pool) (w .counters) c .reply))) (s .said) })
+      rw (s .pool, s .counters) (record { pool = view-forth (z .pool .kind) (z .pool .mode) (step R (w .pool) (w .counters) c .pool) h; counters = refl; said = ap (_∷_ (replySays (step R (w .pool) (w .counters) c .reply))) (s .said) })
 
-  runs-same : (z : State) (w : World) (L : Ledger) {cs : List Call} → AllOk cs → Follows R w L → Sized (rest (w .pool)) → Same z w → numbered L + length cs ≤ most → Same (receives (receiveOf R) z cs) (callAll (step R) w cs)
+  runs-same : (z : State) (w : World) (L : Ledger) {cs : List Call} → AllOk R cs → Follows R w L → Sized (rest (w .pool)) → Same z w → numbered L + length cs ≤ most → Same (receives (receiveOf R) z cs) (callAll (step R) w cs)
   unfolding receives callAll
   runs-same z w L demand.none f h s l = s
-  runs-same z w L (demand.more {c} {cs} ok oks) f h s l =
+  runs-same z w L (demand.more {c} {cs} ok fits oks) f h s l =
       let w′ : World = callOne (step R) w c in
-      let f′ : Follows R w′ (tell (tellOne R) L c) = follows-call R w L c ok f (omega arith) in
-      let h′ : Sized (rest (w′ .pool)) = rw (step-rest R w L c ok f) h in
+      let f′ : Follows R w′ (tell (tellOne R) L c) = follows-call R w L c ok fits f (omega arith) in
+      let h′ : Sized (rest (w′ .pool)) = rw (step-rest R w L c ok fits f) h in
       runs-same (afterCall z (receiveOf R (c .pgns) (c .heard) (z .pool) (z .counters))) w′ (tell (tellOne R) L c) oks f′ h′ (next-same z w c s (sized R w′ (tell (tellOne R) L c) f′ h′)) (omega (arith, numbered-tell R L c))
 
-pub run-same : (R : Rules) (p : Pool) → Sized (slotsOf p .slots) → Follows R (begun (slotsOf p)) (blank (sourcesOf p)) → {cs : List Call} → AllOk cs → length cs ≤ most
+pub run-same : (R : Rules) (p : Pool) → Sized (slotsOf p .slots) → Follows R (begun (slotsOf p)) (blank (sourcesOf p)) → {cs : List Call} → AllOk R cs → length cs ≤ most
     → Same (receives (receiveOf R) (start p) cs) (callAll (step R) (begun (slotsOf p)) cs)
 unfolding start begun slotsOf
 run-same R p s f oks l =

@@ -15,9 +15,12 @@ use Rattle.base.proofs.Bools.{or-left, or-right}
 use Rattle.session.specs.declared.Heard.{Heard}
 use Rattle.session.specs.declared.Counters.{Counters}
 use Rattle.session.specs.declared.Kind.{Kind}
-use Rattle.session.specs.declared.Kind.the-variants.{ImpossiblePool, NotListed, Rejected, PoolFull, Lost, FragmentConsumed, MessageComplete}
+use Rattle.session.specs.declared.Kind.the-variants.{ImpossiblePool, TooWide, NotListed, Rejected, PoolFull, Lost, FragmentConsumed, MessageComplete}
 use Rattle.session.specs.Kinds.{kindNumber}
-use Rattle.session.specs.Rules.{Rules}
+use Rattle.session.specs.Rules.{Rules, rulesBy}
+use Rattle.session.specs.declared.Mode.{Mode}
+use Rattle.session.specs.declared.PoolKind.{PoolKind}
+use Rattle.session.specs.declared.PoolKind.the-variants.{Original}
 use Rattle.assembler.specs.declared.Pool.{Pool}
 use Rattle.assembler.specs.declared.Received.{Received}
 use Rattle.assembler.specs.Call.{Call, CallOk}
@@ -28,10 +31,11 @@ use Rattle.assembler.specs.Promises.{rulesOf}
 use Rattle.batch.specs.declared.Batch.{Batch}
 use Rattle.batch.specs.Lengths.{tooShort}
 use Rattle.batch.specs.Rows as rows
-use Rattle.batch.specs.Rows.{Rows, frameInRows, took, answerIn, runOf, over, leaves, refusedBy, batchOf, BatchLeft, takenIn, AreLeft, Batches}
+use Rattle.batch.specs.Rows.{Rows, frameInRows, took, answerIn, runOf, over, leaves, refusesPool, refusedBy, batchOf, BatchLeft, takenIn, AreLeft, Batches}
 use Rattle.batch.specs.Calls.{callEach, joined}
 use Rattle.batch.proofs.Continues.{as-far}
 use Rattle.batch.proofs.Promised.{answerFrom}
+use Rattle.batch.proofs.Runs.{row-fits, unrefused-kind}
 use Rattle.ledger.specs.Rows.{newestRow, itsKind, itsLength, itsMessage, RowsDue}
 use Rattle.ledger.specs.Runs.{State, sayingOf, afterCall, call, callsOf, kindOfNumber, saidInRows, afterBatch}
 use Rattle.ledger.specs.Assemblers.{AllOk, none, more, receives}
@@ -42,6 +46,7 @@ use Rattle.ledger.specs.Assemblers.{AllOk, none, more, receives}
 pub kind-back : (k : Kind) → kindOfNumber (kindNumber k) ≡ k
 unfolding kindOfNumber kindNumber pick
 kind-back ImpossiblePool = refl
+kind-back TooWide = refl
 kind-back NotListed = refl
 kind-back Rejected = refl
 kind-back PoolFull = refl
@@ -172,17 +177,17 @@ module _ (R : Rules) (l : List ℕ) (w : Rows) where
 
 -- ---- the frames that a batch takes
 
--- each has eight bytes, where the row of bytes is long enough
-rows-ok : (l : List ℕ) (w : Rows) → ((i : ℕ) → getD (w .bytes) i 0 < 256) → (n i : ℕ) → (i + n) * 8 ≤ length (w .bytes) → AllOk (callsOf l w n i)
+-- each has eight bytes, where the row of bytes is long enough, and no part
+rows-ok : (kind : PoolKind) (mode : Mode) → kind ≡ Original → (l : List ℕ) (w : Rows) → ((i : ℕ) → getD (w .bytes) i 0 < 256) → (n i : ℕ) → (i + n) * 8 ≤ length (w .bytes) → AllOk (rulesBy kind mode) (callsOf l w n i)
 unfolding callsOf frameInRows
-rows-ok l w small zero i h = none
-rows-ok l w small (suc n) i h =
+rows-ok kind mode own l w small zero i h = none
+rows-ok kind mode own l w small (suc n) i h =
     let ok : CallOk (call l (frameInRows w i)) =
     record {
       eight = length-take-le 8 (drop (i * 8) (w .bytes)) (simp length-drop (omega arith));
       byte = rw (getD-take 8 (drop (i * 8) (w .bytes)) 0 0 (omega arith), getD-drop (i * 8) (w .bytes) 0 0) (small (i * 8 + 0));
     } in
-    more ok (rows-ok l w small n (suc i) (omega arith))
+    more ok (row-fits kind mode own l w i (frameInRows w i) refl) (rows-ok kind mode own l w small n (suc i) (omega arith))
 
 long-enough : (n pgns sources bytes kinds lengths : ℕ) → tooShort n pgns sources bytes kinds lengths ≡ false → n * 8 ≤ bytes
 unfolding tooShort
@@ -191,7 +196,7 @@ long-enough n pgns sources bytes kinds lengths e = ltb-false bytes (n * 8) (or-l
 -- under the rules of the pool that they begin with, which no call changes
 pub record Taken (z y : State) (cs : List Call) : Type 0 where
   pub is : y ≡ receives (receiveOf (rulesOf (z .pool))) z cs
-  pub oks : AllOk cs
+  pub oks : AllOk (rulesOf (z .pool)) cs
 
 -- ... and what the rows of a batch then hold
 abbrev RowsAfter : State → BatchLeft → List ℕ → List ℕ → List ℕ → Type 0
@@ -208,10 +213,10 @@ module _ (l : List ℕ) (w : Rows) (z : State) (kinds lengths arena : List ℕ) 
   unfolding after answerFrom takenIn refusedBy afterBatch callsOf receives saidInRows newestRow over
   good-refused n = (record { is = refl; oks = none }, record { told = refl; measured = refl; delivered = refl })
 
-  good-run : tooShort (length (w .times)) (length (w .pgns)) (length (w .sources)) (length (w .bytes)) (length kinds) (length lengths) ≡ false
+  good-run : z .pool .kind ≡ Original → tooShort (length (w .times)) (length (w .pgns)) (length (w .sources)) (length (w .bytes)) (length kinds) (length lengths) ≡ false
       → Good (leaves (runOf (rulesOf (z .pool)) l w (length arena) (z .pool) (z .counters)) kinds lengths arena)
-  unfolding after answerFrom takenIn leaves afterBatch over
-  good-run e =
+  unfolding after answerFrom takenIn leaves afterBatch over rulesOf
+  good-run own e =
       let y : rows.Run = runOf (rulesOf (z .pool)) l w (length arena) (z .pool) (z .counters) in
       let t : ℕ = length (y .kinds) in
       let far = as-far (rulesOf (z .pool)) l w (length arena) (z .pool) (z .counters) in
@@ -221,7 +226,7 @@ module _ (l : List ℕ) (w : Rows) (z : State) (kinds lengths arena : List ℕ) 
       let zero-add : 0 + t ≡ t = omega arith in (
         record {
           is = subst (λ (x : rows.Run). record { pool = x .pool; counters = x .counters; said = saidInRows t (x .kinds ++ drop t kinds) (x .lengths ++ drop (length (y .lengths)) lengths) (x .messages ++ drop (length (y .messages)) arena) (z .said) } ≡ receives (receiveOf (rulesOf (z .pool))) z (callsOf l w t 0)) (sym (far .same)) same;
-          oks = rows-ok l w small t 0 (omega (arith, long, far .few));
+          oks = rows-ok (z .pool .kind) (z .pool .mode) own l w small t 0 (omega (arith, long, far .few));
         },
         record {
           told = ap (λ (new : List ℕ). new ++ drop (length new) kinds) (ap (λ (x : rows.Run). x .kinds) (far .same) ∙ rw zero-add at held .kinds);
@@ -232,13 +237,13 @@ module _ (l : List ℕ) (w : Rows) (z : State) (kinds lengths arena : List ℕ) 
 
   good-batch : Good (batchOf (rulesOf (z .pool)) l w (z .pool) (z .counters) kinds lengths arena)
   unfolding batchOf pick
-  good-batch = go (impossible (rulesOf (z .pool)) (slotsOf (z .pool))) (tooShort (length (w .times)) (length (w .pgns)) (length (w .sources)) (length (w .bytes)) (length kinds) (length lengths)) refl
+  good-batch = go (refusesPool (rulesOf (z .pool)) (z .pool)) refl (tooShort (length (w .times)) (length (w .pgns)) (length (w .sources)) (length (w .bytes)) (length kinds) (length lengths)) refl
     where
-      go : (a b : Bool) → tooShort (length (w .times)) (length (w .pgns)) (length (w .sources)) (length (w .bytes)) (length kinds) (length lengths) ≡ b
+      go : (a : Bool) → refusesPool (rulesOf (z .pool)) (z .pool) ≡ a → (b : Bool) → tooShort (length (w .times)) (length (w .pgns)) (length (w .sources)) (length (w .bytes)) (length kinds) (length lengths) ≡ b
           → Good (pick a (refusedBy 1 (z .pool) (z .counters) kinds lengths arena) (pick b (refusedBy 27 (z .pool) (z .counters) kinds lengths arena) (leaves (runOf (rulesOf (z .pool)) l w (length arena) (z .pool) (z .counters)) kinds lengths arena)))
-      go true b e = good-refused 1
-      go false true e = good-refused 27
-      go false false e = good-run e
+      go true f b e = good-refused 1
+      go false f true e = good-refused 27
+      go false f false e = good-run (unrefused-kind (rulesOf (z .pool)) (z .pool) f) e
 
 -- a batch that keeps its promise
 module _ {l times pgns sources bytes : List ℕ} (z : State) {kinds lengths arena : List ℕ} {r : Batch} {kinds′ lengths′ arena′ : List ℕ} (small : (i : ℕ) → getD bytes i 0 < 256)

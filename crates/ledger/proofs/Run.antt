@@ -1,6 +1,6 @@
 -- A run of the steps from slots that are idle agrees with the ledger of its calls, call by call.
 -- Assumes nothing.
-use mathlib.Core.Bool.{false}
+use mathlib.Core.Bool.{true, false}
 use mathlib.Core.List.{List, [], _∷_, map}
 use mathlib.Core.Path.{_≡_, refl, ap, _∙_}
 use Prim.Native.Nat.{ℕ, suc, _+_, _≤_, _<_}
@@ -16,7 +16,7 @@ use Rattle.session.specs.declared.Head.{Head}
 use Rattle.session.specs.declared.Counters.{Counters}
 use Rattle.session.specs.Rules.{Rules}
 use Rattle.session.specs.Counting.{freshCounters, most, raise, raised}
-use Rattle.assembler.specs.Call.{Call, CallOk}
+use Rattle.assembler.specs.Call.{Call, CallOk, partFits}
 use Rattle.assembler.specs.Slots.{Slot, Slots, within, impossible}
 use Rattle.assembler.specs.Step as act
 use Rattle.assembler.specs.Step.{eventOf, slotsAfter, outcome, stepIf, step}
@@ -85,7 +85,7 @@ pub never-impossible : (R : Rules) (w : World) (L : Ledger) → Follows R w L �
 unfolding impossible
 never-impossible R w L h = rw (le-ltb (R .limit) (w .pool .size) (h .size)) (all-possible R (h .shows))
 
-module _ (R : Rules) (w : World) (L : Ledger) (c : Call) (ok : CallOk c) (h : Follows R w L) where
+module _ (R : Rules) (w : World) (L : Ledger) (c : Call) (ok : CallOk c) (fits : partFits R c ≡ true) (h : Follows R w L) where
   told : Told
   told = tellOne R (numbered L) (L .places) c
 
@@ -94,7 +94,7 @@ module _ (R : Rules) (w : World) (L : Ledger) (c : Call) (ok : CallOk c) (h : Fo
 
   matched : Match R c (within (w .pool)) told happened
   unfolding told happened
-  matched = match R (numbered L) c ok (h .shows)
+  matched = match R (numbered L) c ok fits (h .shows)
 
   slots-length : length (slotsAfter (c .heard) (within (w .pool)) happened) ≡ w .pool .size
   slots-length = matched .kept ∙ length-take-le (w .pool .size) (w .pool .slots) (h .enough)
@@ -125,13 +125,13 @@ pub numbered-tell : (R : Rules) (L : Ledger) (c : Call) → numbered (tell (tell
 unfolding numbered tell written
 numbered-tell R L c = refl
 
-follows-calls : (R : Rules) (w : World) (L : Ledger) {cs : List Call} → AllOk cs → Follows R w L → numbered L + length cs ≤ most → Follows R (callAll (step R) w cs) (tells (tellOne R) L cs)
+follows-calls : (R : Rules) (w : World) (L : Ledger) {cs : List Call} → AllOk R cs → Follows R w L → numbered L + length cs ≤ most → Follows R (callAll (step R) w cs) (tells (tellOne R) L cs)
 unfolding callAll tells
 follows-calls R w L none h l = h
-follows-calls R w L (more {c} {cs} ok oks) h l =
-    follows-calls R (callOne (step R) w c) (tell (tellOne R) L c) oks (follows-call R w L c ok h (omega arith)) (omega (arith, numbered-tell R L c))
+follows-calls R w L (more {c} {cs} ok fits oks) h l =
+    follows-calls R (callOne (step R) w c) (tell (tellOne R) L c) oks (follows-call R w L c ok fits h (omega arith)) (omega (arith, numbered-tell R L c))
 
-pub follows : (R : Rules) (p : Slots) (kept : List ℕ) → Follows R (begun p) (blank kept) → {cs : List Call} → AllOk cs → length cs ≤ most → Follows R (callAll (step R) (begun p) cs) (ledgerOf R kept cs)
+pub follows : (R : Rules) (p : Slots) (kept : List ℕ) → Follows R (begun p) (blank kept) → {cs : List Call} → AllOk R cs → length cs ≤ most → Follows R (callAll (step R) (begun p) cs) (ledgerOf R kept cs)
 unfolding ledgerOf
 follows R p kept f oks l = follows-calls R (begun p) (blank kept) oks f (unfold numbered blank in omega arith)
 

@@ -19,7 +19,8 @@ use Rattle.session.specs.declared.Head.{Head}
 use Rattle.session.specs.declared.Heard.{Heard}
 use Rattle.session.specs.declared.Counters.{Counters}
 use Rattle.session.specs.declared.Mode.the-variants.{AsOriginal, SetBackIsSilence}
-use Rattle.session.specs.Rules.{Rules, silence, silentBy, rulesBy, base}
+use Rattle.session.specs.declared.PoolKind.{PoolKind}
+use Rattle.session.specs.Rules.{Rules, silence, silentBy, rulesBy}
 use Rattle.session.specs.Frames.{indexOf, sizeOf, isEmpty, badFirst}
 use Rattle.session.specs.Heads.{freshHead, hasKey, isSilent, isFree, isFreeOfSource, hasLiveKey, isExpired}
 use Rattle.session.specs.Counting.{expiredMark}
@@ -37,7 +38,6 @@ use Rattle.ledger.specs.Runs.{State, Ran, call, sayingOf, afterCall}
 use Rattle.ledger.specs.Assemblers.{receives}
 use Rattle.ledger.specs.SetBack.{headIn, Half, PassesBy, AllPassBy, none, more, ComesTo, itsKey, onlyRoom, BeginsBefore, Reclaims, SetBack}
 use Rattle.ledger.proofs.Admission.{opener-tests}
-use Rattle.ledger.proofs.Demand2.{original-rules}
 use Rattle.ledger.proofs.Demand3.{ran-taken}
 
 -- ---- an event that takes another slot spares this one
@@ -107,7 +107,7 @@ module _ (R : Rules) (pgns : List ℕ) (f : Heard) (p : Pool) (k : Counters) (i 
 
   -- by whether the pool is impossible
   abbrev leaves : Bool → Pool
-  leaves b = poolOf (p .mode) (stepIf b R (slotsOf p) k (call pgns f) .pool)
+  leaves b = poolOf (p .kind) (p .mode) (stepIf b R (slotsOf p) k (call pgns f) .pool)
 
   size-left : (b : Bool) → leaves b .size ≡ p .size
   unfolding poolOf stepIf slotsOf outcome
@@ -149,54 +149,64 @@ module _ (R : Rules) (pgns : List ℕ) (f : Heard) (p : Pool) (k : Counters) (i 
 
 -- ---- as the original: a half message that calls pass by is held
 
-module _ (h : Head) (busy : h .«in_progress» ≡ true) (c : Call) (by : PassesBy h c) where
-  not-its : hasKey base (c .heard) h ≡ false
-  unfolding hasKey base rulesBy
+module _ (d : PoolKind) (h : Head) (busy : h .«in_progress» ≡ true) (c : Call) (by : PassesBy h c) where
+  abbrev S : Rules
+  S = rulesBy d AsOriginal
+
+  not-its : hasKey S (c .heard) h ≡ false
+  unfolding hasKey rulesBy
   not-its = ap (λ (b : Bool). h .«in_progress» && b) (by .other) ∙ and-false (h .«in_progress»)
 
-  not-silent : isSilent base (c .heard) h ≡ false
-  unfolding isSilent base rulesBy silentBy silence
+  not-silent : isSilent S (c .heard) h ≡ false
+  unfolding isSilent rulesBy silentBy silence
   not-silent = le-ltb 500 (c .heard .«now_ms» - h .«last_seen_ms») (omega (arith, by .reading))
 
-  not-free : isFree base (c .heard) h ≡ false
+  not-free : isFree S (c .heard) h ≡ false
   unfolding isFree
-  not-free = ap (λ (b : Bool). not b || isSilent base (c .heard) h) busy ∙ not-silent
+  not-free = ap (λ (b : Bool). not b || isSilent S (c .heard) h) busy ∙ not-silent
 
-  not-own : isFreeOfSource base (c .heard) h ≡ false
+  not-own : isFreeOfSource S (c .heard) h ≡ false
   unfolding isFreeOfSource
   not-own = ap (λ (b : Bool). b && eqb (h .«source_address») (c .heard .«source_address»)) not-free
 
-  not-live : hasLiveKey base (c .heard) h ≡ false
+  not-live : hasLiveKey S (c .heard) h ≡ false
   unfolding hasLiveKey
-  not-live = ap (λ (b : Bool). b && not (isSilent base (c .heard) h)) not-its
+  not-live = ap (λ (b : Bool). b && not (isSilent S (c .heard) h)) not-its
 
-module _ (i : ℕ) (h : Head) where
-  held-one : (p : Pool) (k : Counters) (c : Call) → Half p i h → PassesBy h c → Half (receiveOf base (c .pgns) (c .heard) p k .pool) i h
+module _ (d : PoolKind) (i : ℕ) (h : Head) where
+  abbrev asOld : Rules
+  asOld = rulesBy d AsOriginal
+
+  held-one : (p : Pool) (k : Counters) (c : Call) → Half p i h → PassesBy h c → Half (receiveOf asOld (c .pgns) (c .heard) p k .pool) i h
   held-one p k c half by =
       let f = c .heard in
       let low = half .within in
       let there = half .there in
       let busy = half .busy in
-      let b = impossible base (slotsOf p) in
+      let b = impossible asOld (slotsOf p) in
       let at : (t : Head → Bool) → t h ≡ false → t (headIn p i) ≡ false = λ t failed. ap t (half .here) ∙ failed in
-      let first = first-elsewhere base (c .pgns) f p k i low there (at (hasKey base f) (not-its h busy c by)) (at (isFreeOfSource base f) (not-own h busy c by)) (at (isFree base f) (not-free h busy c by)) in
-      let next = next-elsewhere base (c .pgns) f p k i low there (at (hasLiveKey base f) (not-live h busy c by)) in
-      subst (λ (q : Pool). Half q i h) (sym (left-is base (c .pgns) f p k i low there))
+      let first = first-elsewhere asOld (c .pgns) f p k i low there (at (hasKey asOld f) (not-its d h busy c by)) (at (isFreeOfSource asOld f) (not-own d h busy c by)) (at (isFree asOld f) (not-free d h busy c by)) in
+      let next = next-elsewhere asOld (c .pgns) f p k i low there (at (hasLiveKey asOld f) (not-live d h busy c by)) in
+      subst (λ (q : Pool). Half q i h) (sym (left-is asOld (c .pgns) f p k i low there))
       (record {
-        within = omega (arith, low, size-left base (c .pgns) f p k i low there b);
-        there = omega (arith, there, long-left base (c .pgns) f p k i low there b);
-        here = spared-left base (c .pgns) f p k i low there (spares f _ i base (c .pgns) first next) b ∙ half .here;
+        within = omega (arith, low, size-left asOld (c .pgns) f p k i low there b);
+        there = omega (arith, there, long-left asOld (c .pgns) f p k i low there b);
+        here = spared-left asOld (c .pgns) f p k i low there (spares f _ i asOld (c .pgns) first next) b ∙ half .here;
         busy = busy;
       })
 
-  held-all : (z : State) {cs : List Call} → Half (z .pool) i h → AllPassBy h cs → Half (receives (receiveOf base) z cs .pool) i h
+  held-all : (z : State) {cs : List Call} → Half (z .pool) i h → AllPassBy h cs → Half (receives (receiveOf asOld) z cs .pool) i h
   unfolding receives afterCall
   held-all z half none = half
   held-all z half (more {c} {cs} by rest) =
-      held-all (afterCall z (receiveOf base (c .pgns) (c .heard) (z .pool) (z .counters))) (held-one (z .pool) (z .counters) c half by) rest
+      held-all (afterCall z (receiveOf asOld (c .pgns) (c .heard) (z .pool) (z .counters))) (held-one (z .pool) (z .counters) c half by) rest
+
+old-rules : (p : Pool) → p .mode ≡ AsOriginal → rulesOf p ≡ rulesBy (p .kind) AsOriginal
+unfolding rulesOf
+old-rules p old = rw old
 
 held : {z y : State} {cs : List Call} {i : ℕ} {h : Head} → z .pool .mode ≡ AsOriginal → Half (z .pool) i h → Ran z cs y → AllPassBy h cs → Half (y .pool) i h
-held {z} {y} {cs} {i} {h} old half ran by = rw (ran-taken ran .is, original-rules (z .pool) old) (held-all i h z half by)
+held {z} {y} {cs} {i} {h} old half ran by = rw (ran-taken ran .is, old-rules (z .pool) old) (held-all (z .pool .kind) i h z half by)
 
 -- ---- a clock set back is silence: the next first frame that comes to the half message reclaims it
 
@@ -299,11 +309,11 @@ module _ (z : State) (c : Call) (i : ℕ) (h : Head) (half : Half (z .pool) i h)
       )
 
   -- the call, by its event
-  called : (e : Event) → impossible R (slotsOf p) ≡ false → eventOf R ss c ≡ e → receiveOf R pgns f p k ≡ shown (p .mode) (outcome f e (slotsOf p) k)
+  called : (e : Event) → impossible R (slotsOf p) ≡ false → eventOf R ss c ≡ e → receiveOf R pgns f p k ≡ shown (p .kind) (p .mode) (outcome f e (slotsOf p) k)
   unfolding receiveOf step
-  called e fine is = rw fine (unfold stepIf slotsOf in ap (λ (x : Event). shown (p .mode) (outcome f x (slotsOf p) k)) is)
+  called e fine is = rw fine (unfold stepIf slotsOf in ap (λ (x : Event). shown (p .kind) (p .mode) (outcome f x (slotsOf p) k)) is)
 
-  opens-here : Reclaims c i z (afterCall z (shown (p .mode) (outcome f (opened i true) (slotsOf p) k)))
+  opens-here : Reclaims c i z (afterCall z (shown (p .kind) (p .mode) (outcome f (opened i true) (slotsOf p) k)))
   unfolding afterCall sayingOf briefly shown outcome poolOf slotsOf replyKind replyPayload replyLength saidOf markOf expiredMark
   opens-here =
       record {

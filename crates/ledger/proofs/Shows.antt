@@ -15,7 +15,7 @@ use Rattle.session.specs.Frames.{sequenceOf, indexOf, sizeOf, firstBytes, nextB
 use Rattle.base.proofs.Bools.{and-left}
 use Rattle.session.proofs.Cuts.{sent-part, next-sent}
 use Rattle.session.specs.Heads.{headKey, impossibleHead, hasKey, isSilent, isFree, isFreeOfSource, hasLiveKey, inTurn, cutNext, isNext, openedHead, resetHead, wanted, copiedHead, allThere}
-use Rattle.assembler.specs.Call.{Call, CallOk}
+use Rattle.assembler.specs.Call.{Call, CallOk, partFits}
 use Rattle.assembler.specs.Slots.{Slot, openedSlot, resetSlot, copiedSlot}
 use Rattle.ledger.specs.Ledger.{Message, newMessage, grown, latestOf, framesBytes, ownBytes, announced, Place, idle, holds, keyHeld, late, free, sourceAt, freeOfSource, liveHeld, left, full, itsTurn, lacks, awaited}
 
@@ -46,6 +46,8 @@ module _ (R : Rules) where
     pub low : 7 ≤ announced m
     pub high : announced m ≤ maxPayload
     pub missing : 6 + 7 * length (m .later) < announced m
+    -- and its part is one that its PGN allows
+    pub fits : R .allowed (s .head .pgn) (s .head .part) ≡ true
 
   abbrev pub Shows : Place → Slot → Type 0
   Shows (idle from) s = IdleSlot from s
@@ -91,13 +93,14 @@ module _ (R : Rules) where
 
   -- ---- a slot that shows a place is possible
 
-  pub possible : (p : Place) (s : Slot) → Shows p s → impossibleHead (s .head) ≡ false
+  pub possible : (p : Place) (s : Slot) → Shows p s → impossibleHead R (s .head) ≡ false
   unfolding impossibleHead
   possible (idle from) s h = rw (h .busy)
   possible (holds m) s h =
       let q : s .head .«current_size» ≡ 6 + 7 * s .head .«last_frame_index» = omega (arith, h .current, h .index) in
       rw (
         h .busy,
+        h .fits,
         le-ltb 7 (s .head .«sequence_id») (h .sequence),
         le-ltb (s .head .«expected_size») 7 (omega (arith, h .expected, h .low)),
         le-ltb maxPayload (s .head .«expected_size») (omega (arith, h .expected, h .high)),
@@ -119,10 +122,10 @@ module _ (R : Rules) where
   unfolding nextBytes
   next-length c ok = simp length-drop (rw (ok .eight))
 
-  pub opened-shows : (n : ℕ) (c : Call) (s : Slot) → CallOk c → 7 ≤ sizeOf (c .heard) → sizeOf (c .heard) ≤ maxPayload → 8 ≤ c .heard .length → length (s .buffer) ≡ maxPayload
+  pub opened-shows : (n : ℕ) (c : Call) (s : Slot) → CallOk c → partFits R c ≡ true → 7 ≤ sizeOf (c .heard) → sizeOf (c .heard) ≤ maxPayload → 8 ≤ c .heard .length → length (s .buffer) ≡ maxPayload
       → Shows (holds (newMessage n c)) (openedSlot (c .heard) s)
   unfolding newMessage openedSlot openedHead headKey keyOf announced latestOf ownBytes framesBytes sequenceOf
-  opened-shows n c s ok low high all r =
+  opened-shows n c s ok fits low high all r =
       record {
         busy = refl;
         key = refl;
@@ -136,6 +139,7 @@ module _ (R : Rules) where
         low = low;
         high = high;
         missing = omega arith;
+        fits = fits;
       }
 
   -- a continuation that the message waits for
@@ -226,6 +230,7 @@ module _ (R : Rules) where
             low = h .low;
             high = h .high;
             missing = more-missing e;
+            fits = h .fits;
           }
 
       -- what is delivered is the own frames' bytes, cut at the announced size

@@ -15,6 +15,7 @@ use Rattle.base.specs.Lists.{total}
 use Rattle.base.proofs.Paired.{All2, nil, cons}
 use Rattle.session.specs.declared.Head.{Head}
 use Rattle.session.specs.declared.Mode.{Mode}
+use Rattle.session.specs.declared.PoolKind.{PoolKind}
 use Rattle.session.specs.Rules.{Rules, poolLimit}
 use Rattle.session.specs.Heads.{freshHead}
 use Rattle.assembler.specs.declared.Pool.{Pool}
@@ -58,19 +59,19 @@ all-idle zero m = refl
 all-idle (suc n) zero = refl
 all-idle (suc n) (suc m) = omega (arith, all-idle n m)
 
-pub fresh-empty : (mode : Mode) (n : ℕ) → n ≤ poolLimit → Empty (freshPoolIn mode n)
+pub fresh-empty : (kind : PoolKind) (mode : Mode) (n : ℕ) → n ≤ poolLimit → Empty (freshPoolIn kind mode n)
 unfolding freshPoolIn
-fresh-empty mode n h = record { size = h; idle = all-idle n poolLimit; heads = length-replicate poolLimit freshHead; bytes = length-replicate {A = ℕ} poolBytes 0 }
+fresh-empty kind mode n h = record { size = h; idle = all-idle n poolLimit; heads = length-replicate poolLimit freshHead; bytes = length-replicate {A = ℕ} poolBytes 0 }
 
-made-by : (mode : Mode) (b : Bool) (n : ℕ) → ltb poolLimit n ≡ b → Empty (poolMade mode (pick b (refuses 1 []) (gives n)))
+made-by : (kind : PoolKind) (mode : Mode) (b : Bool) (n : ℕ) → ltb poolLimit n ≡ b → Empty (poolMade kind mode (pick b (refuses 1 []) (gives n)))
 unfolding poolMade pick
-made-by mode true n e = fresh-empty mode 0 (omega arith)
-made-by mode false n e = fresh-empty mode n (ltb-false poolLimit n e)
+made-by kind mode true n e = fresh-empty kind mode 0 (omega arith)
+made-by kind mode false n e = fresh-empty kind mode n (ltb-false poolLimit n e)
 
--- whatever mode and size is asked for
-pub made-empty : (mode : Mode) (n : ℕ) → Empty (poolMade mode (sizeMade n))
+-- whatever kind, mode and size is asked for
+pub made-empty : (kind : PoolKind) (mode : Mode) (n : ℕ) → Empty (poolMade kind mode (sizeMade n))
 unfolding sizeMade
-made-empty mode n = made-by mode (ltb poolLimit n) n refl
+made-empty kind mode n = made-by kind mode (ltb poolLimit n) n refl
 
 -- ---- fresh slots, at every limit
 

@@ -13,14 +13,18 @@ use Rattle.session.specs.declared.Kind.{Kind}
 use Rattle.session.specs.declared.Kind.the-variants as kind
 use Rattle.session.specs.declared.Mark.the-variants.{Lost}
 use Rattle.session.specs.declared.Mode.the-variants.{AsOriginal}
-use Rattle.session.specs.Rules.{base}
+use Rattle.session.specs.declared.PoolKind.the-variants as pools
+use Rattle.session.specs.Rules.{base, original}
 use Rattle.session.specs.Heads.{openedHead, copiedHead}
 use Rattle.session.specs.Counting.{freshCounters}
 use Rattle.assembler.specs.declared.Received.{Received}
 use Rattle.assembler.specs.Call.{Call}
 use Rattle.assembler.specs.Slots.{Slot, within, resetSlot}
 use Rattle.assembler.specs.Making.{freshPoolIn, freshPool}
-use Rattle.assembler.specs.View.{slotsOf, replyBy, replyOf, receiveOf}
+use Rattle.assembler.specs.OldKind.{hasPart, anyHead}
+use Rattle.assembler.proofs.OldKind.{old-kind}
+use Rattle.assembler.proofs.Views.{Made}
+use Rattle.assembler.specs.View.{slotsOf, shown, replyBy, replyOf, receiveOf}
 use Rattle.ledger.specs.Demand2.{originalEvent, continuedAt, neededCut, Answered, Ignored, FragmentConsumed, MessageComplete, whole, answerOf, Original, happens, originalIf, originalOf, asIgnored, readReply, asOriginal}
 use Rattle.ledger.specs.Assemblers.{Receive, Demand2, AlwaysIgnores, OneKind, NeverStores}
 use Rattle.ledger.proofs.Demand2.{none-cut, call-as}
@@ -36,7 +40,10 @@ first f c = f (c .pgns) (c .heard) (freshPool 4) freshCounters
 
 pub meets-demand-2 : Demand2 (receiveOf base)
 unfolding Demand2
-meets-demand-2 pgns heard pool counters old whole = call-as base pgns heard pool counters old whole
+meets-demand-2 pgns heard pool counters own old bare plain whole =
+    let stays : receiveOf base pgns heard pool counters ≡ receiveOf original pgns heard pool counters =
+    unfold receiveOf base original in ap (shown (pool .kind) (pool .mode)) (old-kind AsOriginal .steps-stay (slotsOf pool) counters (record { pgns = pgns; heard = heard }) bare plain) in
+    ap asOriginal stays ∙ call-as original pgns heard pool counters own old whole
 
 -- ---- one fixed kind of answer
 
@@ -48,7 +55,7 @@ isMessage (gives (MessageComplete bytes n)) = true
 
 -- what document 01's steps give there
 abbrev firstly : Call → Original
-firstly c = originalOf base (c .pgns) (c .heard) (freshPool 4) freshCounters
+firstly c = originalOf original (c .pgns) (c .heard) (freshPool 4) freshCounters
 
 -- 00 06 and six bytes are a message; 00 00 is ignored
 six-completes : isMessage (firstly (announces 6 0 35) .answer) ≡ true
@@ -63,6 +70,7 @@ nothing-completes = refl
 by-kind : (k : Kind) (payload : List ℕ) (length : ℕ) → isMessage (readReply (replyBy k payload length)) ≡ completes k
 unfolding isMessage readReply asIgnored replyBy completes
 by-kind kind.ImpossiblePool payload length = refl
+by-kind kind.TooWide payload length = refl
 by-kind kind.NotListed payload length = refl
 by-kind kind.Rejected payload length = refl
 by-kind kind.PoolFull payload length = refl
@@ -72,24 +80,32 @@ by-kind kind.MessageComplete payload length = refl
 
 -- no byte that the call needs was cut
 abbrev Whole : Call → Type 0
-Whole c = neededCut base (within (slotsOf (freshPool 4))) (record { pgns = c .pgns; heard = c .heard }) ≡ false
+Whole c = neededCut original (within (slotsOf (freshPool 4))) (record { pgns = c .pgns; heard = c .heard }) ≡ false
 
 announces-whole : (n : ℕ) → Whole (announces n 0 35)
-announces-whole n = none-cut base (within (slotsOf (freshPool 4))) (announces n 0 35) (unfold announces frame in refl)
+announces-whole n = none-cut original (within (slotsOf (freshPool 4))) (announces n 0 35) (unfold announces frame in refl)
+
+announces-bare : (n : ℕ) → announces n 0 35 .heard .part ≡ 0
+unfolding announces frame
+announces-bare n = refl
+
+fresh-bare : anyHead hasPart (slotsOf (freshPool 4)) ≡ false
+unfolding ran hasPart anyHead
+fresh-bare = refl
 
 module _ (f : Receive) (meets : Demand2 f) where
-  as-steps : (c : Call) → Whole c → asOriginal (first f c) ≡ firstly c
+  as-steps : (c : Call) → c .heard .part ≡ 0 → Whole c → asOriginal (first f c) ≡ firstly c
   unfolding Demand2
-  as-steps c whole = meets (c .pgns) (c .heard) (freshPool 4) freshCounters (unfold freshPoolIn freshPool in refl) whole
+  as-steps c bare whole = meets (c .pgns) (c .heard) (freshPool 4) freshCounters (unfold freshPoolIn freshPool in refl) (unfold freshPoolIn freshPool in refl) fresh-bare bare whole
 
-  answers-as : (c : Call) → Whole c → readReply (replyOf (first f c)) ≡ firstly c .answer
-  answers-as c whole = unfold asOriginal in ap (λ (o : Original). o .answer) (as-steps c whole)
+  answers-as : (c : Call) → c .heard .part ≡ 0 → Whole c → readReply (replyOf (first f c)) ≡ firstly c .answer
+  answers-as c bare whole = unfold asOriginal in ap (λ (o : Original). o .answer) (as-steps c bare whole)
 
   -- the two frames are not answered alike
   not-alike : (b : Bool) → ((c : Call) → isMessage (readReply (replyOf (first f c))) ≡ b) → ⊥
   not-alike b same =
-      let six : b ≡ true = sym (same (announces 6 0 35)) ∙ ap isMessage (answers-as (announces 6 0 35) (announces-whole 6)) ∙ six-completes in
-      let nothing : b ≡ false = sym (same (announces 0 0 35)) ∙ ap isMessage (answers-as (announces 0 0 35) (announces-whole 0)) ∙ nothing-completes in
+      let six : b ≡ true = sym (same (announces 6 0 35)) ∙ ap isMessage (answers-as (announces 6 0 35) (announces-bare 6) (announces-whole 6)) ∙ six-completes in
+      let nothing : b ≡ false = sym (same (announces 0 0 35)) ∙ ap isMessage (answers-as (announces 0 0 35) (announces-bare 0) (announces-whole 0)) ∙ nothing-completes in
       true≢false (sym six ∙ nothing)
 
   pub rejects-always-ignored : AlwaysIgnores f → ⊥
@@ -126,7 +142,7 @@ rejects-never-stores f meets never =
     let c : Call = announces 7 0 35 in
     let kept : first f c .pool .bytes ≡ freshPool 4 .bytes = never (c .pgns) (c .heard) (freshPool 4) freshCounters in
     let byte : (getD (first f c .pool .bytes) 0 0 ≡ getD (freshPool 4 .bytes) 0 0) = ap (λ (l : List ℕ). getD l 0 0) kept in
-    let stored : getD (first f c .pool .bytes) 0 0 ≡ getD (firstly c .pool .bytes) 0 0 = unfold asOriginal in ap (λ (o : Original). getD (o .pool .bytes) 0 0) (as-steps f meets c (announces-whole 7)) in
+    let stored : getD (first f c .pool .bytes) 0 0 ≡ getD (firstly c .pool .bytes) 0 0 = unfold asOriginal in ap (λ (o : Original). getD (o .pool .bytes) 0 0) (as-steps f meets c (announces-bare 7) (announces-whole 7)) in
     omega (arith, stored, byte, seven-stores, fresh-byte)
 
 -- the receive call that only lacks the stores: it gives another message on P10's frames
@@ -156,18 +172,22 @@ nothing-says : lastOf (readReply (replyOf (by storesNothing (goes-on 1 1 35 .pgn
 unfolding ran announces goes-on frame by stepBy outcomeBy slotsBy markBy saidBy untouched storesNothing halfway replyOf replyBy readReply asIgnored lastOf
 nothing-says = refl
 
-steps-say : lastOf (originalOf base (goes-on 1 1 35 .pgns) (goes-on 1 1 35 .heard) (halfway .pool) (halfway .counters) .answer) ≡ 7
+steps-say : lastOf (originalOf original (goes-on 1 1 35 .pgns) (goes-on 1 1 35 .heard) (halfway .pool) (halfway .counters) .answer) ≡ 7
 unfolding ran announces goes-on frame by stepBy outcomeBy slotsBy markBy saidBy untouched storesNothing halfway originalOf originalIf originalEvent continuedAt happens answerOf whole lastOf
 steps-say = refl
 
-halfway-old : halfway .pool .mode ≡ AsOriginal
+halfway-made : Made pools.Original AsOriginal (halfway .pool)
 unfolding ran announces frame by stepBy outcomeBy halfway
-halfway-old = refl
+halfway-made = record { of-kind = refl; in-mode = refl }
+
+halfway-bare : anyHead hasPart (slotsOf (halfway .pool)) ≡ false
+unfolding ran announces frame by stepBy outcomeBy slotsBy storesNothing halfway hasPart anyHead
+halfway-bare = refl
 
 pub rejects-stores-nothing : Demand2 (by storesNothing) → ⊥
 unfolding Demand2
 rejects-stores-nothing meets =
     let c : Call = goes-on 1 1 35 in
-    let same : lastOf (readReply (replyOf (by storesNothing (c .pgns) (c .heard) (halfway .pool) (halfway .counters)))) ≡ lastOf (originalOf base (c .pgns) (c .heard) (halfway .pool) (halfway .counters) .answer) =
-    unfold asOriginal in ap (λ (o : Original). lastOf (o .answer)) (meets (c .pgns) (c .heard) (halfway .pool) (halfway .counters) halfway-old (none-cut base (within (slotsOf (halfway .pool))) c (unfold goes-on frame in refl))) in
+    let same : lastOf (readReply (replyOf (by storesNothing (c .pgns) (c .heard) (halfway .pool) (halfway .counters)))) ≡ lastOf (originalOf original (c .pgns) (c .heard) (halfway .pool) (halfway .counters) .answer) =
+    unfold asOriginal in ap (λ (o : Original). lastOf (o .answer)) (meets (c .pgns) (c .heard) (halfway .pool) (halfway .counters) (halfway-made .of-kind) (halfway-made .in-mode) halfway-bare (unfold goes-on frame in refl) (none-cut original (within (slotsOf (halfway .pool))) c (unfold goes-on frame in refl))) in
     omega (arith, same, nothing-says, steps-say)

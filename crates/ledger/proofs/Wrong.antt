@@ -33,6 +33,7 @@ use Rattle.ledger.proofs.Parts.{Parts, wholeOf, untouched, slotsBy, mar
 
 unfoldable pub completes : Kind → Bool
 completes kind.ImpossiblePool = false
+completes kind.TooWide = false
 completes kind.NotListed = false
 completes kind.Rejected = false
 completes kind.PoolFull = false
@@ -53,13 +54,14 @@ marker =
       «sequence_id» = 0;
       «last_frame_index» = 0;
       pgn = 0;
+      part = 0;
       «expected_size» = 0;
       «current_size» = 0;
       «last_seen_ms» = 0;
     }
 
 unfoldable pub marked : Bool → Received → Received
-marked true a = record { kind = a .kind; payload = a .payload; length = a .length; pool = record { mode = a .pool .mode; size = a .pool .size; heads = set (a .pool .heads) 7 marker; bytes = a .pool .bytes }; counters = a .counters }
+marked true a = record { kind = a .kind; payload = a .payload; length = a .length; pool = record { kind = a .pool .kind; mode = a .pool .mode; size = a .pool .size; heads = set (a .pool .heads) 7 marker; bytes = a .pool .bytes }; counters = a .counters }
 marked false a = a
 
 unfoldable pub isMarked : Pool → Bool

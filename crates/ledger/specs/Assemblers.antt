@@ -1,5 +1,5 @@
 -- What theorems beside demand 3 speak of: any assembler by value, with what demands 2 and 3 ask of it; and the steps over slots.
-use mathlib.Core.Bool.{false}
+use mathlib.Core.Bool.{true, false}
 use mathlib.Core.List.{List, [], _∷_, map}
 use mathlib.Core.Path.{_≡_}
 use Prim.Native.Nat.{ℕ, _≤_}
@@ -9,11 +9,13 @@ use Rattle.session.specs.declared.Heard.{Heard}
 use Rattle.session.specs.declared.Counters.{Counters}
 use Rattle.session.specs.declared.Kind.{Kind}
 use Rattle.session.specs.declared.Mode.the-variants.{AsOriginal}
-use Rattle.session.specs.Rules.{Rules, base}
+use Rattle.session.specs.declared.PoolKind.the-variants.{Original}
+use Rattle.session.specs.Rules.{Rules, original}
 use Rattle.assembler.specs.declared.Pool.{Pool}
 use Rattle.assembler.specs.declared.Received.{Received}
-use Rattle.assembler.specs.Call.{Call, CallOk}
+use Rattle.assembler.specs.Call.{Call, CallOk, partFits}
 use Rattle.assembler.specs.Slots.{within}
+use Rattle.assembler.specs.OldKind.{hasPart, anyHead}
 use Rattle.assembler.specs.Step.{Reply}
 use Rattle.assembler.specs.Runs.{Assembler, World, freshWorld, callAll}
 use Rattle.assembler.specs.View.{slotsOf, headOf, replyKind, replyPayload, replyLength, replyOf}
@@ -29,11 +31,11 @@ Receive = List ℕ → Heard → Pool → Counters → Received
 -- ---- demand 2, and the assemblers that document 01 says must not pass it: "an assembler that always says Ignored, or one fixed answer (demand 2, on a six-byte
 -- message); one that never stores a fragment (2, on seven bytes)"
 
--- its answer, with the four names of document 02's No. 2 read as Ignored, its pool and its counters are those of document 01's steps, at every pool in the
--- original's mode and every frame of which no byte that is needed was cut
+-- its answer, with the four names of document 02's No. 2 read as Ignored, its pool and its counters are those of document 01's steps, at every pool of the
+-- original's kind, in the original's mode and with no part in a slot in progress, and every frame without a part of which no byte that is needed was cut
 unfoldable pub Demand2 : Receive → Type 0
-Demand2 f = (pgns : List ℕ) (heard : Heard) (pool : Pool) (counters : Counters) → pool .mode ≡ AsOriginal → neededCut base (within (slotsOf pool)) (record { pgns = pgns; heard = heard }) ≡ false
-    → asOriginal (f pgns heard pool counters) ≡ originalOf base pgns heard pool counters
+Demand2 f = (pgns : List ℕ) (heard : Heard) (pool : Pool) (counters : Counters) → pool .kind ≡ Original → pool .mode ≡ AsOriginal → anyHead hasPart (slotsOf pool) ≡ false → heard .part ≡ 0
+    → neededCut original (within (slotsOf pool)) (record { pgns = pgns; heard = heard }) ≡ false → asOriginal (f pgns heard pool counters) ≡ originalOf original pgns heard pool counters
 
 -- it says Ignored, by whichever of the four names, whatever it hears
 unfoldable pub AlwaysIgnores : Receive → Type 0
@@ -57,14 +59,14 @@ receives f z (c ∷ cs) = receives f (afterCall z (f (c .pgns) (c .heard) (z .po
 unfoldable pub seenAfter : Receive → Pool → List Call → Seen
 seenAfter f p cs = seenIn (receives f (start p) cs)
 
--- each call is given eight bytes
-pub data AllOk : List Call → Type 0 where
-  none : AllOk []
-  more : {c : Call} {cs : List Call} → CallOk c → AllOk cs → AllOk (c ∷ cs)
+-- each call is given eight bytes, and a part that its PGN allows
+pub data AllOk (R : Rules) : List Call → Type 0 where
+  none : AllOk R []
+  more : {c : Call} {cs : List Call} → CallOk c → partFits R c ≡ true → AllOk R cs → AllOk R (c ∷ cs)
 
 -- what is seen after each run, from slots that are idle and keep these sources, agrees with the ledger
 unfoldable pub Demand3 : Rules → List ℕ → (List Call → Seen) → Type 0
-Demand3 R kept seen = (cs : List Call) → AllOk cs → length cs ≤ 4294967295 → Closes R (seen cs) (ledgerOf R kept cs)
+Demand3 R kept seen = (cs : List Call) → AllOk R cs → length cs ≤ 4294967295 → Closes R (seen cs) (ledgerOf R kept cs)
 
 -- ---- the steps over slots, at any limit
 

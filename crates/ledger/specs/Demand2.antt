@@ -1,5 +1,5 @@
--- Demand 2 after document 02's No. 2, "Demand 2 then reads the four as Ignored", its No. 5, of frames of which no byte that is needed was cut, and its No. 10,
--- "Demand 2's equality with the Rust speaks of the old mode alone".
+-- Demand 2 after document 02's No. 2, "Demand 2 then reads the four as Ignored", its No. 5, of frames of which no byte that is needed was cut, its No. 10,
+-- "Demand 2's equality with the Rust speaks of the old mode alone", and its No. 12, "demand 2's equality with the Rust speaks of the old kind".
 -- Document 01's own steps and answers, which are the original's, stand here for that reading alone; no contract cites this file.
 use mathlib.Core.Bool.{Bool, true, false, not, _&&_}
 use mathlib.Core.List.{List, [], _++_}
@@ -12,6 +12,7 @@ use Rattle.base.specs.Pick.{pick}
 use Rattle.session.specs.declared.Heard.{Heard}
 use Rattle.session.specs.declared.Counters.{Counters}
 use Rattle.session.specs.declared.Mode.the-variants.{AsOriginal}
+use Rattle.session.specs.declared.PoolKind.the-variants as kind
 use Rattle.session.specs.Rules.{Rules}
 use Rattle.session.specs.Frames.{indexOf, sizeOf, badSize, firstBytes, isEmpty, cutFirst}
 use Rattle.session.specs.Heads.{inTurn, cutNext, copiedHead, allThere}
@@ -75,18 +76,18 @@ pub record Original : Type 0 where
   pub pool : Pool
   pub counters : Counters
 
--- steps 2 to 4 by their event, on the slots within the size; those past it are kept; the original knows one mode
+-- steps 2 to 4 by their event, on the slots within the size; those past it are kept; the original knows one kind and one mode
 unfoldable pub happens : Event → Heard → Slots → Counters → Original
 happens e f p k =
     record {
       answer = gives (answerOf f (within p) e);
-      pool = poolOf AsOriginal (record { slots = slotsAfter f (within p) e ++ drop (p .size) (p .slots); size = p .size });
+      pool = poolOf kind.Original AsOriginal (record { slots = slotsAfter f (within p) e ++ drop (p .size) (p .slots); size = p .size });
       counters = raised (markOf e) k;
     }
 
 -- step 1 comes first: "the pool comes back unchanged with 1"
 unfoldable pub originalIf : Bool → Rules → Slots → Counters → Call → Original
-originalIf true R p k c = record { answer = refuses 1 []; pool = poolOf AsOriginal p; counters = k }
+originalIf true R p k c = record { answer = refuses 1 []; pool = poolOf kind.Original AsOriginal p; counters = k }
 originalIf false R p k c = happens (originalEvent R (within p) c) (c .heard) p k
 
 unfoldable pub originalOf : Rules → List ℕ → Heard → Pool → Counters → Original

@@ -10,7 +10,10 @@ use Rattle.builder.specs.Frames.{Turn}
 use Rattle.session.specs.declared.Counters.{Counters}
 use Rattle.session.specs.declared.Heard.{Heard}
 use Rattle.session.specs.declared.Kind.{Kind}
-use Rattle.assembler.specs.Promises.{rulesOf, outcomeOn, Answers}
+use Rattle.session.specs.declared.PoolKind.{PoolKind}
+use Rattle.session.specs.declared.PoolKind.the-variants.{Original, Addressed}
+use Rattle.assembler.specs.Promises.{rulesOf, entered, resultOf, resultOn, Answers}
+use Rattle.assembler.proofs.Entries.{Known, frame, wide, other, known-entered, known-by-id, known-by-id-with-length}
 use Rattle.assembler.specs.View.{slotsOf, replyBy}
 use Rattle.assembler.specs.declared.Pool.{Pool}
 use Rattle.numbers.specs.Frames.{nextCode, builderFrom}
@@ -35,10 +38,15 @@ by-step : {s t : Step} → s ≡ t → OtherStep t → OtherStep s
 by-step e h = by (ap (λ (s : Step). nextCode (s .kind)) e) h
 
 -- an answer of the receive call
-by-reply : (pgns : List ℕ) (f : Heard) (p : Pool) (k : Counters) {kind : Kind} {payload : List ℕ} {n : ℕ} {left : Pool}
-    → Answers (p .mode) (outcomeOn pgns f p k) kind payload n left → Other (replyBy kind payload n)
-unfolding outcomeOn
-by-reply pgns f p k h = by-answer (h .told) (step-other (rulesOf p) (slotsOf p) k (record { pgns = pgns; heard = f }))
+result-other : (pgns : List ℕ) {a : Answer Heard} (p : Pool) (k : Counters) → Known a → Other (resultOn pgns a p k .reply)
+unfolding resultOn resultOf
+result-other pgns p k (frame f) = step-other (rulesOf p) (slotsOf p) k (record { pgns = pgns; heard = f })
+result-other pgns p k wide = omega arith
+result-other pgns p k other = omega arith
+
+by-reply : (pgns : List ℕ) (entry : PoolKind) (p : Pool) (k : Counters) {a : Answer Heard} → Known a → {kind : Kind} {payload : List ℕ} {n : ℕ} {left : Pool}
+    → Answers (resultOn pgns (entered entry p a) p k) kind payload n left → Other (replyBy kind payload n)
+by-reply pgns entry p k known h = by-answer (h .told) (result-other pgns p k (known-entered entry p known))
 
 -- a row of kinds that is equal to one without it, up to an equal count
 by-row : {m n : ℕ} {row row′ : List ℕ} → m ≡ n → row ≡ row′ → NoneIsThree n row′ → NoneIsThree m row
@@ -54,13 +62,20 @@ no-three =
       frame-iterator-next = λ t payload r h. by-step (ap (λ (x : Turn). x .answer) h) (next-other (t .builder) (t .«frame_index») (t .«bytes_sent») payload);
       pool-new = λ wanted r h. by-answer (h .answer) (size-other wanted);
       pool-with-mode = λ mode wanted r h. by-answer (h .answer) (size-other wanted);
+      pool-with-kind = λ kind mode wanted r h. by-answer (h .answer) (size-other wanted);
       decide = λ mode bad listed found h heard r e. kind-other (r .kind);
-      receive = λ pgns a p k r h. by-reply pgns _ p k (h .answer);
-      receive-with-length = λ pgns x p k r h. by-reply pgns _ p k (h .answer);
-      process-frame = λ pgns a p before after r h. by-reply pgns _ p before (h .answer);
-      process-frame-with-length = λ pgns x p before after r h. by-reply pgns _ p before (h .answer);
-      process-frame-through = λ pgns a p k r h. by-reply pgns _ p k (h .answer);
-      process-frame-with-length-through = λ pgns x p k r h. by-reply pgns _ p k (h .answer);
+      receive = λ pgns a p k r h. by-reply pgns Original p k (frame _) (h .answer);
+      receive-with-length = λ pgns x p k r h. by-reply pgns Original p k (frame _) (h .answer);
+      process-frame = λ pgns a p before after r h. by-reply pgns Original p before (frame _) (h .answer);
+      process-frame-with-length = λ pgns x p before after r h. by-reply pgns Original p before (frame _) (h .answer);
+      process-frame-through = λ pgns a p k r h. by-reply pgns Original p k (frame _) (h .answer);
+      process-frame-with-length-through = λ pgns x p k r h. by-reply pgns Original p k (frame _) (h .answer);
+      receive-by-id = λ pgns a p k r h. by-reply pgns Addressed p k (known-by-id a) (h .answer);
+      receive-by-id-with-length = λ pgns x p k r h. by-reply pgns Addressed p k (known-by-id-with-length x) (h .answer);
+      process-frame-by-id = λ pgns a p before after r h. by-reply pgns Addressed p before (known-by-id a) (h .answer);
+      process-frame-by-id-with-length = λ pgns x p before after r h. by-reply pgns Addressed p before (known-by-id-with-length x) (h .answer);
+      process-frame-by-id-through = λ pgns a p k r h. by-reply pgns Addressed p k (known-by-id a) (h .answer);
+      process-frame-by-id-with-length-through = λ pgns x p k r h. by-reply pgns Addressed p k (known-by-id-with-length x) (h .answer);
       process-frames = λ list times pgns sources bytes kinds lengths arena p k r kinds′ lengths′ arena′ h. (
         by-answer (h .leaves-these .answer) (batch-other (rulesOf p) list _ p k kinds lengths arena .0),
         by-row (h .leaves-these .taken) (h .leaves-these .told) (batch-other (rulesOf p) list _ p k kinds lengths arena .1),
@@ -82,11 +97,15 @@ no-three =
       hf-raw-frame-iterator-next = λ builder payload place code after h. by (h .asked .told) (next-other _ _ _ payload);
       hf-raw-pool-new = λ wanted code before after h. by (h .told) (size-other wanted);
       hf-raw-pool-with-mode = λ wanted asked code before after h. by (h .told) (size-other _);
+      hf-raw-pool-with-kind = λ wanted asked kind code before after h. by (h .told) (size-other _);
       hf-raw-pool-default = λ code before after h. by (h .told) (omega arith);
-      hf-raw-process-frame = λ size mode code pgns a before after h. by (h .told) (kind-other _);
-      hf-raw-receive = λ size mode code pgns a before after h. by (h .told) (kind-other _);
-      hf-raw-process-frame-with-length = λ size mode code pgns x before after h. by (h .told) (kind-other _);
-      hf-raw-process-frames = λ size mode code pgns rows before after h.
+      hf-raw-process-frame = λ size mode kind code pgns a before after h. by (h .told) (kind-other _);
+      hf-raw-receive = λ size mode kind code pgns a before after h. by (h .told) (kind-other _);
+      hf-raw-process-frame-with-length = λ size mode kind code pgns x before after h. by (h .told) (kind-other _);
+      hf-raw-process-frame-by-id = λ size mode kind code pgns a before after h. by (h .told) (kind-other _);
+      hf-raw-receive-by-id = λ size mode kind code pgns a before after h. by (h .told) (kind-other _);
+      hf-raw-process-frame-by-id-with-length = λ size mode kind code pgns x before after h. by (h .told) (kind-other _);
+      hf-raw-process-frames = λ size mode kind code pgns rows before after h.
           (by (h .told) (batch-other _ pgns rows _ _ _ _ _ .0), by-row (ap (λ (l : List ℕ). getD l 0 0) (h .taken)) (h .answered) (batch-other _ pgns rows _ _ _ _ _ .1));
       hf-reassemble = λ ids bytes lens list arena list′ arena′ values source pgn code h. by (h .answer .told) (delivered-other list arena _ source pgn);
       hf-fast-packet-frames = λ id sequence code frames payload ids bytes lens ids′ bytes′ lens′ h. by (h .told) (counted-other _ (split-other id sequence payload _));
@@ -97,7 +116,7 @@ no-three =
       told-reassembled = λ r code values h. by (h .told) (reassembled-case-other r);
       split-number = λ s code h. by h (split-case-other s);
       told-checked = λ c code values h. by (h .told) (checked-case-other c);
-      pool-asked = λ wanted asked r h. by-answer (h .answer) (size-other _);
+      pool-asked = λ wanted mode kind r h. by-answer (h .answer) (size-other _);
       leave = λ r before after code h. by (h .told) (kind-other (r .kind));
       leave-made = λ made before after code h. by (h .told) (made-other (made .result) (made .pool .size));
     }

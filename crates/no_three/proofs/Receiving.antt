@@ -10,7 +10,7 @@ use Rattle.session.specs.Rules.{Rules}
 use Rattle.session.specs.Kinds.{kindNumber}
 use Rattle.session.specs.declared.Counters.{Counters}
 use Rattle.session.specs.declared.Kind.{Kind}
-use Rattle.session.specs.declared.Kind.the-variants.{ImpossiblePool, NotListed, Rejected, PoolFull, Lost, FragmentConsumed, MessageComplete}
+use Rattle.session.specs.declared.Kind.the-variants.{ImpossiblePool, TooWide, NotListed, Rejected, PoolFull, Lost, FragmentConsumed, MessageComplete}
 use Rattle.assembler.specs.Call.{Call}
 use Rattle.assembler.specs.Making.{sizeMade, ofMade}
 use Rattle.assembler.specs.Slots.{Slots, impossible}
@@ -36,6 +36,7 @@ made-other made.ImpossiblePool size = omega arith
 pub kind-other : (k : Kind) → NotThree (kindNumber k)
 unfolding kindNumber
 kind-other ImpossiblePool = omega arith
+kind-other TooWide = omega arith
 kind-other NotListed = omega arith
 kind-other Rejected = omega arith
 kind-other PoolFull = omega arith

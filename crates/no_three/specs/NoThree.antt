@@ -19,20 +19,23 @@ use Rattle.builder.specs.declared.FastPacketBuilder.{FastPacketBuilder}
 use Rattle.builder.specs.declared.FrameIterator.{FrameIterator}
 use Rattle.builder.specs.declared.Next.{Next}
 use Rattle.builder.specs.declared.Item.{Item}
-use Rattle.session.specs.Rules.{rulesBy}
+use Rattle.session.specs.Rules.{silentBy}
 use Rattle.session.specs.Kinds.{kindNumber}
 use Rattle.session.specs.inner.Plan.{planOf}
 use Rattle.session.specs.declared.Counters.{Counters}
 use Rattle.session.specs.declared.Head.{Head}
 use Rattle.session.specs.declared.Heard.{Heard}
 use Rattle.session.specs.declared.Mode.{Mode}
+use Rattle.session.specs.declared.PoolKind.{PoolKind}
 use Rattle.session.specs.declared.Plan.{Plan}
-use Rattle.assembler.specs.Making.{ofMade, MakesPoolIn, MakesPool}
+use Rattle.assembler.specs.Making.{ofMade, MakesPoolOf, MakesPoolIn, MakesPool}
 use Rattle.assembler.specs.View.{replyBy}
-use Rattle.assembler.specs.Promises.{Receives, ReceivesWithLength, Processes, ProcessesWithLength}
+use Rattle.assembler.specs.Promises.{Receives, ReceivesWithLength, ReceivesById, ReceivesByIdWithLength, Processes, ProcessesWithLength, ProcessesById, ProcessesByIdWithLength}
 use Rattle.assembler.specs.declared.Pool.{Pool}
 use Rattle.assembler.specs.declared.MadePool.{MadePool}
 use Rattle.assembler.specs.declared.Arrival.{Arrival}
+use Rattle.assembler.specs.declared.ArrivalById.{ArrivalById}
+use Rattle.assembler.specs.declared.ArrivalByIdWithLength.{ArrivalByIdWithLength}
 use Rattle.assembler.specs.declared.ArrivalWithLength.{ArrivalWithLength}
 use Rattle.assembler.specs.declared.Received.{Received}
 use Rattle.assembler.specs.declared.Processed.{Processed}
@@ -53,7 +56,7 @@ use Rattle.numbers.specs.Frames.{nextCode, NextLeft}
 use Rattle.numbers.specs.Pool.{CallMemory, CallLeft, PoolMemory, MadePoolLeft, MakesPoolAsked}
 use Rattle.ffi.specs.Ids.{IdRead, PartsBuilt, SetBuilt, BothBuilt}
 use Rattle.ffi.specs.Frames.{FrameMemory, NextFrameLeft, TurnLeft}
-use Rattle.ffi.specs.Calls.{NewPoolLeft, PoolWithModeLeft, DefaultPoolLeft, FrameLeft, FrameWithLengthLeft}
+use Rattle.ffi.specs.Calls.{NewPoolLeft, PoolWithModeLeft, PoolWithKindLeft, DefaultPoolLeft, FrameLeft, FrameWithLengthLeft, FrameByIdLeft, FrameByIdWithLengthLeft}
 use Rattle.ffi.specs.Batches.{BatchMemory, FramesLeft}
 use Rattle.ffi.specs.BenchEntries.{ReassemblesInNumbers, SplitsInNumbers, ChecksTxInNumbers}
 
@@ -75,7 +78,8 @@ pub record NoThree : Type 0 where
   -- ---- pools and the receive call
   pub pool-new : (wanted : ℕ) (r : MadePool) → MakesPool wanted r → NotThree (codeOf (ofMade (r .result) (r .pool .size)))
   pub pool-with-mode : (mode : Mode) (wanted : ℕ) (r : MadePool) → MakesPoolIn mode wanted r → NotThree (codeOf (ofMade (r .result) (r .pool .size)))
-  pub decide : (mode : Mode) (bad listed found : Bool) (h : Head) (heard : Heard) (r : Plan) → r ≡ planOf bad listed found (rulesBy mode) heard h → NotThree (kindNumber (r .kind))
+  pub pool-with-kind : (kind : PoolKind) (mode : Mode) (wanted : ℕ) (r : MadePool) → MakesPoolOf kind mode wanted r → NotThree (codeOf (ofMade (r .result) (r .pool .size)))
+  pub decide : (mode : Mode) (bad listed found : Bool) (h : Head) (heard : Heard) (r : Plan) → r ≡ planOf bad listed found (silentBy mode) heard h → NotThree (kindNumber (r .kind))
   pub receive : (pgns : List ℕ) (a : Arrival) (p : Pool) (k : Counters) (r : Received)
       → Receives pgns a p k r → NotThree (codeOf (replyBy (r .kind) (r .payload) (r .length)))
   pub receive-with-length : (pgns : List ℕ) (x : ArrivalWithLength) (p : Pool) (k : Counters) (r : Received)
@@ -88,6 +92,18 @@ pub record NoThree : Type 0 where
       → Receives pgns a p k r → NotThree (codeOf (replyBy (r .kind) (r .payload) (r .length)))
   pub process-frame-with-length-through : (pgns : List ℕ) (x : ArrivalWithLength) (p : Pool) (k : Counters) (r : Received)
       → ReceivesWithLength pgns x p k r → NotThree (codeOf (replyBy (r .kind) (r .payload) (r .length)))
+  pub receive-by-id : (pgns : List ℕ) (a : ArrivalById) (p : Pool) (k : Counters) (r : Received)
+      → ReceivesById pgns a p k r → NotThree (codeOf (replyBy (r .kind) (r .payload) (r .length)))
+  pub receive-by-id-with-length : (pgns : List ℕ) (x : ArrivalByIdWithLength) (p : Pool) (k : Counters) (r : Received)
+      → ReceivesByIdWithLength pgns x p k r → NotThree (codeOf (replyBy (r .kind) (r .payload) (r .length)))
+  pub process-frame-by-id : (pgns : List ℕ) (a : ArrivalById) (p : Pool) (before after : Counters) (r : Processed)
+      → ProcessesById pgns a p before r after → NotThree (codeOf (replyBy (r .kind) (r .payload) (r .length)))
+  pub process-frame-by-id-with-length : (pgns : List ℕ) (x : ArrivalByIdWithLength) (p : Pool) (before after : Counters) (r : Processed)
+      → ProcessesByIdWithLength pgns x p before r after → NotThree (codeOf (replyBy (r .kind) (r .payload) (r .length)))
+  pub process-frame-by-id-through : (pgns : List ℕ) (a : ArrivalById) (p : Pool) (k : Counters) (r : Received)
+      → ReceivesById pgns a p k r → NotThree (codeOf (replyBy (r .kind) (r .payload) (r .length)))
+  pub process-frame-by-id-with-length-through : (pgns : List ℕ) (x : ArrivalByIdWithLength) (p : Pool) (k : Counters) (r : Received)
+      → ReceivesByIdWithLength pgns x p k r → NotThree (codeOf (replyBy (r .kind) (r .payload) (r .length)))
   -- the answer, and each kind that is written into the row
   pub process-frames : (list times pgns sources bytes kinds lengths arena : List ℕ) (p : Pool) (k : Counters) (r : Batch) (kinds′ lengths′ arena′ : List ℕ)
       → Batches list times pgns sources bytes p k kinds lengths arena r kinds′ lengths′ arena′
@@ -119,14 +135,19 @@ pub record NoThree : Type 0 where
   pub hf-raw-frame-iterator-next : (builder payload place : List ℕ) (code : ℕ) (after : FrameMemory) → TurnLeft builder payload place code after → NotThree code
   pub hf-raw-pool-new : (wanted code : ℕ) (before after : PoolMemory) → NewPoolLeft wanted before code after → NotThree code
   pub hf-raw-pool-with-mode : (wanted asked code : ℕ) (before after : PoolMemory) → PoolWithModeLeft wanted asked before code after → NotThree code
+  pub hf-raw-pool-with-kind : (wanted asked kind code : ℕ) (before after : PoolMemory) → PoolWithKindLeft wanted asked kind before code after → NotThree code
   pub hf-raw-pool-default : (code : ℕ) (before after : PoolMemory) → DefaultPoolLeft before code after → NotThree code
-  pub hf-raw-process-frame : (size mode code : ℕ) (pgns : List ℕ) (a : Arrival) (before after : CallMemory) → FrameLeft size mode pgns a before code after → NotThree code
-  pub hf-raw-receive : (size mode code : ℕ) (pgns : List ℕ) (a : Arrival) (before after : CallMemory) → FrameLeft size mode pgns a before code after → NotThree code
-  pub hf-raw-process-frame-with-length : (size mode code : ℕ) (pgns : List ℕ) (x : ArrivalWithLength) (before after : CallMemory)
-      → FrameWithLengthLeft size mode pgns x before code after → NotThree code
+  pub hf-raw-process-frame : (size mode kind code : ℕ) (pgns : List ℕ) (a : Arrival) (before after : CallMemory) → FrameLeft size mode kind pgns a before code after → NotThree code
+  pub hf-raw-receive : (size mode kind code : ℕ) (pgns : List ℕ) (a : Arrival) (before after : CallMemory) → FrameLeft size mode kind pgns a before code after → NotThree code
+  pub hf-raw-process-frame-with-length : (size mode kind code : ℕ) (pgns : List ℕ) (x : ArrivalWithLength) (before after : CallMemory)
+      → FrameWithLengthLeft size mode kind pgns x before code after → NotThree code
+  pub hf-raw-process-frame-by-id : (size mode kind code : ℕ) (pgns : List ℕ) (a : ArrivalById) (before after : CallMemory) → FrameByIdLeft size mode kind pgns a before code after → NotThree code
+  pub hf-raw-receive-by-id : (size mode kind code : ℕ) (pgns : List ℕ) (a : ArrivalById) (before after : CallMemory) → FrameByIdLeft size mode kind pgns a before code after → NotThree code
+  pub hf-raw-process-frame-by-id-with-length : (size mode kind code : ℕ) (pgns : List ℕ) (x : ArrivalByIdWithLength) (before after : CallMemory)
+      → FrameByIdWithLengthLeft size mode kind pgns x before code after → NotThree code
   -- and each kind that is written into the row, of which the first of the counts says how many
-  pub hf-raw-process-frames : (size mode code : ℕ) (pgns : List ℕ) (rows : Rows) (before after : BatchMemory)
-      → FramesLeft size mode pgns rows before code after → NotThree code × NoneIsThree (getD (after .counts) 0 0) (after .kinds)
+  pub hf-raw-process-frames : (size mode kind code : ℕ) (pgns : List ℕ) (rows : Rows) (before after : BatchMemory)
+      → FramesLeft size mode kind pgns rows before code after → NotThree code × NoneIsThree (getD (after .counts) 0 0) (after .kinds)
   pub hf-reassemble : (ids bytes lens list arena list′ arena′ values : List ℕ) (source pgn code : ℕ)
       → ReassemblesInNumbers ids bytes lens source pgn list arena code list′ arena′ values → NotThree code
   pub hf-fast-packet-frames : (id sequence code frames : ℕ) (payload ids bytes lens ids′ bytes′ lens′ : List ℕ)
@@ -140,7 +161,7 @@ pub record NoThree : Type 0 where
   pub told-reassembled : (r : Reassembled) (code : ℕ) (values : List ℕ) → ToldInFive (ofReassembled r) code values → NotThree code
   pub split-number : (s : Split) (code : ℕ) → code ≡ codeOf (ofSplit s) → NotThree code
   pub told-checked : (c : Checked) (code : ℕ) (values : List ℕ) → ToldInFive (ofChecked c) code values → NotThree code
-  pub pool-asked : (wanted asked : ℕ) (r : MadePool) → MakesPoolAsked wanted asked r → NotThree (codeOf (ofMade (r .result) (r .pool .size)))
+  pub pool-asked : (wanted mode kind : ℕ) (r : MadePool) → MakesPoolAsked wanted mode kind r → NotThree (codeOf (ofMade (r .result) (r .pool .size)))
   pub leave : (r : Received) (before after : CallMemory) (code : ℕ) → CallLeft r before code after → NotThree code
   pub leave-made : (made : MadePool) (before after : PoolMemory) (code : ℕ) → MadePoolLeft made before code after → NotThree code
 

@@ -11,12 +11,14 @@ use Rattle.base.specs.Pick.{pick}
 use Rattle.base.proofs.Cases.{when-eq, when-ne, same?}
 use Rattle.session.specs.declared.Head.{Head}
 use Rattle.session.specs.declared.Mode.{Mode}
+use Rattle.session.specs.declared.PoolKind.{PoolKind}
+use Rattle.session.specs.declared.PoolKind.the-variants.{Original, Addressed}
 use Rattle.session.specs.declared.Mode.the-variants.{AsOriginal, SetBackIsSilence}
 use Rattle.session.specs.Rules.{poolLimit}
 use Rattle.session.specs.Heads.{freshHead}
 use Rattle.assembler.specs.declared.Pool.{Pool}
 use Rattle.numbers.specs.Numbers.{isSet, laidOn}
-use Rattle.numbers.specs.Pool.{headAt, headOver, headsTo, headsFrom, laidTo, laidOver, modeNumber, modeFrom, sizeUnder, poolFrom}
+use Rattle.numbers.specs.Pool.{headNumbers, poolKindNumber, poolKindFrom, headAt, headOver, headsTo, headsFrom, laidTo, laidOver, modeNumber, modeFrom, sizeUnder, poolFrom}
 use Rattle.numbers.proofs.Sets.{sets-away, sets-at}
 
 -- ---- one number
@@ -38,12 +40,18 @@ word-back old x h =
     same? (old % 0x1_0000_0000) x (λ e. ap (λ (k : ℕ). k % 0x1_0000_0000) (sym (when-eq old x e refl)) ∙ e)
     (λ e. ap (λ (k : ℕ). k % 0x1_0000_0000) (sym (when-ne old x e refl)) ∙ omega arith)
 
+half-back : (old x : ℕ) → x < 0x1_0000 → laidOn old (old % 0x1_0000) x % 0x1_0000 ≡ x
+unfolding laidOn
+half-back old x h =
+    same? (old % 0x1_0000) x (λ e. ap (λ (k : ℕ). k % 0x1_0000) (sym (when-eq old x e refl)) ∙ e) (λ e. ap (λ (k : ℕ). k % 0x1_0000) (sym (when-ne old x e refl)) ∙ omega arith)
+
 -- ---- a head
 pub record Fits (h : Head) : Type 0 where
   pub source : h .«source_address» < 256
   pub sequence : h .«sequence_id» < 256
   pub index : h .«last_frame_index» < 256
   pub pgn : h .pgn < 0x1_0000_0000
+  pub part : h .part < 0x1_0000
 
 module _ (n : List ℕ) (at : ℕ) (h : Head) where
   abbrev after : List ℕ
@@ -53,26 +61,27 @@ module _ (n : List ℕ) (at : ℕ) (h : Head) where
   first l from = ap (λ (i : ℕ). getD l i 0) (sym (add-zero from))
 
   -- it is read back
-  pub head-back : at + 8 ≤ length n → Fits h → headAt after at ≡ h
+  pub head-back : at + headNumbers ≤ length n → Fits h → headAt after at ≡ h
   unfolding headAt headOver
   head-back long fits =
-      let there : (k : ℕ) → k < 8 → getD after (at + k) 0 ≡ getD (headOver n at h) k 0 = λ k l. sets-at (headOver n at h) n at k 0 l long in
+      let there : (k : ℕ) → k < headNumbers → getD after (at + k) 0 ≡ getD (headOver n at h) k 0 = λ k l. sets-at (headOver n at h) n at k 0 l long in
       rw (
         ap isSet (first after at ∙ there 0 (omega arith)) ∙ flag-by (isSet (getD n at 0)) (h .«in_progress») (getD n at 0) refl,
         ap (λ (y : ℕ). y % 0x100) (there 1 (omega arith)) ∙ byte-back (getD n (at + 1) 0) (h .«source_address») (fits .source),
         ap (λ (y : ℕ). y % 0x100) (there 2 (omega arith)) ∙ byte-back (getD n (at + 2) 0) (h .«sequence_id») (fits .sequence),
         ap (λ (y : ℕ). y % 0x100) (there 3 (omega arith)) ∙ byte-back (getD n (at + 3) 0) (h .«last_frame_index») (fits .index),
         ap (λ (y : ℕ). y % 0x1_0000_0000) (there 4 (omega arith)) ∙ word-back (getD n (at + 4) 0) (h .pgn) (fits .pgn),
-        there 5 (omega arith),
+        ap (λ (y : ℕ). y % 0x1_0000) (there 5 (omega arith)) ∙ half-back (getD n (at + 5) 0) (h .part) (fits .part),
         there 6 (omega arith),
         there 7 (omega arith),
+        there 8 (omega arith),
       ) refl
 
   -- another is as it was
-  pub head-other : (from : ℕ) → ((j k : ℕ) → j < 8 → k < 8 → from + j ≡ at + k → ⊥) → headAt after from ≡ headAt n from
+  pub head-other : (from : ℕ) → ((j k : ℕ) → j < headNumbers → k < headNumbers → from + j ≡ at + k → ⊥) → headAt after from ≡ headAt n from
   unfolding headAt headOver
   head-other from f =
-      let same : (j : ℕ) → j < 8 → getD after (from + j) 0 ≡ getD n (from + j) 0 = λ j l. sets-away (headOver n at h) n at (from + j) 0 (λ k m. f j k l m) in
+      let same : (j : ℕ) → j < headNumbers → getD after (from + j) 0 ≡ getD n (from + j) 0 = λ j l. sets-away (headOver n at h) n at (from + j) 0 (λ k m. f j k l m) in
       rw (
         first after from ∙ same 0 (omega arith) ∙ sym (first n from),
         same 1 (omega arith),
@@ -82,6 +91,7 @@ module _ (n : List ℕ) (at : ℕ) (h : Head) where
         same 5 (omega arith),
         same 6 (omega arith),
         same 7 (omega arith),
+        same 8 (omega arith),
       ) refl
 
 -- ---- all heads
@@ -89,21 +99,21 @@ module _ (n : List ℕ) (at : ℕ) (h : Head) where
 laid-long : (k : ℕ) (n : List ℕ) (heads : List Head) → length (laidTo k n heads) ≡ length n
 unfolding laidTo
 laid-long zero n heads = refl
-laid-long (suc k) n heads = length-sets (laidTo k n heads) (8 * k) (headOver (laidTo k n heads) (8 * k) (getD heads k freshHead)) ∙ laid-long k n heads
+laid-long (suc k) n heads = length-sets (laidTo k n heads) (headNumbers * k) (headOver (laidTo k n heads) (headNumbers * k) (getD heads k freshHead)) ∙ laid-long k n heads
 
-module _ (heads : List Head) (n : List ℕ) (m : ℕ) (long : length n ≡ 8 * m) (fits : (k : ℕ) → Fits (getD heads k freshHead)) where
-  last : (k : ℕ) → suc k ≤ m → headAt (laidTo (suc k) n heads) (8 * k) ≡ getD heads k freshHead
+module _ (heads : List Head) (n : List ℕ) (m : ℕ) (long : length n ≡ headNumbers * m) (fits : (k : ℕ) → Fits (getD heads k freshHead)) where
+  last : (k : ℕ) → suc k ≤ m → headAt (laidTo (suc k) n heads) (headNumbers * k) ≡ getD heads k freshHead
   unfolding laidTo
-  last k l = head-back (laidTo k n heads) (8 * k) (getD heads k freshHead) (omega (arith, laid-long k n heads, long)) (fits k)
+  last k l = head-back (laidTo k n heads) (headNumbers * k) (getD heads k freshHead) (omega (arith, laid-long k n heads, long)) (fits k)
 
-  before : (k j : ℕ) → j < k → headAt (laidTo (suc k) n heads) (8 * j) ≡ headAt (laidTo k n heads) (8 * j)
+  before : (k j : ℕ) → j < k → headAt (laidTo (suc k) n heads) (headNumbers * j) ≡ headAt (laidTo k n heads) (headNumbers * j)
   unfolding laidTo
-  before k j l = head-other (laidTo k n heads) (8 * k) (getD heads k freshHead) (8 * j) (λ i m p q e. omega arith)
+  before k j l = head-other (laidTo k n heads) (headNumbers * k) (getD heads k freshHead) (headNumbers * j) (λ i m p q e. omega arith)
 
-  back-at : (k : ℕ) → k ≤ m → (j : ℕ) → j < k → headAt (laidTo k n heads) (8 * j) ≡ getD heads j freshHead
+  back-at : (k : ℕ) → k ≤ m → (j : ℕ) → j < k → headAt (laidTo k n heads) (headNumbers * j) ≡ getD heads j freshHead
   back-at zero l j h = absurd (omega arith)
   back-at (suc k) l j h =
-      same? j k (λ e. subst (λ (i : ℕ). headAt (laidTo (suc k) n heads) (8 * i) ≡ getD heads i freshHead) (sym e) (last k l))
+      same? j k (λ e. subst (λ (i : ℕ). headAt (laidTo (suc k) n heads) (headNumbers * i) ≡ getD heads i freshHead) (sym e) (last k l))
       (λ e. before k j (omega arith) ∙ back-at k (omega arith) j (omega arith))
 
   heads-to : length heads ≡ m → (k : ℕ) → k ≤ m → headsTo k (laidTo m n heads) ≡ take k heads
@@ -113,7 +123,7 @@ module _ (heads : List Head) (n : List ℕ) (m : ℕ) (long : length n ≡ 8 * m
       rw (heads-to count k (omega arith), back-at m (omega arith) k l, take-suc heads k freshHead (omega (arith, count)))
 
 -- the theorem: heads that fit their fields, laid over any numbers, are read back, so that the next call sees the heads that this one answered
-pub read-back : (heads : List Head) (n : List ℕ) → length heads ≡ poolLimit → length n ≡ 8 * poolLimit → ((k : ℕ) → Fits (getD heads k freshHead)) → headsFrom (laidOver n heads) ≡ heads
+pub read-back : (heads : List Head) (n : List ℕ) → length heads ≡ poolLimit → length n ≡ headNumbers * poolLimit → ((k : ℕ) → Fits (getD heads k freshHead)) → headsFrom (laidOver n heads) ≡ heads
 unfolding headsFrom laidOver
 read-back heads n count long fits = heads-to heads n poolLimit long fits count poolLimit (omega arith) ∙ take-all poolLimit heads (omega (arith, count))
 
@@ -124,17 +134,25 @@ unfolding modeFrom modeNumber pick
 mode-back AsOriginal = refl
 mode-back SetBackIsSilence = refl
 
-pub size-back : (m : Mode) (size : ℕ) → sizeUnder (modeNumber m) size ≡ size
-unfolding sizeUnder modeNumber pick
-size-back AsOriginal size = refl
-size-back SetBackIsSilence size = refl
+pub kind-back : (d : PoolKind) → poolKindFrom (poolKindNumber d) ≡ d
+unfolding poolKindFrom poolKindNumber pick
+kind-back Original = refl
+kind-back Addressed = refl
 
-module _ (p : Pool) (n : List ℕ) (count : length (p .heads) ≡ poolLimit) (long : length n ≡ 8 * poolLimit) (fits : (k : ℕ) → Fits (getD (p .heads) k freshHead)) where
-  -- a pool of the size and mode that two numbers stand for is read back with these numbers, so that the next call with them sees the pool that this one answered
-  pub pool-read-back : (size mode : ℕ) → sizeUnder mode size ≡ p .size → modeFrom mode ≡ p .mode → poolFrom size mode (laidOver n (p .heads)) (p .bytes) ≡ p
+pub size-back : (m : Mode) (d : PoolKind) (size : ℕ) → sizeUnder (modeNumber m) (poolKindNumber d) size ≡ size
+unfolding sizeUnder modeNumber poolKindNumber pick
+size-back AsOriginal Original size = refl
+size-back AsOriginal Addressed size = refl
+size-back SetBackIsSilence Original size = refl
+size-back SetBackIsSilence Addressed size = refl
+
+module _ (p : Pool) (n : List ℕ) (count : length (p .heads) ≡ poolLimit) (long : length n ≡ headNumbers * poolLimit) (fits : (k : ℕ) → Fits (getD (p .heads) k freshHead)) where
+  -- a pool of the size, mode and kind that three numbers stand for is read back with these numbers, so that the next call with them sees the pool that this one
+  -- answered
+  pub pool-read-back : (size mode kind : ℕ) → sizeUnder mode kind size ≡ p .size → modeFrom mode ≡ p .mode → poolKindFrom kind ≡ p .kind → poolFrom size mode kind (laidOver n (p .heads)) (p .bytes) ≡ p
   unfolding poolFrom
-  pool-read-back size mode s m = rw (s, m, read-back (p .heads) n count long fits) refl
+  pool-read-back size mode kind s m d = rw (s, m, d, read-back (p .heads) n count long fits) refl
 
-  -- and with its size and the number of its mode, which making it leaves
-  pub made-read-back : poolFrom (p .size) (modeNumber (p .mode)) (laidOver n (p .heads)) (p .bytes) ≡ p
-  made-read-back = pool-read-back (p .size) (modeNumber (p .mode)) (size-back (p .mode) (p .size)) (mode-back (p .mode))
+  -- and with its size and the numbers of its mode and kind, which making it leaves
+  pub made-read-back : poolFrom (p .size) (modeNumber (p .mode)) (poolKindNumber (p .kind)) (laidOver n (p .heads)) (p .bytes) ≡ p
+  made-read-back = pool-read-back (p .size) (modeNumber (p .mode)) (poolKindNumber (p .kind)) (size-back (p .mode) (p .kind) (p .size)) (mode-back (p .mode)) (kind-back (p .kind))

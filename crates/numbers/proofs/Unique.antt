@@ -22,11 +22,11 @@ use Rattle.numbers.specs.Fives.{ToldInFive}
 use Rattle.session.specs.declared.Counters.{Counters}
 use Rattle.session.specs.declared.Head.{Head}
 use Rattle.assembler.specs.Making.{ofMade}
-use Rattle.assembler.proofs.Unique.{with-mode-unique}
+use Rattle.assembler.proofs.Unique.{with-kind-unique}
 use Rattle.assembler.specs.declared.MadePool.{MadePool}
 use Rattle.assembler.specs.declared.Pool.{Pool}
 use Rattle.assembler.specs.declared.Received.{Received}
-use Rattle.numbers.specs.Pool.{laidOver, modeFrom, sizeUnder, poolFrom, countersFrom, counterNumbers, CallMemory, CallLeft, PoolMemory, PoolLeft, MadePoolLeft, MakesPoolAsked}
+use Rattle.numbers.specs.Pool.{laidOver, modeFrom, poolKindFrom, sizeUnder, poolFrom, countersFrom, counterNumbers, CallMemory, CallLeft, PoolMemory, PoolLeft, MadePoolLeft, MakesPoolAsked}
 
 -- ---- numbers
 
@@ -92,11 +92,11 @@ split-count-unique x r s = determined
 
 -- ---- pools and counters
 
-pub pool-from-unique : (size mode : ℕ) (heads bytes : List ℕ) (r s : Pool) → r ≡ poolFrom size mode heads bytes → s ≡ poolFrom size mode heads bytes → r ≡ s
-pool-from-unique size mode heads bytes r s = determined
+pub pool-from-unique : (size mode kind : ℕ) (heads bytes : List ℕ) (r s : Pool) → r ≡ poolFrom size mode kind heads bytes → s ≡ poolFrom size mode kind heads bytes → r ≡ s
+pool-from-unique size mode kind heads bytes r s = determined
 
-pub pool-asked-unique : (wanted asked : ℕ) (r s : MadePool) → MakesPoolAsked wanted asked r → MakesPoolAsked wanted asked s → r ≡ s
-pool-asked-unique wanted asked = with-mode-unique (sizeUnder asked wanted) (modeFrom asked)
+pub pool-asked-unique : (wanted mode kind : ℕ) (r s : MadePool) → MakesPoolAsked wanted mode kind r → MakesPoolAsked wanted mode kind s → r ≡ s
+pool-asked-unique wanted mode kind = with-kind-unique (sizeUnder mode kind wanted) (modeFrom mode) (poolKindFrom kind)
 
 pub counters-from-unique : (n : List ℕ) (r s : Counters) → r ≡ countersFrom n → s ≡ countersFrom n → r ≡ s
 counters-from-unique n r s = determined
@@ -116,12 +116,13 @@ calls-same a b h y c p l =
     ∙ ap (λ (x : List ℕ). record { heads = b .heads; bytes = b .bytes; counters = b .counters; payload = x; length = a .length }) p
     ∙ ap (λ (x : ℕ). record { heads = b .heads; bytes = b .bytes; counters = b .counters; payload = b .payload; length = x }) l
 
-pub pools-same : (a b : PoolMemory) → a .heads ≡ b .heads → a .bytes ≡ b .bytes → a .size ≡ b .size → a .mode ≡ b .mode → a ≡ b
-pools-same a b h y l m =
-    ap (λ (x : List ℕ). record { heads = x; bytes = a .bytes; size = a .size; mode = a .mode }) h
-    ∙ ap (λ (x : List ℕ). record { heads = b .heads; bytes = x; size = a .size; mode = a .mode }) y
-    ∙ ap (λ (x : ℕ). record { heads = b .heads; bytes = b .bytes; size = x; mode = a .mode }) l
-    ∙ ap (λ (x : ℕ). record { heads = b .heads; bytes = b .bytes; size = b .size; mode = x }) m
+pub pools-same : (a b : PoolMemory) → a .heads ≡ b .heads → a .bytes ≡ b .bytes → a .size ≡ b .size → a .mode ≡ b .mode → a .kind ≡ b .kind → a ≡ b
+pools-same a b h y l m d =
+    ap (λ (x : List ℕ). record { heads = x; bytes = a .bytes; size = a .size; mode = a .mode; kind = a .kind }) h
+    ∙ ap (λ (x : List ℕ). record { heads = b .heads; bytes = x; size = a .size; mode = a .mode; kind = a .kind }) y
+    ∙ ap (λ (x : ℕ). record { heads = b .heads; bytes = b .bytes; size = x; mode = a .mode; kind = a .kind }) l
+    ∙ ap (λ (x : ℕ). record { heads = b .heads; bytes = b .bytes; size = b .size; mode = x; kind = a .kind }) m
+    ∙ ap (λ (x : ℕ). record { heads = b .heads; bytes = b .bytes; size = b .size; mode = b .mode; kind = x }) d
 
 -- what is returned, and all that was lent
 pub leave-unique : (r : Received) (before : CallMemory) (a b : ℕ) (p q : CallMemory) → CallLeft r before a p → CallLeft r before b q → (a ≡ b) × (p ≡ q)
@@ -133,7 +134,7 @@ leave-unique r before a b p q x y = (
 -- and of a pool, by what its making answered and the pool beside that
 pub pool-left-unique : (answer : Answer ℕ) (pool : Pool) (before : PoolMemory) (a b : ℕ) (p q : PoolMemory) → PoolLeft answer pool before a p → PoolLeft answer pool before b q → (a ≡ b) × (p ≡ q)
 pool-left-unique answer pool before a b p q x y =
-    (determined (x .told) (y .told), pools-same p q (determined (x .kept) (y .kept)) (determined (x .stored) (y .stored)) (determined (x .sized) (y .sized)) (determined (x .moded) (y .moded)))
+    (determined (x .told) (y .told), pools-same p q (determined (x .kept) (y .kept)) (determined (x .stored) (y .stored)) (determined (x .sized) (y .sized)) (determined (x .moded) (y .moded)) (determined (x .of-kind) (y .of-kind)))
 
 pub leave-made-unique : (m : MadePool) (before : PoolMemory) (a b : ℕ) (p q : PoolMemory) → MadePoolLeft m before a p → MadePoolLeft m before b q → (a ≡ b) × (p ≡ q)
 leave-made-unique m = pool-left-unique (ofMade (m .result) (m .pool .size)) (m .pool)

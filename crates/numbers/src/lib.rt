@@ -21,6 +21,7 @@ pub use numbers::answered;
 pub use numbers::destination_from;
 pub use numbers::told_read;
 pub use pools::HEAD_NUMBERS;
+pub use pools::POOL_NUMBERS;
 pub use pools::counter_numbers;
 pub use pools::counters_from;
 pub use pools::leave;

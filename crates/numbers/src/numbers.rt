@@ -39,6 +39,15 @@ pub(crate) fn byte_on(number: u64, x: u8) -> u64
     new
 }
 
+pub(crate) fn half_on(old: u64, x: u16) -> u64
+    ensures { λ r. ⌜ r ≡ laidOn old (old % 0x1_0000) x ⌝ }
+{
+    if (old % 0x1_0000) as u16 == x {
+        return old;
+    }
+    x as u64
+}
+
 pub(crate) fn word_on(old: u64, x: u32) -> u64
     ensures { λ r. ⌜ r ≡ laidOn old (old % 0x1_0000_0000) x ⌝ }
 {

@@ -1,14 +1,15 @@
-// A pool as its size, the number of its mode, eight numbers for each head of its slots and their bytes; the counters as five numbers; and what an answer
-// leaves in them.
+// A pool as its size, the numbers of its mode and kind, nine numbers for each head of its slots and their bytes; the counters as five numbers; and what an
+// answer leaves in them.
 ghost use mathlib.Core.Path.{_≡_};
 ghost use Prim.Native.Nat.{_+_, _*_, _<_, _≤_, _%_};
 ghost use lib.ListN.{getD};
 ghost use lib.Seq.{sets};
 ghost use Rattle.session.specs.Rules.{poolLimit};
 ghost use Rattle.session.specs.Kinds.{kindNumber};
-ghost use Rattle.numbers.specs.Pool.{headAt, headOver, headsFrom, laidOver, modeNumber, modeFrom, sizeUnder, poolFrom, countersFrom, counterNumbers, deliveredOn, CallLeft, blankHeads, MadePoolLeft, MakesPoolAsked};
+ghost use Rattle.numbers.specs.Pool.{headNumbers, headAt, headOver, headsFrom, laidOver, modeNumber, modeFrom, poolKindNumber, poolKindFrom, sizeUnder, poolFrom, countersFrom, counterNumbers, deliveredOn, CallLeft, blankHeads, MadePoolLeft, MakesPoolAsked};
 use crate::numbers::byte_on;
 use crate::numbers::flag_on;
+use crate::numbers::half_on;
 use crate::numbers::word_on;
 use assembler::Made;
 use assembler::MadePool;
@@ -27,37 +28,49 @@ use session::Mode;
 use session::NOT_LISTED;
 use session::POOL_FULL;
 use session::POOL_LIMIT;
+use session::PoolKind;
 use session::REJECTED;
+use session::TOO_WIDE;
 use session::fresh_head;
 
-// Eight numbers for each head.
-pub const HEAD_NUMBERS: usize = 8 * POOL_LIMIT;
+// How many numbers a head has.
+pub const HEAD_NUMBERS: usize = 9;
+
+// The numbers of all heads.
+pub const POOL_NUMBERS: usize = HEAD_NUMBERS * POOL_LIMIT;
 
 // ---- heads as numbers
 
-fn number_at(n: &[u64; HEAD_NUMBERS], i: usize) -> u64
-    requires { ⌜ i < 8 * poolLimit ⌝ }
+fn number_at(n: &[u64; POOL_NUMBERS], i: usize) -> u64
+    requires { ⌜ i < headNumbers * poolLimit ⌝ }
     ensures { λ r. ⌜ r ≡ getD (now (n .entry)) i 0 ⌝ }
 {
     n[i]
 }
 
-fn byte_at(n: &[u64; HEAD_NUMBERS], i: usize) -> u8
-    requires { ⌜ i < 8 * poolLimit ⌝ }
+fn byte_at(n: &[u64; POOL_NUMBERS], i: usize) -> u8
+    requires { ⌜ i < headNumbers * poolLimit ⌝ }
     ensures { λ r. ⌜ r ≡ getD (now (n .entry)) i 0 % 0x100 ⌝ }
 {
     (n[i] % 0x100) as u8
 }
 
-fn word_at(n: &[u64; HEAD_NUMBERS], i: usize) -> u32
-    requires { ⌜ i < 8 * poolLimit ⌝ }
+fn word_at(n: &[u64; POOL_NUMBERS], i: usize) -> u32
+    requires { ⌜ i < headNumbers * poolLimit ⌝ }
     ensures { λ r. ⌜ r ≡ getD (now (n .entry)) i 0 % 0x1_0000_0000 ⌝ }
 {
     (n[i] % 0x1_0000_0000) as u32
 }
 
-fn head_at(n: &[u64; HEAD_NUMBERS], at: usize) -> Head
-    requires { ⌜ at + 8 ≤ 8 * poolLimit ⌝ }
+fn half_at(n: &[u64; POOL_NUMBERS], i: usize) -> u16
+    requires { ⌜ i < headNumbers * poolLimit ⌝ }
+    ensures { λ r. ⌜ r ≡ getD (now (n .entry)) i 0 % 0x1_0000 ⌝ }
+{
+    (n[i] % 0x1_0000) as u16
+}
+
+fn head_at(n: &[u64; POOL_NUMBERS], at: usize) -> Head
+    requires { ⌜ at + headNumbers ≤ headNumbers * poolLimit ⌝ }
     ensures { λ r. ⌜ r ≡ headAt (now (n .entry)) at ⌝ }
 {
     Head {
@@ -66,27 +79,28 @@ fn head_at(n: &[u64; HEAD_NUMBERS], at: usize) -> Head
         sequence_id: byte_at(n, at + 2),
         last_frame_index: byte_at(n, at + 3),
         pgn: word_at(n, at + 4),
-        expected_size: number_at(n, at + 5) as usize,
-        current_size: number_at(n, at + 6) as usize,
-        last_seen_ms: number_at(n, at + 7),
+        part: half_at(n, at + 5),
+        expected_size: number_at(n, at + 6) as usize,
+        current_size: number_at(n, at + 7) as usize,
+        last_seen_ms: number_at(n, at + 8),
     }
 }
 
-fn heads_from(n: &[u64; HEAD_NUMBERS]) -> [Head; POOL_LIMIT]
+fn heads_from(n: &[u64; POOL_NUMBERS]) -> [Head; POOL_LIMIT]
     ensures { λ r. ⌜ r ≡ headsFrom (now (n .entry)) ⌝ }
 {
     let h = fresh_head();
     let mut heads = [h; POOL_LIMIT];
     let mut k: usize = 0;
     while k < POOL_LIMIT {
-        heads[k] = head_at(n, 8 * k);
+        heads[k] = head_at(n, HEAD_NUMBERS * k);
         k += 1;
     }
     heads
 }
 
-fn head_over(n: &[u64; HEAD_NUMBERS], at: usize, h: Head) -> [u64; 8]
-    requires { ⌜ at + 8 ≤ 8 * poolLimit ⌝ }
+fn head_over(n: &[u64; POOL_NUMBERS], at: usize, h: Head) -> [u64; HEAD_NUMBERS]
+    requires { ⌜ at + headNumbers ≤ headNumbers * poolLimit ⌝ }
     ensures { λ r. ⌜ r ≡ headOver (now (n .entry)) at h ⌝ }
 {
     [
@@ -95,31 +109,32 @@ fn head_over(n: &[u64; HEAD_NUMBERS], at: usize, h: Head) -> [u64; 8]
         byte_on(n[at + 2], h.sequence_id),
         byte_on(n[at + 3], h.last_frame_index),
         word_on(n[at + 4], h.pgn),
+        half_on(n[at + 5], h.part),
         h.expected_size as u64,
         h.current_size as u64,
         h.last_seen_ms,
     ]
 }
 
-fn put_head(n: &mut [u64; HEAD_NUMBERS], at: usize, h: Head)
-    requires { ⌜ at + 8 ≤ 8 * poolLimit ⌝ }
+fn put_head(n: &mut [u64; POOL_NUMBERS], at: usize, h: Head)
+    requires { ⌜ at + headNumbers ≤ headNumbers * poolLimit ⌝ }
     ensures { λ _. ⌜ now (n .exit) ≡ sets (now (n .entry)) at (headOver (now (n .entry)) at h) ⌝ }
 {
     let numbers = head_over(n, at, h);
     let mut k: usize = 0;
-    while k < 8 {
+    while k < HEAD_NUMBERS {
         n[at + k] = numbers[k];
         k += 1;
     }
 }
 
-pub fn put_heads(n: &mut [u64; HEAD_NUMBERS], heads: [Head; POOL_LIMIT])
+pub fn put_heads(n: &mut [u64; POOL_NUMBERS], heads: [Head; POOL_LIMIT])
     ensures { λ r. ⌜ now (n .exit) ≡ laidOver (now (n .entry)) heads ⌝ }
 {
     let mut k = 0;
     while k < POOL_LIMIT {
         let h = heads[k];
-        put_head(n, 8 * k, h);
+        put_head(n, HEAD_NUMBERS * k, h);
         k += 1;
     }
 }
@@ -144,11 +159,31 @@ fn mode_from(number: u32) -> Mode
     Mode::AsOriginal
 }
 
-// Under a number that is no mode a pool is too large, so every call refuses it.
-fn size_under(mode: u32, size: usize) -> usize
-    ensures { λ r. ⌜ r ≡ sizeUnder mode size ⌝ }
+// ---- and a kind: 0 the original's, 1 with the destination in the key
+
+fn pool_kind_number(kind: PoolKind) -> u32
+    ensures { λ r. ⌜ r ≡ poolKindNumber kind ⌝ }
 {
-    if 1 < mode {
+    match kind {
+        PoolKind::Original => 0,
+        PoolKind::Addressed => 1,
+    }
+}
+
+fn pool_kind_from(asked: u32) -> PoolKind
+    ensures { λ r. ⌜ r ≡ poolKindFrom asked ⌝ }
+{
+    if asked == 1 {
+        return PoolKind::Addressed;
+    }
+    PoolKind::Original
+}
+
+// Under a number that is no mode, or no kind, a pool is too large, so every call refuses it.
+fn size_under(mode: u32, kind: u32, size: usize) -> usize
+    ensures { λ r. ⌜ r ≡ sizeUnder mode kind size ⌝ }
+{
+    if (1 < mode) | (1 < kind) {
         return POOL_LIMIT + 1;
     }
     size
@@ -159,16 +194,18 @@ fn size_under(mode: u32, size: usize) -> usize
 pub fn pool_from(
     size: usize,
     mode: u32,
-    heads: &[u64; HEAD_NUMBERS],
+    kind: u32,
+    heads: &[u64; POOL_NUMBERS],
     bytes: &[u8; POOL_BYTES],
 ) -> Pool
-    ensures { λ r. ⌜ r ≡ poolFrom size mode (now (heads .entry)) (now (bytes .entry)) ⌝ }
+    ensures { λ r. ⌜ r ≡ poolFrom size mode kind (now (heads .entry)) (now (bytes .entry)) ⌝ }
 {
     let h = heads_from(heads);
     let b = *bytes;
     Pool {
+        kind: pool_kind_from(kind),
         mode: mode_from(mode),
-        size: size_under(mode, size),
+        size: size_under(mode, kind, size),
         heads: h,
         bytes: b,
     }
@@ -203,6 +240,7 @@ fn kind_code(kind: Kind) -> u32
 {
     match kind {
         Kind::ImpossiblePool => IMPOSSIBLE_POOL as u32,
+        Kind::TooWide => TOO_WIDE as u32,
         Kind::NotListed => NOT_LISTED as u32,
         Kind::Rejected => REJECTED as u32,
         Kind::PoolFull => POOL_FULL as u32,
@@ -225,6 +263,7 @@ fn deliver_on(
             *payload = message;
         }
         Kind::ImpossiblePool => {}
+        Kind::TooWide => {}
         Kind::NotListed => {}
         Kind::Rejected => {}
         Kind::PoolFull => {}
@@ -236,7 +275,7 @@ fn deliver_on(
 // What an answer leaves in the lent memory.
 pub fn leave(
     r: Received,
-    heads: &mut [u64; HEAD_NUMBERS],
+    heads: &mut [u64; POOL_NUMBERS],
     bytes: &mut [u8; POOL_BYTES],
     counters: &mut [u32; 5],
     payload: &mut [u8; MAX_FAST_PACKET_PAYLOAD],
@@ -262,34 +301,41 @@ pub fn leave(
 
 // ---- a pool made
 
-// The pool that is wanted, in the mode whose number is asked for; one that is no mode is refused as a size above the limit is.
-pub fn pool_asked(wanted: usize, asked: u32) -> MadePool
-    ensures { λ r. ⌜ MakesPoolAsked wanted asked r ⌝ }
+// The pool that is wanted, in the mode and of the kind whose numbers are asked for; one that is no mode or no kind is refused as a size above the limit is.
+pub fn pool_asked(wanted: usize, mode: u32, kind: u32) -> MadePool
+    ensures { λ r. ⌜ MakesPoolAsked wanted mode kind r ⌝ }
 {
-    Pool::with_mode(size_under(asked, wanted), mode_from(asked))
+    Pool::with_kind(
+        size_under(mode, kind, wanted),
+        mode_from(mode),
+        pool_kind_from(kind),
+    )
 }
 
-fn fresh_heads(heads: &mut [u64; HEAD_NUMBERS], h: [Head; POOL_LIMIT])
+fn fresh_heads(heads: &mut [u64; POOL_NUMBERS], h: [Head; POOL_LIMIT])
     ensures { λ _. ⌜ now (heads .exit) ≡ laidOver blankHeads h ⌝ }
 {
-    *heads = [0; HEAD_NUMBERS];
+    *heads = [0; POOL_NUMBERS];
     put_heads(heads, h);
 }
 
 pub fn leave_made(
     made: MadePool,
-    heads: &mut [u64; HEAD_NUMBERS],
+    heads: &mut [u64; POOL_NUMBERS],
     bytes: &mut [u8; POOL_BYTES],
     size: &mut usize,
     mode: &mut u32,
+    kind: &mut u32,
 ) -> u32
-    ensures { λ code. ⌜ MadePoolLeft made (record { heads = now (heads .entry); bytes = now (bytes .entry); size = now (size .entry); mode = now (mode .entry) })
-        code (record { heads = now (heads .exit); bytes = now (bytes .exit); size = now (size .exit); mode = now (mode .exit) }) ⌝ }
+    ensures { λ code. ⌜ MadePoolLeft made (record { heads = now (heads .entry); bytes = now (bytes .entry); size = now (size .entry); mode = now (mode .entry); kind = now (kind .entry) })
+        code (record { heads = now (heads .exit); bytes = now (bytes .exit); size = now (size .exit); mode = now (mode .exit); kind = now (kind .exit) }) ⌝ }
 {
     let pool = made.pool;
     *size = pool.size;
     let chosen = pool.mode;
     *mode = mode_number(chosen);
+    let of = pool.kind;
+    *kind = pool_kind_number(of);
     let result = made.result;
     match result {
         Made::ImpossiblePool => IMPOSSIBLE_POOL as u32,

@@ -128,6 +128,9 @@ fn write_kind(kind: Kind) {
         Kind::ImpossiblePool => {
             io::write_all(STDOUT_FILENO, b"ImpossiblePool");
         }
+        Kind::TooWide => {
+            io::write_all(STDOUT_FILENO, b"TooWide");
+        }
         Kind::NotListed => {
             io::write_all(STDOUT_FILENO, b"NotListed");
         }

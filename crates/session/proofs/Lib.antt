@@ -6,3 +6,4 @@ pub mod Seen
 pub mod Sound
 pub mod Unique
 pub mod OneWalk
+pub mod OldKey

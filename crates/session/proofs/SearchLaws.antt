@@ -10,6 +10,8 @@ use Rattle.session.specs.declared.Head.{Head}
 use Rattle.session.specs.declared.Heard.{Heard}
 use Rattle.session.specs.declared.Found.{Found}
 use Rattle.session.specs.declared.Mode.{Mode}
+use Rattle.session.specs.declared.Mode.the-variants.{AsOriginal}
+use Rattle.session.specs.declared.PoolKind.{PoolKind}
 use Rattle.session.specs.Rules.{poolLimit, silentBy, rulesBy, base}
 use Rattle.session.specs.Frames.{indexOf}
 use Rattle.session.specs.Heads.{impossibleHead, hasKey, isSilent, isFree, isFreeOfSource, hasLiveKey}
@@ -50,19 +52,19 @@ place-next f s z = rw (ne-eqb (getD (f .«data») 0 0 % 32) 0 z)
 pub ruleset choices = (either-yes, either-no, first-here, first-there, limit-low, limit-high, place-first, place-next)
 
 -- ---- one head: what each of the calls gave, put together
-pub look-is : (m : Mode) (f : Heard) (h : Head) (s : Found) (i : ℕ) (silent keyed bad : Bool) (key live own free : ℕ)
+pub look-is : (d : PoolKind) (m : Mode) (f : Heard) (h : Head) (s : Found) (i : ℕ) (silent keyed bad : Bool) (key live own free : ℕ)
     → silent ≡ silentBy m (f .«now_ms») (h .«last_seen_ms»)
     → keyed ≡ hasKey base f h
-    → bad ≡ impossibleHead h
+    → bad ≡ impossibleHead (rulesBy d AsOriginal) h
     → key ≡ pick keyed i (s .key)
     → live ≡ pick (keyed && not silent) i (s .live)
     → own ≡ pick ((not (h .«in_progress») || silent) && eqb (h .«source_address») (f .«source_address»)) i (s .own)
     → free ≡ pick (not (h .«in_progress») || silent) i (s .free)
-    → record { bad = bad || s .bad; key = key; live = live; own = own; free = free } ≡ looked (rulesBy m) f i h s
-unfolding looked isFree isFreeOfSource hasLiveKey hasKey isSilent base rulesBy
-look-is m f h s i silent keyed bad key live own free es ek eb e1 e2 e3 e4 = rw (e1, e2, e3, e4, es, ek, eb)
+    → record { bad = bad || s .bad; key = key; live = live; own = own; free = free } ≡ looked (rulesBy d m) f i h s
+unfolding looked impossibleHead isFree isFreeOfSource hasLiveKey hasKey isSilent base rulesBy
+look-is d m f h s i silent keyed bad key live own free es ek eb e1 e2 e3 e4 = rw (e1, e2, e3, e4, es, ek, eb)
 
--- ---- the limit is the same in every mode
-pub same-limit : (mode : Mode) → rulesBy mode .limit ≡ poolLimit
+-- ---- the limit is the same in every kind and mode
+pub same-limit : (kind : PoolKind) (mode : Mode) → rulesBy kind mode .limit ≡ poolLimit
 unfolding rulesBy
-same-limit mode = refl
+same-limit kind mode = refl

@@ -81,10 +81,10 @@ ix-place none = refl
 ix-place (some j) = zero-add j
 
 module _ (R : Rules) (f : Heard) where
-  pub seen-bad : (hs : List Head) (i : ℕ) → seen R f i hs .bad ≡ any impossibleHead hs
+  pub seen-bad : (hs : List Head) (i : ℕ) → seen R f i hs .bad ≡ any (impossibleHead R) hs
   unfolding seen nothingFound looked any
   seen-bad [] i = refl
-  seen-bad (h ∷ hs) i = ap (_||_ (impossibleHead h)) (seen-bad hs (i + 1))
+  seen-bad (h ∷ hs) i = ap (_||_ (impossibleHead R h)) (seen-bad hs (i + 1))
 
   key-from : (hs : List Head) (i : ℕ) → seen R f i hs .key ≡ ix i (firstAt (hasKey R f) hs)
   unfolding seen nothingFound looked firstAt ix

@@ -28,7 +28,7 @@ none-at t (x ∷ xs) zero e n h = or-left (t x) (any t xs) n
 none-at t (x ∷ xs) (suc i) e n h = none-at t xs i e (or-right (t x) (any t xs) n) (omega arith)
 
 module _ (R : Rules) where
-  pub sound : (h : Head) → h .«in_progress» ≡ true → impossibleHead h ≡ false → Sound h
+  pub sound : (h : Head) → h .«in_progress» ≡ true → impossibleHead R h ≡ false → Sound h
   unfolding impossibleHead
   sound h busy e =
       let e0 = rw busy at e in
@@ -43,8 +43,19 @@ module _ (R : Rules) where
         held =
             eqb-true (h .«current_size») (6 + 7 * h .«last_frame_index»)
             (not-false (eqb (h .«current_size») (6 + 7 * h .«last_frame_index»)) (or-left (not (eqb (h .«current_size») (6 + 7 * h .«last_frame_index»))) _ e3));
-        below = ltb-true (h .«current_size») (h .«expected_size») (not-false (ltb (h .«current_size») (h .«expected_size»)) e4);
+        below = ltb-true (h .«current_size») (h .«expected_size») (not-false (ltb (h .«current_size») (h .«expected_size»)) (or-left (not (ltb (h .«current_size») (h .«expected_size»))) _ e4));
       }
+
+  -- ... and its part
+  pub fitting : (h : Head) → h .«in_progress» ≡ true → impossibleHead R h ≡ false → R .allowed (h .pgn) (h .part) ≡ true
+  unfolding impossibleHead
+  fitting h busy e =
+      let e0 = rw busy at e in
+      let e1 = or-right (ltb 7 (h .«sequence_id»)) _ e0 in
+      let e2 = or-right (ltb (h .«expected_size») 7) _ e1 in
+      let e3 = or-right (ltb 223 (h .«expected_size»)) _ e2 in
+      let e4 = or-right (not (eqb (h .«current_size») (6 + 7 * h .«last_frame_index»))) _ e3 in
+      not-false (R .allowed (h .pgn) (h .part)) (or-right (not (ltb (h .«current_size») (h .«expected_size»))) _ e4)
 
   pub busy-live : (f : Heard) (h : Head) → hasLiveKey R f h ≡ true → h .«in_progress» ≡ true
   unfolding hasLiveKey hasKey

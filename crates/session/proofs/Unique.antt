@@ -7,7 +7,8 @@ use Rattle.session.specs.declared.Head.{Head}
 use Rattle.session.specs.declared.Counters.{Counters}
 use Rattle.session.specs.declared.Mark.{Mark}
 use Rattle.session.specs.declared.Mode.{Mode}
-use Rattle.session.specs.Rules.{poolLimit, rulesBy}
+use Rattle.session.specs.declared.PoolKind.{PoolKind}
+use Rattle.session.specs.Rules.{poolLimit, silentBy, rulesBy}
 use Rattle.session.specs.Heads.{freshHead}
 use Rattle.session.specs.Counting.{raised}
 use Rattle.session.specs.declared.Heard.{Heard}
@@ -29,8 +30,8 @@ fresh-head-unique r s = determined
 pub nothing-found-unique : (bad : Bool) (r s : Found) → r ≡ nothingFound bad → s ≡ nothingFound bad → r ≡ s
 nothing-found-unique bad r s = determined
 
-pub look-unique : (mode : Mode) (h : Head) (t : Found) (i : ℕ) (heard : Heard) (r s : Found) → r ≡ looked (rulesBy mode) heard i h t → s ≡ looked (rulesBy mode) heard i h t → r ≡ s
-look-unique mode h t i heard r s = determined
+pub look-unique : (kind : PoolKind) (mode : Mode) (h : Head) (t : Found) (i : ℕ) (heard : Heard) (r s : Found) → r ≡ looked (rulesBy kind mode) heard i h t → s ≡ looked (rulesBy kind mode) heard i h t → r ≡ s
+look-unique kind mode h t i heard r s = determined
 
 pub place-for-unique : (t : Found) (heard : Heard) (r s : ℕ) → r ≡ placeOf heard t → s ≡ placeOf heard t → r ≡ s
 place-for-unique t heard r s = determined
@@ -40,5 +41,5 @@ within-limit-unique i r s p q = determined (p .0) (q .0)
 
 -- ---- what it makes of it
 
-pub decide-unique : (mode : Mode) (bad listed found : Bool) (h : Head) (heard : Heard) (r s : Plan) → r ≡ planOf bad listed found (rulesBy mode) heard h → s ≡ planOf bad listed found (rulesBy mode) heard h → r ≡ s
+pub decide-unique : (mode : Mode) (bad listed found : Bool) (h : Head) (heard : Heard) (r s : Plan) → r ≡ planOf bad listed found (silentBy mode) heard h → s ≡ planOf bad listed found (silentBy mode) heard h → r ≡ s
 decide-unique mode bad listed found h heard r s = determined

@@ -32,7 +32,7 @@ unfoldable pub badSize : Heard → Bool
 badSize f = eqb (sizeOf f) 0 || ltb maxPayload (sizeOf f)
 
 unfoldable pub keyOf : Heard → Key
-keyOf f = record { source = f .«source_address»; pgn = f .pgn; sequence = sequenceOf f }
+keyOf f = record { source = f .«source_address»; pgn = f .pgn; sequence = sequenceOf f; part = f .part }
 
 -- ---- document 02, No. 5: a frame cut short
 

@@ -17,19 +17,21 @@ freshHead =
       «sequence_id» = 0;
       «last_frame_index» = 0;
       pgn = 0;
+      part = 0;
       «expected_size» = 0;
       «current_size» = 0;
       «last_seen_ms» = 0;
     }
 
 unfoldable pub headKey : Head → Key
-headKey h = record { source = h .«source_address»; pgn = h .pgn; sequence = h .«sequence_id» }
+headKey h = record { source = h .«source_address»; pgn = h .pgn; sequence = h .«sequence_id»; part = h .part }
 
--- "an in-progress slot .. has sequence over 7, expected size outside 7..223, current size other than 6 + 7 × last index, or current size not below expected"
-unfoldable pub impossibleHead : Head → Bool
-impossibleHead h =
+-- "an in-progress slot .. has sequence over 7, expected size outside 7..223, current size other than 6 + 7 × last index, or current size not below expected";
+-- document 02, No. 12: or "an in-progress slot of the old kind with a destination, or of the new with a part that its PGN's PF doesn't allow"
+unfoldable pub impossibleHead : Rules → Head → Bool
+impossibleHead R h =
     h .«in_progress» && (ltb 7 (h .«sequence_id») || (ltb (h .«expected_size») 7 || (ltb maxPayload (h .«expected_size»)
-    || (not (eqb (h .«current_size») (6 + 7 * h .«last_frame_index»)) || not (ltb (h .«current_size») (h .«expected_size»))))))
+    || (not (eqb (h .«current_size») (6 + 7 * h .«last_frame_index»)) || (not (ltb (h .«current_size») (h .«expected_size»)) || not (R .allowed (h .pgn) (h .part)))))))
 
 -- "in progress with this key, expired or not"
 unfoldable pub hasKey : Rules → Heard → Head → Bool
@@ -63,12 +65,13 @@ openedHead f =
       «sequence_id» = sequenceOf f;
       «last_frame_index» = 0;
       pgn = f .pgn;
+      part = f .part;
       «expected_size» = sizeOf f;
       «current_size» = 6;
       «last_seen_ms» = f .«now_ms»;
     }
 
--- "reset (idle; PGN, sequence, sizes and index 0; source, buffer and time kept)"
+-- "reset (idle; PGN, sequence, sizes and index 0; source, buffer and time kept)"; "A reset makes the part none"
 unfoldable pub resetHead : Head → Head
 resetHead h =
     record {
@@ -77,6 +80,7 @@ resetHead h =
       «sequence_id» = 0;
       «last_frame_index» = 0;
       pgn = 0;
+      part = 0;
       «expected_size» = 0;
       «current_size» = 0;
       «last_seen_ms» = h .«last_seen_ms»;
@@ -107,6 +111,7 @@ copiedHead f h =
       «sequence_id» = h .«sequence_id»;
       «last_frame_index» = indexOf f;
       pgn = h .pgn;
+      part = h .part;
       «expected_size» = h .«expected_size»;
       «current_size» = h .«current_size» + wanted h;
       «last_seen_ms» = f .«now_ms»;

@@ -34,6 +34,7 @@ pub fn fresh_head() -> Head
         sequence_id: 0,
         last_frame_index: 0,
         pgn: 0,
+        part: 0,
         expected_size: 0,
         current_size: 0,
         last_seen_ms: 0,

@@ -38,23 +38,32 @@ pub enum Mode {
     SetBackIsSilence,
 }
 
-// A session but for its buffer.
+// Which key the messages of a pool have, chosen when it is made: source, PGN and sequence, as in the original; or the destination too, which the
+// identifier says. By the original's key one sender's answers to two displays at once are taken for one.
+pub enum PoolKind {
+    Original,
+    Addressed,
+}
+
+// A session but for its buffer. The part of its key that is the destination is 0 for none, and the destination plus 1 else.
 pub struct Head {
     pub in_progress: bool,
     pub source_address: u8,
     pub sequence_id: u8,
     pub last_frame_index: u8,
     pub pgn: u32,
+    pub part: u16,
     pub expected_size: usize,
     pub current_size: usize,
     pub last_seen_ms: u64,
 }
 
-// A frame as it was heard, with the clock reading at it: of its eight bytes the first `length` were sent.
+// A frame as it was heard, with the clock reading at it: of its eight bytes the first `length` were sent. Its part is that of its key, as a head has it.
 pub struct Heard {
     pub now_ms: u64,
     pub pgn: u32,
     pub source_address: u8,
+    pub part: u16,
     pub data: [u8; 8],
     pub length: usize,
 }
@@ -79,10 +88,11 @@ pub enum Mark {
     Unknown,
 }
 
-// What the caller is told of a frame. An impossible pool is refused. NotListed, Rejected, PoolFull and Lost say why a frame was not taken; Lost is a
+// What the caller is told of a frame. An impossible pool is refused, and so is an identifier that is too wide. NotListed, Rejected, PoolFull and Lost say why a frame was not taken; Lost is a
 // continuation without a live session, or one out of turn or cut short, which ends its session.
 pub enum Kind {
     ImpossiblePool,
+    TooWide,
     NotListed,
     Rejected,
     PoolFull,
@@ -91,9 +101,11 @@ pub enum Kind {
     MessageComplete,
 }
 
-// The number of each kind. That of an impossible pool is its refusal's, and those of refusals are 1 to 99. 101 was given where NotListed, Rejected,
+// The number of each kind. Those of an impossible pool and of an identifier that is too wide are their refusals', and those of refusals are 1 to 99. 101 was given where NotListed, Rejected,
 // PoolFull and Lost are now told apart, and is given no more.
 pub const IMPOSSIBLE_POOL: u8 = 1;
+
+pub const TOO_WIDE: u8 = 8;
 
 pub const FRAGMENT_CONSUMED: u8 = 102;
 

@@ -22,13 +22,14 @@ pub(crate) fn opened_head(heard: Heard) -> Head
         sequence_id: sequence_of(heard),
         last_frame_index: 0,
         pgn: heard.pgn,
+        part: heard.part,
         expected_size: size_of(heard),
         current_size: FIRST_FRAME_PAYLOAD,
         last_seen_ms: heard.now_ms,
     }
 }
 
-// Source and time stay: the next first frame of this source prefers the slot.
+// Source and time stay: the next first frame of this source prefers the slot, whatever its destination.
 pub(crate) fn reset_head(ended: Head) -> Head
     ensures { λ r. ⌜ r ≡ resetHead ended ⌝ }
 {
@@ -38,6 +39,7 @@ pub(crate) fn reset_head(ended: Head) -> Head
         sequence_id: 0,
         last_frame_index: 0,
         pgn: 0,
+        part: 0,
         expected_size: 0,
         current_size: 0,
         last_seen_ms: ended.last_seen_ms,
@@ -89,6 +91,7 @@ pub(crate) fn copied_head(h: Head, heard: Heard) -> Head
         sequence_id: h.sequence_id,
         last_frame_index: index_of(heard),
         pgn: h.pgn,
+        part: h.part,
         expected_size: h.expected_size,
         current_size: h.current_size + n,
         last_seen_ms: heard.now_ms,

@@ -1,10 +1,10 @@
 // The plan of a frame: decided on one head, and carried out by whoever has the buffer. Where the slot was not found nothing is asked of the head.
 ghost use mathlib.Core.Path.{_≡_};
 ghost use mathlib.Core.Bool.{true, false};
-ghost use Rattle.session.specs.Rules.{rulesBy};
-ghost use Rattle.session.specs.Heads.{isExpired, allThere, copiedHead};
+ghost use Rattle.session.specs.Rules.{silentBy};
+ghost use Rattle.session.specs.Heads.{allThere, copiedHead};
 ghost use Rattle.session.specs.Counting.{expiredMark};
-ghost use Rattle.session.specs.inner.Plan.{idle, planOpen, planFirst, planCopy, planNext, planListed, planOf};
+ghost use Rattle.session.specs.inner.Plan.{isLate, idle, planOpen, planFirst, planCopy, planNext, planListed, planOf};
 use crate::FIRST_FRAME_PAYLOAD;
 use crate::Head;
 use crate::Heard;
@@ -41,7 +41,7 @@ fn stay(kind: Kind, mark: Mark, h: Head) -> Plan
 
 // A slot that is taken while in progress and silent is counted.
 fn mark_expired(mode: Mode, h: Head, heard: Heard) -> Mark
-    ensures { λ r. ⌜ r ≡ expiredMark (isExpired (rulesBy mode) heard h) ⌝ }
+    ensures { λ r. ⌜ r ≡ expiredMark (isLate (silentBy mode) heard h) ⌝ }
 {
     if h.in_progress & is_silent(mode, heard.now_ms, h.last_seen_ms) {
         Mark::Expired
@@ -51,7 +51,7 @@ fn mark_expired(mode: Mode, h: Head, heard: Heard) -> Mark
 }
 
 fn plan_open(mode: Mode, found: bool, h: Head, heard: Heard) -> Plan
-    ensures { λ r. ⌜ r ≡ planOpen found (rulesBy mode) heard h ⌝ }
+    ensures { λ r. ⌜ r ≡ planOpen found (silentBy mode) heard h ⌝ }
 {
     if !found {
         return stay(Kind::PoolFull, Mark::Exhausted, h);
@@ -70,7 +70,7 @@ fn plan_open(mode: Mode, found: bool, h: Head, heard: Heard) -> Plan
 
 // First frame: carries the total expected size. One of six bytes or less is delivered without touching the session.
 fn plan_first(mode: Mode, found: bool, h: Head, heard: Heard) -> Plan
-    ensures { λ r. ⌜ r ≡ planFirst found (rulesBy mode) heard h ⌝ }
+    ensures { λ r. ⌜ r ≡ planFirst found (silentBy mode) heard h ⌝ }
 {
     if is_bad_first(heard) {
         return stay(Kind::Rejected, Mark::Rejected, h);
@@ -145,7 +145,7 @@ fn plan_next(found: bool, h: Head, heard: Heard) -> Plan
 }
 
 fn plan_listed(mode: Mode, found: bool, h: Head, heard: Heard) -> Plan
-    ensures { λ r. ⌜ r ≡ planListed true found (rulesBy mode) heard h ⌝ }
+    ensures { λ r. ⌜ r ≡ planListed true found (silentBy mode) heard h ⌝ }
 {
     // without a byte there is no index, and it is no good first frame
     if (heard.length == 0) | (index_of(heard) == 0) {
@@ -156,7 +156,7 @@ fn plan_listed(mode: Mode, found: bool, h: Head, heard: Heard) -> Plan
 
 // What the frame does: `bad` says that the pool is impossible, `listed` that its PGN is listed, `found` that `h` is the head of the slot it takes.
 pub fn decide(mode: Mode, bad: bool, listed: bool, found: bool, h: Head, heard: Heard) -> Plan
-    ensures { λ r. ⌜ r ≡ planOf bad listed found (rulesBy mode) heard h ⌝ }
+    ensures { λ r. ⌜ r ≡ planOf bad listed found (silentBy mode) heard h ⌝ }
 {
     if bad {
         return stay(Kind::ImpossiblePool, Mark::Nothing, h);

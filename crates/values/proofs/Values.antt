@@ -5,7 +5,7 @@ use Rattle.base.specs.Lists.{nextPlace, here, orElse, firstAt, any, fill}
 use Rattle.fast_packet.specs.FastPacket.{listedIn}
 use Rattle.can_id.specs.Build.{buildOf}
 use Rattle.builder.specs.Next.{nextOf, framedStep}
-use Rattle.session.specs.Rules.{silence, silentBy, keysEqual, rulesBy}
+use Rattle.session.specs.Rules.{silence, silentBy, threeEqual, keysEqual, partAllowed, rulesBy}
 use Rattle.session.specs.Frames.{sequenceOf, indexOf, sizeOf, firstBytes, nextBytes, badSize, keyOf, isEmpty, cutFirst, badFirst}
 use Rattle.session.specs.Heads.{freshHead, headKey, impossibleHead, hasKey, isSilent, isFree, isFreeOfSource, hasLiveKey, isExpired, inTurn, cutNext, isNext, openedHead, resetHead, wanted, copiedHead, allThere}
 use Rattle.session.specs.Counting.{freshCounters, most, raise, raised, expiredMark}
@@ -17,7 +17,7 @@ use Rattle.assembler.specs.Promises.{rulesOf}
 use Rattle.values.specs.Values.{Values}
 
 pub values : Values
-unfolding pick nextPlace here orElse firstAt any fill listedIn buildOf nextOf framedStep silence silentBy keysEqual rulesBy rulesOf sequenceOf indexOf sizeOf firstBytes nextBytes badSize keyOf isEmpty cutFirst badFirst freshHead headKey impossibleHead hasKey isSilent isFree isFreeOfSource hasLiveKey isExpired inTurn cutNext isNext openedHead resetHead wanted copiedHead allThere freshCounters most raise raised expiredMark freshSlot impossible chosen live openedSlot resetSlot copiedSlot opensAt continuesAt eventOf slotsAfter markOf padded message saidOf outcome stepIf step slotsFrom headOf flat slotsOf poolOf zeros whyKind replyKind replyPayload replyLength shown receiveOf freshPoolIn freshPool
+unfolding pick nextPlace here orElse firstAt any fill listedIn buildOf nextOf framedStep silence silentBy threeEqual keysEqual partAllowed rulesBy rulesOf sequenceOf indexOf sizeOf firstBytes nextBytes badSize keyOf isEmpty cutFirst badFirst freshHead headKey impossibleHead hasKey isSilent isFree isFreeOfSource hasLiveKey isExpired inTurn cutNext isNext openedHead resetHead wanted copiedHead allThere freshCounters most raise raised expiredMark freshSlot impossible chosen live openedSlot resetSlot copiedSlot opensAt continuesAt eventOf slotsAfter markOf padded message saidOf outcome stepIf step slotsFrom headOf flat slotsOf poolOf zeros whyKind replyKind replyPayload replyLength shown receiveOf freshPoolIn freshPool
 values =
     record {
       p1 = refl;

@@ -12,6 +12,7 @@ use Rattle.session.specs.declared.Counters.{Counters}
 use Rattle.session.specs.declared.Kind.the-variants.{Rejected, Lost, FragmentConsumed, MessageComplete}
 use Rattle.session.specs.declared.Mode.{Mode}
 use Rattle.session.specs.declared.Mode.the-variants.{AsOriginal, SetBackIsSilence}
+use Rattle.session.specs.declared.PoolKind.the-variants.{Original}
 use Rattle.session.specs.Counting.{freshCounters}
 use Rattle.assembler.specs.declared.Pool.{Pool}
 use Rattle.assembler.specs.declared.Received.{Received}
@@ -23,11 +24,11 @@ use Rattle.assembler.specs.Promises.{rulesOf}
 
 -- what a call gives: PGN 127489, listed, from source 35, at this reading, with these eight bytes
 abbrev pub heardOn : Pool → Counters → ℕ → List ℕ → Received
-heardOn p k time bytes = receiveOf (rulesOf p) (127489 ∷ []) (record { «now_ms» = time; pgn = 127489; «source_address» = 35; «data» = bytes; length = 8 }) p k
+heardOn p k time bytes = receiveOf (rulesOf p) (127489 ∷ []) (record { «now_ms» = time; pgn = 127489; «source_address» = 35; part = 0; «data» = bytes; length = 8 }) p k
 
 -- on a fresh pool of the default size in this mode, with zero counters
 abbrev pub beginIn : Mode → ℕ → List ℕ → Received
-beginIn mode time bytes = heardOn (freshPoolIn mode 4) freshCounters time bytes
+beginIn mode time bytes = heardOn (freshPoolIn Original mode 4) freshCounters time bytes
 
 -- as the original
 abbrev pub begin : ℕ → List ℕ → Received

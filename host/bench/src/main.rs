@@ -38,18 +38,27 @@ fn original<const N: usize>(list: &'static [u32], w: &Rows, t: &mut Told) -> usi
     at
 }
 
+/// A single call: with the counters lent, by value, or by the identifier, on a pool whose key has the destination.
+#[derive(Clone, Copy)]
+enum Call {
+    Lent,
+    ByValue,
+    ById,
+}
+
 /// The port, one call a frame.
 #[inline(never)]
-fn one_by_one(mode: Mode, size: usize, list: &[u32], w: &Rows, by_value: bool, t: &mut Told) -> usize {
-    let (mut p, mut c) = (fresh(mode, size), [0; 5]);
+fn one_by_one(mode: Mode, size: usize, list: &[u32], w: &Rows, call: Call, t: &mut Told) -> usize {
+    let kind = if matches!(call, Call::ById) { raw::ADDRESSED } else { raw::ORIGINAL };
+    let (mut p, mut c) = (fresh(mode, kind, size), [0; 5]);
     let (mut payload, mut length) = ([0; 223], 0);
     let mut at = 0;
     for i in 0..w.len() {
         let d: &[u8; 8] = w.data[i * 8..i * 8 + 8].try_into().unwrap();
-        let kind = if by_value {
-            p.receive(&mut c, list, w.times[i], w.pgns[i], w.sources[i], d, &mut payload, &mut length)
-        } else {
-            p.process_frame(&mut c, list, w.times[i], w.pgns[i], w.sources[i], d, &mut payload, &mut length)
+        let kind = match call {
+            Call::Lent => p.process_frame(&mut c, list, w.times[i], w.pgns[i], w.sources[i], d, &mut payload, &mut length),
+            Call::ByValue => p.receive(&mut c, list, w.times[i], w.pgns[i], w.sources[i], d, &mut payload, &mut length),
+            Call::ById => p.process_frame_by_id(&mut c, list, w.times[i], w.pgns[i] << 8 | w.sources[i] as u32, d, &mut payload, &mut length),
         };
         match kind {
             raw::NOT_LISTED | raw::REJECTED | raw::POOL_FULL | raw::LOST | raw::FRAGMENT_CONSUMED => (t.kinds[i], t.lengths[i]) = (kind as u8, 0),
@@ -64,16 +73,16 @@ fn one_by_one(mode: Mode, size: usize, list: &[u32], w: &Rows, by_value: bool, t
     at
 }
 
-fn fresh(mode: Mode, size: usize) -> Pool {
+fn fresh(mode: Mode, kind: u32, size: usize) -> Pool {
     let mut p = Pool::ZEROS;
-    assert_eq!(p.made_with_mode(size, mode.number()), 0);
+    assert_eq!(p.made_with_kind(size, mode.number(), kind), 0);
     p
 }
 
 /// The port, in batches of `chunk` frames.
 #[inline(never)]
 fn in_batches(mode: Mode, size: usize, list: &[u32], w: &Rows, chunk: usize, t: &mut Told) -> usize {
-    let (mut p, mut c) = (fresh(mode, size), [0; 5]);
+    let (mut p, mut c) = (fresh(mode, raw::ORIGINAL, size), [0; 5]);
     let (mut i, mut at) = (0, 0);
     while i < w.len() {
         let end = (i + chunk).min(w.len());
@@ -122,15 +131,16 @@ fn head(columns: &[&str]) {
 fn receiving<const N: usize>(mode: Mode, reps: usize, title: &str, workloads: Vec<(&str, Vec<u32>, Rows)>) {
     let told = if mode == Mode::AsOriginal { "" } else { ", set back is silence" };
     println!("\n{title}{told}, pool of {N}, a frame:");
-    head(&["single call", "by value", "batch of 1", "batch of 16", "batch of 64", "batch of 256", "batch of 1024"]);
+    head(&["single call", "by value", "by identifier", "batch of 1", "batch of 16", "batch of 64", "batch of 256", "batch of 1024"]);
     for (name, list, w) in workloads {
         let leaked: &'static [u32] = list.clone().leak();
-        let mut t: Vec<Told> = (0..8).map(|_| Told::room(w.len(), 8 * w.len() + 300)).collect();
-        let [t0, t1, t2, t3, t4, t5, t6, t7] = &mut t[..] else { unreachable!() };
+        let mut t: Vec<Told> = (0..9).map(|_| Told::room(w.len(), 8 * w.len() + 300)).collect();
+        let [t0, t1, t2, t3, t4, t5, t6, t7, t8] = &mut t[..] else { unreachable!() };
         compare(name, w.len(), reps, &mut [
             ("original", &mut || { black_box(original::<N>(leaked, black_box(&w), t0)); }),
-            ("single", &mut || { black_box(one_by_one(mode, N, &list, black_box(&w), false, t1)); }),
-            ("by value", &mut || { black_box(one_by_one(mode, N, &list, black_box(&w), true, t6)); }),
+            ("single", &mut || { black_box(one_by_one(mode, N, &list, black_box(&w), Call::Lent, t1)); }),
+            ("by value", &mut || { black_box(one_by_one(mode, N, &list, black_box(&w), Call::ByValue, t6)); }),
+            ("by identifier", &mut || { black_box(one_by_one(mode, N, &list, black_box(&w), Call::ById, t8)); }),
             ("1", &mut || { black_box(in_batches(mode, N, &list, black_box(&w), 1, t2)); }),
             ("16", &mut || { black_box(in_batches(mode, N, &list, black_box(&w), 16, t3)); }),
             ("64", &mut || { black_box(in_batches(mode, N, &list, black_box(&w), 64, t4)); }),

@@ -6,8 +6,6 @@ use port::assembler::Mode;
 use reference::hooks::Slot;
 use reference::protocol::transport::fast_packet::assembler::{FastPacketAssembler, ProcessResult};
 
-pub const MODES: [Mode; 2] = [Mode::AsOriginal, Mode::SetBackIsSilence];
-
 /// "Silent over 500", in the papers' own words: "Silence is now minus last time, or 0 if now is earlier"; by No. 10's mode "also .. if now is earlier than its last
 /// time".
 pub fn silent(mode: Mode, now: u64, last_time: u64) -> bool {

@@ -2,8 +2,10 @@
 //! leave behind, panics at the first difference, and says how many steps it compared.
 pub mod bench;
 pub mod clock;
+pub mod destination;
 pub mod frames;
 pub mod ids;
+pub mod kinds;
 pub mod modes;
 pub mod reading;
 pub mod receive;

@@ -1,15 +1,17 @@
-//! The modes of a pool, document 02's No. 10: making one in each, numbers that are no mode, and the request's own cases, by every call and with the exact answer,
-//! counters and pool that each must leave.
-use crate::clock::MODES;
-use crate::receive::{batched, called, heads_of, lent, made_with_mode, one_row, pool_of, refused, refused_by_every_call, sizes_asked_for, widened, Answer, Heard, Slots, LENT, LIMIT, SINGLE_CALLS, USED};
+//! The modes of a pool, document 02's No. 10: making one in each, numbers that are no mode, and the request's own cases, by every call, in both of No. 12's kinds and with
+//! the exact answer, counters and pool that each must leave.
+use crate::destination::{Chosen, ADDRESSED, AS_ORIGINAL, CHOICES};
+use crate::receive::{
+    batched, called, lent, made_as, made_with_mode, one_row, pool_of, refused, refused_by_every_call, sizes_asked_for, widened, Answer, Heard, Slots, LENT, LIMIT, SINGLE_CALLS, USED,
+};
 use crate::rng::Rng;
 use port::assembler::{self as ours, Mode, Rows};
 use port::error::ImpossiblePool;
 use port::raw::{self, Counters, Pool};
 use reference::hooks::Slot;
 
-/// Numbers that are no mode; some have one in their low bits.
-pub const NO_MODES: [u32; 7] = [2, 3, 255, 256, 257, 1 << 31, u32::MAX];
+/// Numbers that are no mode, and no kind; some have one in their low bits.
+pub const NEITHER: [u32; 7] = [2, 3, 255, 256, 257, 1 << 31, u32::MAX];
 
 /// Pools of every size, and above, in each mode and by numbers that are none. A pool that is refused is of size 0, in the mode asked for, or as the original where
 /// that is none; its slots are as they were.
@@ -17,7 +19,7 @@ pub fn making() -> u64 {
     let mut steps = 0;
     for size in sizes_asked_for() {
         for (mode, number) in [(Mode::AsOriginal, 0), (Mode::SetBackIsSilence, 1)] {
-            let left = if size > LIMIT { Pool { size: 0, mode: number, ..USED } } else { Pool { size, mode: number, ..Pool::ZEROS } };
+            let left = if size > LIMIT { Pool { size: 0, mode: number, kind: 0, ..USED } } else { Pool { size, mode: number, ..Pool::ZEROS } };
             let mut p = USED;
             assert_eq!((made_with_mode(&mut p, size, number), p), ((size > LIMIT) as u32, left));
             let ours = ours::Pool::with_mode(size, mode);
@@ -25,37 +27,37 @@ pub fn making() -> u64 {
             assert_eq!(ours == ours::Pool::new(size), mode == Mode::AsOriginal || size > LIMIT, "`new` makes them as the original");
             steps += 1;
         }
-        for mode in NO_MODES {
+        for mode in NEITHER {
             let mut p = USED;
-            assert_eq!((made_with_mode(&mut p, size, mode), p), (1, Pool { size: 0, mode: 0, ..USED }), "mode {mode}, size {size}");
+            assert_eq!((made_with_mode(&mut p, size, mode), p), (1, Pool { size: 0, mode: 0, kind: 0, ..USED }), "mode {mode}, size {size}");
             steps += 1;
         }
     }
     steps
 }
 
-/// A pool whose number is no mode: 1 by every call, whatever its slots and the frame are, and nothing changed, also not numbers wider than their fields.
+/// A pool whose number is no mode: 1 by every call of either kind, whatever its slots and the frame are, and nothing changed, also not numbers wider than their fields.
 pub fn no_mode() -> u64 {
     let mut r = Rng::new(32);
+    [AS_ORIGINAL, ADDRESSED].into_iter().map(|chosen| NEITHER.into_iter().map(|mode| never_heard(&mut r, chosen, |p| p.mode = mode)).sum::<u64>()).sum()
+}
+
+/// Pools of every kind of slot, bent so that every call refuses them.
+pub(crate) fn never_heard(r: &mut Rng, chosen: Chosen, bend: impl Fn(&mut Pool)) -> u64 {
     let mut steps = 0;
-    let own = open_at(1000);
+    let own = open_at(chosen, 1000);
     let impossible = Slot { sequence: 8, ..own };
-    for mode in NO_MODES {
-        for (size, slot) in [(0, Slot::FRESH), (1, Slot::FRESH), (4, own), (LIMIT, own), (LIMIT + 1, own), (1, impossible)] {
-            let slots = [slot; LIMIT];
-            for h in [continuation(1000), continuation(999), first_frame(35, 1000), first_frame(36, 999), short_first_frame(0), Heard { pgn: 5, ..first_frame(35, 1000) }] {
-                for list in [&[][..], &[PGN]] {
-                    refused_by_every_call(mode, size, &slots, list, &h);
-                    refused(mode, size, &slots, [7; 5], list, &h, Some(r.below(8) as usize), false);
-                    let before = Pool { heads: widened(&mut r, &heads_of(&slots)), ..pool_of(mode, size, &slots) };
-                    let (mut p, mut c, mut told) = (before.clone(), [7; 5], lent(1, 30));
-                    for (length, by_value) in SINGLE_CALLS {
-                        assert_eq!(called(&mut p, &mut c, list, &h, length, by_value), Answer { kind: 1, length: 0, ..LENT });
-                    }
-                    assert_eq!(batched(&mut p, &mut c, list, &one_row(&h), &mut told), (1, 0, 0));
-                    assert_eq!((p, c, told), (before, [7; 5], lent(1, 30)), "a refusal changes no lent memory");
-                    steps += 3;
-                }
+    for (size, slot) in [(0, Slot::FRESH), (1, Slot::FRESH), (4, own), (LIMIT, own), (LIMIT + 1, own), (1, impossible)] {
+        let mut p = pool_of(chosen, size, &[slot; LIMIT]);
+        bend(&mut p);
+        let wide = Pool { heads: widened(r, &p.heads), ..p.clone() };
+        let first = |source, now| first_frame(chosen, source, now);
+        for h in [continuation(chosen, 1000), continuation(chosen, 999), first(35, 1000), first(36, 999), short_first_frame(chosen, 0), Heard { pgn: 5, ..first(35, 1000) }] {
+            for list in [&[][..], &[chosen.named(h.pgn)]] {
+                refused_by_every_call(&p, list, &h);
+                refused(&p, [7; 5], list, &h, Some(r.below(8) as usize), false);
+                refused_by_every_call(&wide, list, &h);
+                steps += 3;
             }
         }
     }
@@ -64,26 +66,26 @@ pub fn no_mode() -> u64 {
 
 // ---- the request's cases: a pool of one slot
 
-const PGN: u32 = 127_489;
-
 /// A session of source 35 with 6 of 14 bytes, last heard at this time.
-fn open_at(last_time: u64) -> Slot {
-    Slot { in_progress: true, source: 35, pgn: PGN, sequence: 0, bytes: [0x77; 223], expected: 14, current: 6, last_index: 0, last_time }
+pub(crate) fn open_at(chosen: Chosen, last_time: u64) -> Slot {
+    let [pgn, _] = chosen.two_pgns();
+    Slot { in_progress: true, source: 35, pgn, sequence: 0, bytes: [0x77; 223], expected: 14, current: 6, last_index: 0, last_time }
 }
 
 /// Its next frame.
-fn continuation(now: u64) -> Heard {
-    Heard { now, pgn: PGN, source: 35, data: [1, 11, 12, 13, 14, 15, 16, 17] }
+pub(crate) fn continuation(chosen: Chosen, now: u64) -> Heard {
+    let [pgn, _] = chosen.two_pgns();
+    Heard { now, pgn, source: 35, data: [1, 11, 12, 13, 14, 15, 16, 17] }
 }
 
 /// A first frame of the session's key, or by another source of another.
-fn first_frame(source: u8, now: u64) -> Heard {
-    Heard { now, pgn: PGN, source, data: [0, 20, 21, 22, 23, 24, 25, 26] }
+pub(crate) fn first_frame(chosen: Chosen, source: u8, now: u64) -> Heard {
+    Heard { source, data: [0, 20, 21, 22, 23, 24, 25, 26], ..continuation(chosen, now) }
 }
 
 /// A message that needs no slot, with the session's key.
-fn short_first_frame(now: u64) -> Heard {
-    Heard { now, pgn: PGN, source: 35, data: [0, 2, 21, 22, 23, 24, 25, 26] }
+fn short_first_frame(chosen: Chosen, now: u64) -> Heard {
+    Heard { data: [0, 2, 21, 22, 23, 24, 25, 26], ..continuation(chosen, now) }
 }
 
 fn with_bytes(slot: Slot, at: usize, more: &[u8]) -> Slot {
@@ -98,12 +100,13 @@ fn continued(slot: Slot, now: u64) -> Slot {
 }
 
 /// The slot once a first frame was taken there.
-fn opened(slot: Slot, source: u8, now: u64) -> Slot {
-    Slot { in_progress: true, source, pgn: PGN, sequence: 0, expected: 20, current: 6, last_index: 0, last_time: now, ..with_bytes(slot, 0, &[21, 22, 23, 24, 25, 26]) }
+pub(crate) fn opened(slot: Slot, h: &Heard) -> Slot {
+    let begun = Slot { in_progress: true, source: h.source, pgn: h.pgn, sequence: 0, expected: 20, current: 6, last_index: 0, last_time: h.now, ..slot };
+    with_bytes(begun, 0, &[21, 22, 23, 24, 25, 26])
 }
 
 /// The slot after a reset: "source, buffer and time kept".
-fn reset(slot: Slot) -> Slot {
+pub(crate) fn reset(slot: Slot) -> Slot {
     Slot { in_progress: false, pgn: 0, sequence: 0, expected: 0, current: 0, last_index: 0, ..slot }
 }
 
@@ -127,30 +130,35 @@ fn due(kind: u32, raised: Counters, slot: Slot) -> Due<'static> {
 }
 
 /// One slot in a pool that has memory for more.
-fn alone(slot: Slot) -> Slots {
-    std::array::from_fn(|k| if k == 0 { slot } else { open_at(1000) })
+fn alone(chosen: Chosen, slot: Slot) -> Slots {
+    std::array::from_fn(|k| if k == 0 { slot } else { open_at(chosen, 1000) })
 }
 
-/// One frame on a pool of one slot by every call: exactly this answer, these counters and this pool. How many calls there were.
-fn leaves(mode: Mode, slot: Slot, h: &Heard, due: Due) -> u64 {
+/// One frame on a pool of one slot by every call of its kind: exactly this answer, these counters and this pool. How many calls there were.
+fn leaves(chosen: Chosen, slot: Slot, h: &Heard, due: Due) -> u64 {
+    let list = chosen.two_pgns().map(|pgn| chosen.named(pgn));
     let mut payload = LENT.payload;
     if due.kind == raw::MESSAGE_COMPLETE {
         payload = [0; 223];
         payload[..due.message.len()].copy_from_slice(due.message);
     }
     let answer = Answer { kind: due.kind, payload, length: due.message.len() };
-    let (before, after) = (pool_of(mode.number(), 1, &alone(slot)), pool_of(mode.number(), 1, &alone(due.slot)));
+    let (before, after) = (pool_of(chosen, 1, &alone(chosen, slot)), pool_of(chosen, 1, &alone(chosen, due.slot)));
     let counters = due.raised.map(|n| 7 + n);
     for (length, by_value) in SINGLE_CALLS {
         let (mut p, mut c) = (before.clone(), [7; 5]);
-        let got = called(&mut p, &mut c, &[PGN], h, length, by_value);
-        assert_eq!((got, c, p), (answer.clone(), counters, after.clone()), "{mode:?}, {h:?} on {slot:?}");
+        let got = called(&mut p, &mut c, &list, h, length, by_value);
+        assert_eq!((got, c, p), (answer.clone(), counters, after.clone()), "{chosen:?}, {h:?} on {slot:?}");
+    }
+    let single = SINGLE_CALLS.len() as u64;
+    if chosen.addressed {
+        return single;
     }
     let (mut p, mut c, mut told) = (before, [7; 5], lent(1, 20));
-    assert_eq!(batched(&mut p, &mut c, &[PGN], &one_row(h), &mut told), (0, 1, due.message.len()));
+    assert_eq!(batched(&mut p, &mut c, &list, &one_row(h), &mut told), (0, 1, due.message.len()));
     assert_eq!((told.kinds[0] as u32, told.lengths[0] as usize, &told.arena[..due.message.len()]), (due.kind, due.message.len(), due.message));
-    assert_eq!((c, p), (counters, after), "a batch: {mode:?}, {h:?} on {slot:?}");
-    SINGLE_CALLS.len() as u64 + 1
+    assert_eq!((c, p), (counters, after), "a batch: {chosen:?}, {h:?} on {slot:?}");
+    single + 1
 }
 
 const MAX: u64 = u64::MAX;
@@ -185,36 +193,38 @@ const READINGS: [(u64, u64, [bool; 2]); 26] = [
     (MAX - 501, MAX, [true, true]),
 ];
 
-/// Each row of the table in each mode: mode, last time, now, silent.
-fn readings() -> impl Iterator<Item = (Mode, u64, u64, bool)> {
-    READINGS.into_iter().flat_map(|(last, now, silent)| MODES.into_iter().zip(silent).map(move |(mode, silent)| (mode, last, now, silent)))
+/// Each row of the table for every choice: what is chosen, last time, now, silent.
+fn readings() -> impl Iterator<Item = (Chosen, u64, u64, bool)> {
+    READINGS.into_iter().flat_map(|(last, now, silent)| CHOICES.into_iter().map(move |chosen| (chosen, last, now, silent[chosen.mode.number() as usize])))
 }
 
 /// A continuation is taken, and its time is now; of a silent session it is a stray, and the session stays in progress with its time. The same of one that ends its
 /// message, of one out of turn, which resets a session that is not silent, and of one cut short.
 pub fn continuations() -> u64 {
     let mut steps = 0;
-    for (mode, last, now, silent) in readings() {
-        let own = open_at(last);
+    for (chosen, last, now, silent) in readings() {
+        let own = open_at(chosen, last);
         let stray = due(raw::LOST, LOST, own);
-        let h = continuation(now);
-        steps += leaves(mode, own, &h, if silent { stray } else { due(raw::FRAGMENT_CONSUMED, NOTHING, continued(own, now)) });
+        let h = continuation(chosen, now);
+        steps += leaves(chosen, own, &h, if silent { stray } else { due(raw::FRAGMENT_CONSUMED, NOTHING, continued(own, now)) });
         let out_of_turn = Heard { data: [2, 11, 12, 13, 14, 15, 16, 17], ..h };
-        steps += leaves(mode, own, &out_of_turn, if silent { stray } else { due(raw::LOST, LOST, reset(own)) });
-        let other_key = Heard { source: 36, ..h };
-        steps += leaves(mode, own, &other_key, stray);
+        steps += leaves(chosen, own, &out_of_turn, if silent { stray } else { due(raw::LOST, LOST, reset(own)) });
+        let [_, other_pgn] = chosen.two_pgns();
+        for other_key in [Heard { source: 36, ..h }, Heard { pgn: other_pgn, ..h }] {
+            steps += leaves(chosen, own, &other_key, stray);
+        }
         let unlisted = Heard { pgn: 5, ..h };
-        steps += leaves(mode, own, &unlisted, due(raw::NOT_LISTED, UNKNOWN, own));
+        steps += leaves(chosen, own, &unlisted, due(raw::NOT_LISTED, UNKNOWN, own));
 
         let nearly = Slot { expected: 8, ..own };
         let ended = Slot { last_time: now, ..with_bytes(reset(nearly), 6, &[11, 12]) };
         let whole = Due { kind: raw::MESSAGE_COMPLETE, message: &[0x77, 0x77, 0x77, 0x77, 0x77, 0x77, 11, 12], raised: NOTHING, slot: ended };
-        steps += leaves(mode, nearly, &h, if silent { due(raw::LOST, LOST, nearly) } else { whole });
+        steps += leaves(chosen, nearly, &h, if silent { due(raw::LOST, LOST, nearly) } else { whole });
 
-        let (mut p, mut c) = (pool_of(mode.number(), 1, &alone(own)), [7; 5]);
-        let got = called(&mut p, &mut c, &[PGN], &h, Some(7), false);
+        let (mut p, mut c) = (pool_of(chosen, 1, &alone(chosen, own)), [7; 5]);
+        let got = called(&mut p, &mut c, &[chosen.named(h.pgn)], &h, Some(7), false);
         let left = if silent { own } else { reset(own) };
-        assert_eq!((got, c, p), (Answer { kind: raw::LOST, length: 0, ..LENT }, [7, 7, 7, 8, 7], pool_of(mode.number(), 1, &alone(left))), "cut to seven bytes");
+        assert_eq!((got, c, p), (Answer { kind: raw::LOST, length: 0, ..LENT }, [7, 7, 7, 8, 7], pool_of(chosen, 1, &alone(chosen, left))), "cut to seven bytes");
         steps += 1;
     }
     steps
@@ -224,13 +234,18 @@ pub fn continuations() -> u64 {
 /// session and counts that. A message that needs no slot touches none.
 pub fn first_frames() -> u64 {
     let mut steps = 0;
-    for (mode, last, now, silent) in readings() {
-        let own = open_at(last);
+    for (chosen, last, now, silent) in readings() {
+        let own = open_at(chosen, last);
         let counted = if silent { EXPIRED } else { NOTHING };
-        steps += leaves(mode, own, &first_frame(35, now), due(raw::FRAGMENT_CONSUMED, counted, opened(own, 35, now)));
-        let other = if silent { due(raw::FRAGMENT_CONSUMED, EXPIRED, opened(own, 36, now)) } else { due(raw::POOL_FULL, EXHAUSTED, own) };
-        steps += leaves(mode, own, &first_frame(36, now), other);
-        steps += leaves(mode, own, &short_first_frame(now), Due { kind: raw::MESSAGE_COMPLETE, message: &[21, 22], raised: NOTHING, slot: own });
+        let again = first_frame(chosen, 35, now);
+        steps += leaves(chosen, own, &again, due(raw::FRAGMENT_CONSUMED, counted, opened(own, &again)));
+        let [_, other_pgn] = chosen.two_pgns();
+        for other_key in [Heard { source: 36, ..again }, Heard { pgn: other_pgn, ..again }] {
+            let other = if silent { due(raw::FRAGMENT_CONSUMED, EXPIRED, opened(own, &other_key)) } else { due(raw::POOL_FULL, EXHAUSTED, own) };
+            steps += leaves(chosen, own, &other_key, other);
+        }
+        let short = short_first_frame(chosen, now);
+        steps += leaves(chosen, own, &short, Due { kind: raw::MESSAGE_COMPLETE, message: &[21, 22], raised: NOTHING, slot: own });
     }
     steps
 }
@@ -238,18 +253,19 @@ pub fn first_frames() -> u64 {
 /// An idle slot is free in either mode, whatever its time, and none expires there.
 pub fn idle_slots() -> u64 {
     let mut steps = 0;
-    for (mode, last, now, _) in readings() {
-        let idle = reset(open_at(last));
+    for (chosen, last, now, _) in readings() {
+        let idle = reset(open_at(chosen, last));
         for source in [35, 36] {
-            steps += leaves(mode, idle, &first_frame(source, now), due(raw::FRAGMENT_CONSUMED, NOTHING, opened(idle, source, now)));
+            let h = first_frame(chosen, source, now);
+            steps += leaves(chosen, idle, &h, due(raw::FRAGMENT_CONSUMED, NOTHING, opened(idle, &h)));
         }
-        steps += leaves(mode, idle, &continuation(now), due(raw::LOST, LOST, idle));
+        steps += leaves(chosen, idle, &continuation(chosen, now), due(raw::LOST, LOST, idle));
     }
     steps
 }
 
-/// From a fresh pool, by the calls alone, once in a batch and once frame by frame: the clock is set back by 1 ms within a message, and comes back; P12; the message
-/// begins again before its time, and comes to its end.
+/// From a fresh pool, by the calls alone, frame by frame and, where the kind has it, in a batch: the clock is set back by 1 ms within a message, and comes back; P12;
+/// the message begins again before its time, and comes to its end.
 pub fn a_clock_set_back() -> u64 {
     let frames: Vec<(u64, [u8; 8])> = vec![
         (1000, [0, 20, 1, 2, 3, 4, 5, 6]),
@@ -265,24 +281,32 @@ pub fn a_clock_set_back() -> u64 {
     ];
     let counters_due = [[0, 0, 0, 2, 0], [1, 0, 0, 2, 0]];
     let mut steps = 0;
-    for (mode, (kinds, counters)) in MODES.into_iter().zip(kinds_due.into_iter().zip(counters_due)) {
+    for chosen in CHOICES {
+        let (kinds, counters) = (kinds_due[chosen.mode.number() as usize], counters_due[chosen.mode.number() as usize]);
+        let heard = |(now, data): &(u64, [u8; 8])| Heard { data: *data, ..continuation(chosen, *now) };
+        let list = [chosen.named(continuation(chosen, 0).pgn)];
         let mut fresh = USED;
-        assert_eq!(made_with_mode(&mut fresh, 4, mode.number()), 0);
-        let mut rows = Rows::default();
-        frames.iter().for_each(|(now, data)| rows.push(*now, PGN, 35, *data));
-        let (mut batch, mut c, mut told) = (fresh.clone(), [0; 5], lent(frames.len(), 8));
-        assert_eq!(batched(&mut batch, &mut c, &[PGN], &rows, &mut told), (0, frames.len(), 8));
-        assert_eq!((told.kinds, c, &told.arena[..]), (kinds.map(|kind| kind as u8).to_vec(), counters, &[1, 2, 3, 4, 5, 6, 7, 8][..]), "{mode:?}");
-        steps += frames.len() as u64;
+        assert_eq!(made_as(chosen, &mut fresh, 4), 0);
+        let mut left = vec![];
         for (length, by_value) in SINGLE_CALLS {
             let (mut p, mut c) = (fresh.clone(), [0; 5]);
-            for ((now, data), kind) in frames.iter().zip(kinds) {
-                let h = Heard { now: *now, pgn: PGN, source: 35, data: *data };
-                assert_eq!(called(&mut p, &mut c, &[PGN], &h, length, by_value).kind, kind, "{mode:?}, {h:?}");
+            for (h, kind) in frames.iter().map(heard).zip(kinds) {
+                assert_eq!(called(&mut p, &mut c, &list, &h, length, by_value).kind, kind, "{chosen:?}, {h:?}");
                 steps += 1;
             }
-            assert_eq!((c, &p), (counters, &batch), "{mode:?}");
+            assert_eq!(c, counters, "{chosen:?}");
+            left.push(p);
         }
+        if !chosen.addressed {
+            let mut rows = Rows::default();
+            frames.iter().map(heard).for_each(|h| rows.push(h.now, h.pgn, h.source, h.data));
+            let (mut p, mut c, mut told) = (fresh, [0; 5], lent(frames.len(), 8));
+            assert_eq!(batched(&mut p, &mut c, &list, &rows, &mut told), (0, frames.len(), 8));
+            assert_eq!((told.kinds, c, &told.arena[..]), (kinds.map(|kind| kind as u8).to_vec(), counters, &[1, 2, 3, 4, 5, 6, 7, 8][..]), "{chosen:?}");
+            steps += frames.len() as u64;
+            left.push(p);
+        }
+        assert!(left.iter().all(|p| *p == left[0]), "{chosen:?}");
     }
     steps
 }

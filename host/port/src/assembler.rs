@@ -1,8 +1,10 @@
 //! From frames to messages: the original's `FastPacketAssembler`, but for the PGN list, which is lent to each call, and for its
 //! Ignored, which here says why. So one call is enough: nothing is asked before it.
-use crate::error::{never_given, ImpossiblePool, NoRoom};
+use crate::can_id::CanId;
+use crate::error::{never_given, ImpossiblePool, NoRoom, TooWide};
 use crate::fast_packet::MAX_FAST_PACKET_PAYLOAD;
 use crate::raw;
+use std::marker::PhantomData;
 
 /// What a session is where now is earlier than its last time, because the clock was set back. Chosen when a pool is made; it stays with it.
 #[derive(Clone, Copy, Debug, Default, PartialEq, Eq)]
@@ -32,11 +34,41 @@ impl Mode {
     }
 }
 
+/// Which key the messages of a pool have. Chosen when a pool is made; it is in the pool's type, so that no call meets a pool of the other kind.
+pub trait PoolKind: sealed::Sealed {
+    /// The number that it has at the entries.
+    const NUMBER: u32;
+}
+
+/// Source, PGN and sequence, as in the original: the calls take PGN and source.
+#[derive(Clone, Copy, Debug, PartialEq, Eq)]
+pub struct Original;
+
+/// The destination too, or none where PF is 240 or more: the calls take the identifier. One sender's answers to two displays at once are two messages.
+#[derive(Clone, Copy, Debug, PartialEq, Eq)]
+pub struct Addressed;
+
+impl PoolKind for Original {
+    const NUMBER: u32 = raw::ORIGINAL;
+}
+
+impl PoolKind for Addressed {
+    const NUMBER: u32 = raw::ADDRESSED;
+}
+
+/// No program adds a kind: the archive has these two.
+mod sealed {
+    pub trait Sealed {}
+    impl Sealed for super::Original {}
+    impl Sealed for super::Addressed {}
+}
+
 /// A pool of sessions and its five counters, as the calls leave them: no other way leads to one, so none is impossible.
 #[derive(Clone, Debug, PartialEq, Eq)]
-pub struct Pool {
+pub struct Pool<Kind = Original> {
     numbers: raw::Pool,
     counters: raw::Counters,
+    kind: PhantomData<Kind>,
 }
 
 /// What a frame got: of a single call with a copy of the message, of a batch with the message as it stands in the arena. The counter
@@ -93,6 +125,8 @@ pub struct Slot<'a> {
     pub sequence_id: u8,
     pub last_frame_index: u8,
     pub pgn: u32,
+    /// That of its key: none while idle, in a pool of the original's kind, and where PF is 240 or more.
+    pub destination: Option<u8>,
     pub expected_size: usize,
     pub current_size: usize,
     pub last_seen_ms: u64,
@@ -106,17 +140,13 @@ pub struct Taken {
     pub used: usize,
 }
 
-impl Pool {
-    /// A fresh pool of up to 32 slots, as the original, counters at 0; more slots are refused.
-    pub fn new(size: usize) -> Result<Self, ImpossiblePool> {
-        Self::made(|numbers| numbers.made_anew(size))
-    }
-    /// The same in a mode of one's choice.
-    pub fn with_mode(size: usize, mode: Mode) -> Result<Self, ImpossiblePool> {
-        Self::made(|numbers| numbers.made_with_mode(size, mode.number()))
+impl<Kind: PoolKind> Pool<Kind> {
+    /// A fresh pool of up to 32 slots in a mode and of a kind of one's choice, counters at 0; more slots are refused.
+    pub fn with_kind(size: usize, mode: Mode, _: Kind) -> Result<Self, ImpossiblePool> {
+        Self::made(|numbers| numbers.made_with_kind(size, mode.number(), Kind::NUMBER))
     }
     fn made(call: impl FnOnce(&mut raw::Pool) -> u32) -> Result<Self, ImpossiblePool> {
-        let mut pool = Self { numbers: raw::Pool::ZEROS, counters: [0; raw::COUNTERS] };
+        let mut pool = Self { numbers: raw::Pool::ZEROS, counters: [0; raw::COUNTERS], kind: PhantomData };
         match call(&mut pool.numbers) {
             0 => Ok(pool),
             ImpossiblePool::NUMBER => Err(ImpossiblePool),
@@ -158,11 +188,23 @@ impl Pool {
             sequence_id: head[2] as u8,
             last_frame_index: head[3] as u8,
             pgn: head[4] as u32,
-            expected_size: head[5] as usize,
-            current_size: head[6] as usize,
-            last_seen_ms: head[7],
+            destination: head[5].checked_sub(1).map(|destination| destination as u8),
+            expected_size: head[6] as usize,
+            current_size: head[7] as usize,
+            last_seen_ms: head[8],
             buffer: self.numbers.bytes.chunks_exact(MAX_FAST_PACKET_PAYLOAD).nth(k)?,
         })
+    }
+}
+
+impl Pool {
+    /// A fresh pool of up to 32 slots, as the original, counters at 0; more slots are refused.
+    pub fn new(size: usize) -> Result<Self, ImpossiblePool> {
+        Self::made(|numbers| numbers.made_anew(size))
+    }
+    /// The same in a mode of one's choice.
+    pub fn with_mode(size: usize, mode: Mode) -> Result<Self, ImpossiblePool> {
+        Self::made(|numbers| numbers.made_with_mode(size, mode.number()))
     }
 
     pub fn process_frame(&mut self, pgns: &[u32], now_ms: u64, pgn: u32, source_address: u8, data: &[u8; 8]) -> ProcessResult {
@@ -198,20 +240,46 @@ impl Pool {
     }
 }
 
+impl Pool<Addressed> {
+    /// `Pool::process_frame` for a frame by its identifier; one that is too wide is refused, and nothing has changed.
+    pub fn process_frame_by_id(&mut self, pgns: &[u32], now_ms: u64, id: CanId, data: &[u8; 8]) -> Result<ProcessResult, TooWide> {
+        answer_by_id(|payload, length| self.numbers.process_frame_by_id(&mut self.counters, pgns, now_ms, id.0, data, payload, length))
+    }
+    /// `Pool::receive` likewise.
+    pub fn receive_by_id(&mut self, pgns: &[u32], now_ms: u64, id: CanId, data: &[u8; 8]) -> Result<ProcessResult, TooWide> {
+        answer_by_id(|payload, length| self.numbers.receive_by_id(&mut self.counters, pgns, now_ms, id.0, data, payload, length))
+    }
+    /// `Pool::process_frame_with_length` likewise.
+    pub fn process_frame_by_id_with_length(&mut self, pgns: &[u32], now_ms: u64, id: CanId, data: &[u8; 8], frame_length: usize) -> Result<ProcessResult, TooWide> {
+        answer_by_id(|payload, length| self.numbers.process_frame_by_id_with_length(&mut self.counters, pgns, now_ms, id.0, data, frame_length, payload, length))
+    }
+}
+
 impl Default for Pool {
     /// Four slots, as the original.
     fn default() -> Self {
-        let mut pool = Self { numbers: raw::Pool::ZEROS, counters: [0; raw::COUNTERS] };
+        let mut pool = Self { numbers: raw::Pool::ZEROS, counters: [0; raw::COUNTERS], kind: PhantomData };
         pool.numbers.made_by_default();
         pool
     }
 }
 
-/// A single call's kind with its message. The refusal, 1, is for pools that no value of `Pool` is; it has no case of its own.
-fn answer(call: impl FnOnce(&mut [u8; MAX_FAST_PACKET_PAYLOAD], &mut usize) -> u32) -> ProcessResult {
+/// A single call's kind with its message, or the number that is no kind. Refusal 1 is for pools that no value of `Pool` is; it has no case of its own.
+fn named(call: impl FnOnce(&mut [u8; MAX_FAST_PACKET_PAYLOAD], &mut usize) -> u32) -> Result<ProcessResult, u32> {
     let (mut payload, mut len) = ([0; MAX_FAST_PACKET_PAYLOAD], 0);
     let kind = call(&mut payload, &mut len);
-    ProcessResult::named(kind, || Some(CompletedMessage { payload, len })).unwrap_or_else(|| never_given(kind))
+    ProcessResult::named(kind, || Some(CompletedMessage { payload, len })).ok_or(kind)
+}
+
+fn answer(call: impl FnOnce(&mut [u8; MAX_FAST_PACKET_PAYLOAD], &mut usize) -> u32) -> ProcessResult {
+    named(call).unwrap_or_else(|number| never_given(number))
+}
+
+fn answer_by_id(call: impl FnOnce(&mut [u8; MAX_FAST_PACKET_PAYLOAD], &mut usize) -> u32) -> Result<ProcessResult, TooWide> {
+    named(call).map_err(|number| match number {
+        TooWide::NUMBER => TooWide,
+        other => never_given(other),
+    })
 }
 
 /// Rows of frames: a time, a PGN, a source and eight bytes of `data` each.

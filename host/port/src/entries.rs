@@ -29,27 +29,44 @@ unsafe extern "C" {
     ) -> u32;
 
     // ---- crates/ffi/src/pools.rt
-    pub safe fn hf_raw_pool_new(wanted: usize, heads: &mut [u64; POOL_HEADS], bytes: &mut [u8; POOL_BYTES], size: &mut usize, mode: &mut u32) -> u32;
-    pub safe fn hf_raw_pool_default(heads: &mut [u64; POOL_HEADS], bytes: &mut [u8; POOL_BYTES], size: &mut usize, mode: &mut u32) -> u32;
-    pub safe fn hf_raw_pool_with_mode(wanted: usize, asked: u32, heads: &mut [u64; POOL_HEADS], bytes: &mut [u8; POOL_BYTES], size: &mut usize, mode: &mut u32) -> u32;
+    pub safe fn hf_raw_pool_new(wanted: usize, heads: &mut [u64; POOL_HEADS], bytes: &mut [u8; POOL_BYTES], size: &mut usize, mode: &mut u32, kind: &mut u32) -> u32;
+    pub safe fn hf_raw_pool_default(heads: &mut [u64; POOL_HEADS], bytes: &mut [u8; POOL_BYTES], size: &mut usize, mode: &mut u32, kind: &mut u32) -> u32;
+    pub safe fn hf_raw_pool_with_mode(
+        wanted: usize, asked: u32, heads: &mut [u64; POOL_HEADS], bytes: &mut [u8; POOL_BYTES], size: &mut usize, mode: &mut u32, kind: &mut u32,
+    ) -> u32;
+    pub safe fn hf_raw_pool_with_kind(
+        wanted: usize, asked: u32, asked_kind: u32, heads: &mut [u64; POOL_HEADS], bytes: &mut [u8; POOL_BYTES], size: &mut usize, mode: &mut u32, kind: &mut u32,
+    ) -> u32;
     pub unsafe fn hf_raw_process_frame(
-        size: usize, mode: u32, heads: &mut [u64; POOL_HEADS], bytes: &mut [u8; POOL_BYTES], counters: &mut [u32; 5], pgns: *const u32, pgns_len: usize, now_ms: u64, pgn: u32,
-        source_address: u8, data: &[u8; 8], payload: &mut [u8; MAX_FAST_PACKET_PAYLOAD], length: &mut usize,
+        size: usize, mode: u32, kind: u32, heads: &mut [u64; POOL_HEADS], bytes: &mut [u8; POOL_BYTES], counters: &mut [u32; 5], pgns: *const u32, pgns_len: usize, now_ms: u64,
+        pgn: u32, source_address: u8, data: &[u8; 8], payload: &mut [u8; MAX_FAST_PACKET_PAYLOAD], length: &mut usize,
     ) -> u32;
     pub unsafe fn hf_raw_receive(
-        size: usize, mode: u32, heads: &mut [u64; POOL_HEADS], bytes: &mut [u8; POOL_BYTES], counters: &mut [u32; 5], pgns: *const u32, pgns_len: usize, now_ms: u64, pgn: u32,
-        source_address: u8, data: &[u8; 8], payload: &mut [u8; MAX_FAST_PACKET_PAYLOAD], length: &mut usize,
+        size: usize, mode: u32, kind: u32, heads: &mut [u64; POOL_HEADS], bytes: &mut [u8; POOL_BYTES], counters: &mut [u32; 5], pgns: *const u32, pgns_len: usize, now_ms: u64,
+        pgn: u32, source_address: u8, data: &[u8; 8], payload: &mut [u8; MAX_FAST_PACKET_PAYLOAD], length: &mut usize,
     ) -> u32;
     pub unsafe fn hf_raw_process_frame_with_length(
-        size: usize, mode: u32, heads: &mut [u64; POOL_HEADS], bytes: &mut [u8; POOL_BYTES], counters: &mut [u32; 5], pgns: *const u32, pgns_len: usize, now_ms: u64, pgn: u32,
-        source_address: u8, data: &[u8; 8], frame_length: usize, payload: &mut [u8; MAX_FAST_PACKET_PAYLOAD], length: &mut usize,
+        size: usize, mode: u32, kind: u32, heads: &mut [u64; POOL_HEADS], bytes: &mut [u8; POOL_BYTES], counters: &mut [u32; 5], pgns: *const u32, pgns_len: usize, now_ms: u64,
+        pgn: u32, source_address: u8, data: &[u8; 8], frame_length: usize, payload: &mut [u8; MAX_FAST_PACKET_PAYLOAD], length: &mut usize,
+    ) -> u32;
+    pub unsafe fn hf_raw_process_frame_by_id(
+        size: usize, mode: u32, kind: u32, heads: &mut [u64; POOL_HEADS], bytes: &mut [u8; POOL_BYTES], counters: &mut [u32; 5], pgns: *const u32, pgns_len: usize, now_ms: u64,
+        id: u32, data: &[u8; 8], payload: &mut [u8; MAX_FAST_PACKET_PAYLOAD], length: &mut usize,
+    ) -> u32;
+    pub unsafe fn hf_raw_receive_by_id(
+        size: usize, mode: u32, kind: u32, heads: &mut [u64; POOL_HEADS], bytes: &mut [u8; POOL_BYTES], counters: &mut [u32; 5], pgns: *const u32, pgns_len: usize, now_ms: u64,
+        id: u32, data: &[u8; 8], payload: &mut [u8; MAX_FAST_PACKET_PAYLOAD], length: &mut usize,
+    ) -> u32;
+    pub unsafe fn hf_raw_process_frame_by_id_with_length(
+        size: usize, mode: u32, kind: u32, heads: &mut [u64; POOL_HEADS], bytes: &mut [u8; POOL_BYTES], counters: &mut [u32; 5], pgns: *const u32, pgns_len: usize, now_ms: u64,
+        id: u32, data: &[u8; 8], frame_length: usize, payload: &mut [u8; MAX_FAST_PACKET_PAYLOAD], length: &mut usize,
     ) -> u32;
 
     // ---- crates/ffi/src/batches.rt
     pub unsafe fn hf_raw_process_frames(
-        size: usize, mode: u32, heads: &mut [u64; POOL_HEADS], bytes: &mut [u8; POOL_BYTES], counters: &mut [u32; 5], pgns: *const u32, pgns_len: usize, times: *const u64,
-        times_len: usize, frame_pgns: *const u32, frame_pgns_len: usize, sources: *const u8, sources_len: usize, data: *const u8, data_len: usize, kinds: *mut u8,
-        kinds_len: usize, lengths: *mut u8, lengths_len: usize, arena: *mut u8, arena_len: usize, counts: &mut [u64; 2],
+        size: usize, mode: u32, kind: u32, heads: &mut [u64; POOL_HEADS], bytes: &mut [u8; POOL_BYTES], counters: &mut [u32; 5], pgns: *const u32, pgns_len: usize,
+        times: *const u64, times_len: usize, frame_pgns: *const u32, frame_pgns_len: usize, sources: *const u8, sources_len: usize, data: *const u8, data_len: usize,
+        kinds: *mut u8, kinds_len: usize, lengths: *mut u8, lengths_len: usize, arena: *mut u8, arena_len: usize, counts: &mut [u64; 2],
     ) -> u32;
 
     // ---- crates/ffi/src/bench_entries.rt

@@ -50,7 +50,7 @@ fn back<T>(x: &mut T) -> Slice {
 }
 
 /// How many entries there are; their numbers are in the order of host/hingefrost.h.
-const ENTRIES: usize = 23;
+const ENTRIES: usize = 27;
 
 /// How often each entry was called.
 static CALLS: [AtomicU64; ENTRIES] = [const { AtomicU64::new(0) }; ENTRIES];
@@ -130,58 +130,81 @@ pub unsafe fn hf_raw_next_frame(
 pub unsafe fn hf_raw_frame_iterator_next(builder: &[u64; 6], place: &mut [u64; 2], payload: *const u8, payload_len: usize, data: &mut [u8; 8], frame: &mut [u64; 3]) -> u32 {
     call(11, &[], &[lent(builder), back(place), i(payload, payload_len), back(data), back(frame)]) as u32
 }
-pub fn hf_raw_pool_new(wanted: usize, heads: &mut [u64; POOL_HEADS], bytes: &mut [u8; POOL_BYTES], size: &mut usize, mode: &mut u32) -> u32 {
-    call(12, &[wanted as u64], &[back(heads), back(bytes), back(size), back(mode)]) as u32
+pub fn hf_raw_pool_new(wanted: usize, heads: &mut [u64; POOL_HEADS], bytes: &mut [u8; POOL_BYTES], size: &mut usize, mode: &mut u32, kind: &mut u32) -> u32 {
+    call(12, &[wanted as u64], &[back(heads), back(bytes), back(size), back(mode), back(kind)]) as u32
 }
-pub fn hf_raw_pool_default(heads: &mut [u64; POOL_HEADS], bytes: &mut [u8; POOL_BYTES], size: &mut usize, mode: &mut u32) -> u32 {
-    call(13, &[], &[back(heads), back(bytes), back(size), back(mode)]) as u32
+pub fn hf_raw_pool_default(heads: &mut [u64; POOL_HEADS], bytes: &mut [u8; POOL_BYTES], size: &mut usize, mode: &mut u32, kind: &mut u32) -> u32 {
+    call(13, &[], &[back(heads), back(bytes), back(size), back(mode), back(kind)]) as u32
 }
-pub fn hf_raw_pool_with_mode(wanted: usize, asked: u32, heads: &mut [u64; POOL_HEADS], bytes: &mut [u8; POOL_BYTES], size: &mut usize, mode: &mut u32) -> u32 {
-    call(14, &[wanted as u64, asked as u64], &[back(heads), back(bytes), back(size), back(mode)]) as u32
+pub fn hf_raw_pool_with_mode(wanted: usize, asked: u32, heads: &mut [u64; POOL_HEADS], bytes: &mut [u8; POOL_BYTES], size: &mut usize, mode: &mut u32, kind: &mut u32) -> u32 {
+    call(14, &[wanted as u64, asked as u64], &[back(heads), back(bytes), back(size), back(mode), back(kind)]) as u32
+}
+pub fn hf_raw_pool_with_kind(
+    wanted: usize, asked: u32, asked_kind: u32, heads: &mut [u64; POOL_HEADS], bytes: &mut [u8; POOL_BYTES], size: &mut usize, mode: &mut u32, kind: &mut u32,
+) -> u32 {
+    call(15, &[wanted as u64, asked as u64, asked_kind as u64], &[back(heads), back(bytes), back(size), back(mode), back(kind)]) as u32
 }
 pub unsafe fn hf_raw_process_frame(
-    size: usize, mode: u32, heads: &mut [u64; POOL_HEADS], bytes: &mut [u8; POOL_BYTES], counters: &mut [u32; 5], pgns: *const u32, pgns_len: usize, now_ms: u64, pgn: u32,
-    source_address: u8, data: &[u8; 8], payload: &mut [u8; MAX_FAST_PACKET_PAYLOAD], length: &mut usize,
+    size: usize, mode: u32, kind: u32, heads: &mut [u64; POOL_HEADS], bytes: &mut [u8; POOL_BYTES], counters: &mut [u32; 5], pgns: *const u32, pgns_len: usize, now_ms: u64, pgn: u32, source_address: u8,
+    data: &[u8; 8], payload: &mut [u8; MAX_FAST_PACKET_PAYLOAD], length: &mut usize,
 ) -> u32 {
-    call(15, &[size as u64, mode as u64, now_ms, pgn as u64, source_address as u64], &[back(heads), back(bytes), back(counters), i(pgns, pgns_len), lent(data), back(payload), back(length)]) as u32
+    call(16, &[size as u64, mode as u64, kind as u64, now_ms, pgn as u64, source_address as u64], &[back(heads), back(bytes), back(counters), i(pgns, pgns_len), lent(data), back(payload), back(length)]) as u32
 }
 pub unsafe fn hf_raw_receive(
-    size: usize, mode: u32, heads: &mut [u64; POOL_HEADS], bytes: &mut [u8; POOL_BYTES], counters: &mut [u32; 5], pgns: *const u32, pgns_len: usize, now_ms: u64, pgn: u32,
-    source_address: u8, data: &[u8; 8], payload: &mut [u8; MAX_FAST_PACKET_PAYLOAD], length: &mut usize,
+    size: usize, mode: u32, kind: u32, heads: &mut [u64; POOL_HEADS], bytes: &mut [u8; POOL_BYTES], counters: &mut [u32; 5], pgns: *const u32, pgns_len: usize, now_ms: u64, pgn: u32, source_address: u8,
+    data: &[u8; 8], payload: &mut [u8; MAX_FAST_PACKET_PAYLOAD], length: &mut usize,
 ) -> u32 {
-    call(16, &[size as u64, mode as u64, now_ms, pgn as u64, source_address as u64], &[back(heads), back(bytes), back(counters), i(pgns, pgns_len), lent(data), back(payload), back(length)]) as u32
+    call(17, &[size as u64, mode as u64, kind as u64, now_ms, pgn as u64, source_address as u64], &[back(heads), back(bytes), back(counters), i(pgns, pgns_len), lent(data), back(payload), back(length)]) as u32
 }
 pub unsafe fn hf_raw_process_frame_with_length(
-    size: usize, mode: u32, heads: &mut [u64; POOL_HEADS], bytes: &mut [u8; POOL_BYTES], counters: &mut [u32; 5], pgns: *const u32, pgns_len: usize, now_ms: u64, pgn: u32,
-    source_address: u8, data: &[u8; 8], frame_length: usize, payload: &mut [u8; MAX_FAST_PACKET_PAYLOAD], length: &mut usize,
+    size: usize, mode: u32, kind: u32, heads: &mut [u64; POOL_HEADS], bytes: &mut [u8; POOL_BYTES], counters: &mut [u32; 5], pgns: *const u32, pgns_len: usize, now_ms: u64, pgn: u32, source_address: u8,
+    data: &[u8; 8], frame_length: usize, payload: &mut [u8; MAX_FAST_PACKET_PAYLOAD], length: &mut usize,
 ) -> u32 {
-    call(17, &[size as u64, mode as u64, now_ms, pgn as u64, source_address as u64, frame_length as u64], &[back(heads), back(bytes), back(counters), i(pgns, pgns_len), lent(data), back(payload), back(length)]) as u32
+    call(18, &[size as u64, mode as u64, kind as u64, now_ms, pgn as u64, source_address as u64, frame_length as u64], &[back(heads), back(bytes), back(counters), i(pgns, pgns_len), lent(data), back(payload), back(length)]) as u32
+}
+pub unsafe fn hf_raw_process_frame_by_id(
+    size: usize, mode: u32, kind: u32, heads: &mut [u64; POOL_HEADS], bytes: &mut [u8; POOL_BYTES], counters: &mut [u32; 5], pgns: *const u32, pgns_len: usize, now_ms: u64, id: u32,
+    data: &[u8; 8], payload: &mut [u8; MAX_FAST_PACKET_PAYLOAD], length: &mut usize,
+) -> u32 {
+    call(19, &[size as u64, mode as u64, kind as u64, now_ms, id as u64], &[back(heads), back(bytes), back(counters), i(pgns, pgns_len), lent(data), back(payload), back(length)]) as u32
+}
+pub unsafe fn hf_raw_receive_by_id(
+    size: usize, mode: u32, kind: u32, heads: &mut [u64; POOL_HEADS], bytes: &mut [u8; POOL_BYTES], counters: &mut [u32; 5], pgns: *const u32, pgns_len: usize, now_ms: u64, id: u32,
+    data: &[u8; 8], payload: &mut [u8; MAX_FAST_PACKET_PAYLOAD], length: &mut usize,
+) -> u32 {
+    call(20, &[size as u64, mode as u64, kind as u64, now_ms, id as u64], &[back(heads), back(bytes), back(counters), i(pgns, pgns_len), lent(data), back(payload), back(length)]) as u32
+}
+pub unsafe fn hf_raw_process_frame_by_id_with_length(
+    size: usize, mode: u32, kind: u32, heads: &mut [u64; POOL_HEADS], bytes: &mut [u8; POOL_BYTES], counters: &mut [u32; 5], pgns: *const u32, pgns_len: usize, now_ms: u64, id: u32,
+    data: &[u8; 8], frame_length: usize, payload: &mut [u8; MAX_FAST_PACKET_PAYLOAD], length: &mut usize,
+) -> u32 {
+    call(21, &[size as u64, mode as u64, kind as u64, now_ms, id as u64, frame_length as u64], &[back(heads), back(bytes), back(counters), i(pgns, pgns_len), lent(data), back(payload), back(length)]) as u32
 }
 pub unsafe fn hf_raw_process_frames(
-    size: usize, mode: u32, heads: &mut [u64; POOL_HEADS], bytes: &mut [u8; POOL_BYTES], counters: &mut [u32; 5], pgns: *const u32, pgns_len: usize, times: *const u64, times_len: usize,
-    frame_pgns: *const u32, frame_pgns_len: usize, sources: *const u8, sources_len: usize, data: *const u8, data_len: usize, kinds: *mut u8, kinds_len: usize,
-    lengths: *mut u8, lengths_len: usize, arena: *mut u8, arena_len: usize, counts: &mut [u64; 2],
+    size: usize, mode: u32, kind: u32, heads: &mut [u64; POOL_HEADS], bytes: &mut [u8; POOL_BYTES], counters: &mut [u32; 5], pgns: *const u32, pgns_len: usize,
+    times: *const u64, times_len: usize, frame_pgns: *const u32, frame_pgns_len: usize, sources: *const u8, sources_len: usize, data: *const u8, data_len: usize,
+    kinds: *mut u8, kinds_len: usize, lengths: *mut u8, lengths_len: usize, arena: *mut u8, arena_len: usize, counts: &mut [u64; 2],
 ) -> u32 {
-    call(18, &[size as u64, mode as u64], &[back(heads), back(bytes), back(counters), i(pgns, pgns_len), i(times, times_len), i(frame_pgns, frame_pgns_len), i(sources, sources_len), i(data, data_len), o(kinds, kinds_len), o(lengths, lengths_len), o(arena, arena_len), back(counts)]) as u32
+    call(22, &[size as u64, mode as u64, kind as u64], &[back(heads), back(bytes), back(counters), i(pgns, pgns_len), i(times, times_len), i(frame_pgns, frame_pgns_len), i(sources, sources_len), i(data, data_len), o(kinds, kinds_len), o(lengths, lengths_len), o(arena, arena_len), back(counts)]) as u32
 }
 pub unsafe fn hf_reassemble(
     ids: *const u32, ids_len: usize, bytes: *const u8, bytes_len: usize, lens: *const usize, lens_len: usize, source: u8, pgn: u32, list: *mut usize, list_len: usize,
     arena: *mut u8, arena_len: usize, values: &mut [u64; 5],
 ) -> u32 {
-    call(19, &[source as u64, pgn as u64], &[i(ids, ids_len), i(bytes, bytes_len), i(lens, lens_len), o(list, list_len), o(arena, arena_len), back(values)]) as u32
+    call(23, &[source as u64, pgn as u64], &[i(ids, ids_len), i(bytes, bytes_len), i(lens, lens_len), o(list, list_len), o(arena, arena_len), back(values)]) as u32
 }
 pub fn hf_frame_count(ids: usize, bytes: usize, lens: usize) -> usize {
-    call(20, &[ids as u64, bytes as u64, lens as u64], &[]) as usize
+    call(24, &[ids as u64, bytes as u64, lens as u64], &[]) as usize
 }
 pub unsafe fn hf_fast_packet_frames(
     id: u32, sequence: u8, payload: *const u8, payload_len: usize, ids: *mut u32, ids_len: usize, bytes: *mut u8, bytes_len: usize, lens: *mut usize, lens_len: usize,
     frames: &mut usize,
 ) -> u32 {
-    call(21, &[id as u64, sequence as u64], &[i(payload, payload_len), o(ids, ids_len), o(bytes, bytes_len), o(lens, lens_len), back(frames)]) as u32
+    call(25, &[id as u64, sequence as u64], &[i(payload, payload_len), o(ids, ids_len), o(bytes, bytes_len), o(lens, lens_len), back(frames)]) as u32
 }
 pub unsafe fn hf_check_tx(
     ids: *const u32, ids_len: usize, bytes: *const u8, bytes_len: usize, lens: *const usize, lens_len: usize, source: u8, expected: usize, hours_base: u32,
     values: &mut [u64; 5],
 ) -> u32 {
-    call(22, &[source as u64, expected as u64, hours_base as u64], &[i(ids, ids_len), i(bytes, bytes_len), i(lens, lens_len), back(values)]) as u32
+    call(26, &[source as u64, expected as u64, hours_base as u64], &[i(ids, ids_len), i(bytes, bytes_len), i(lens, lens_len), back(values)]) as u32
 }

@@ -17,7 +17,7 @@ pub use crate::entries::calls;
 // ---- the sizes of what is lent
 
 pub const POOL_SLOTS: usize = 32;
-pub const SLOT_NUMBERS: usize = 8;
+pub const SLOT_NUMBERS: usize = 9;
 pub const POOL_HEADS: usize = POOL_SLOTS * SLOT_NUMBERS;
 pub const POOL_BYTES: usize = POOL_SLOTS * MAX_FAST_PACKET_PAYLOAD;
 pub const COUNTERS: usize = 5;
@@ -31,6 +31,11 @@ pub const VALUES: usize = 5;
 
 pub const AS_ORIGINAL: u32 = 0;
 pub const SET_BACK_IS_SILENCE: u32 = 1;
+
+// ---- the kinds of a pool: whether its key has the destination; any other number is no kind
+
+pub const ORIGINAL: u32 = 0;
+pub const ADDRESSED: u32 = 1;
 
 // ---- the kinds of an answer that is no refusal, of a single call and of a batch's row; 101 was Ignored, and is given no more
 
@@ -69,12 +74,13 @@ pub fn frame_iterator_next(builder: &[u64; BUILDER_NUMBERS], place: &mut [u64; P
 
 // ---- pools
 
-/// Slot k: eight numbers of `heads` from 8 * k on (in progress, source, sequence, last index, PGN, expected size, current
-/// size, last time) and 223 of `bytes` from 223 * k on.
+/// Slot k: nine numbers of `heads` from 9 * k on (in progress, source, sequence, last index, PGN, part, expected size, current
+/// size, last time) and 223 of `bytes` from 223 * k on. The part is the destination's in the key: 0 for none, or the destination plus 1.
 #[derive(Clone, Debug, PartialEq, Eq)]
 pub struct Pool {
     pub size: usize,
     pub mode: u32,
+    pub kind: u32,
     pub heads: [u64; POOL_HEADS],
     pub bytes: [u8; POOL_BYTES],
 }
@@ -101,28 +107,39 @@ impl Told {
 }
 
 impl Pool {
-    pub const ZEROS: Pool = Pool { size: 0, mode: 0, heads: [0; POOL_HEADS], bytes: [0; POOL_BYTES] };
+    pub const ZEROS: Pool = Pool { size: 0, mode: 0, kind: 0, heads: [0; POOL_HEADS], bytes: [0; POOL_BYTES] };
 
     pub fn made_anew(&mut self, size: usize) -> u32 {
-        hf_raw_pool_new(size, &mut self.heads, &mut self.bytes, &mut self.size, &mut self.mode)
+        hf_raw_pool_new(size, &mut self.heads, &mut self.bytes, &mut self.size, &mut self.mode, &mut self.kind)
     }
     pub fn made_by_default(&mut self) -> u32 {
-        hf_raw_pool_default(&mut self.heads, &mut self.bytes, &mut self.size, &mut self.mode)
+        hf_raw_pool_default(&mut self.heads, &mut self.bytes, &mut self.size, &mut self.mode, &mut self.kind)
     }
     pub fn made_with_mode(&mut self, size: usize, mode: u32) -> u32 {
-        hf_raw_pool_with_mode(size, mode, &mut self.heads, &mut self.bytes, &mut self.size, &mut self.mode)
+        hf_raw_pool_with_mode(size, mode, &mut self.heads, &mut self.bytes, &mut self.size, &mut self.mode, &mut self.kind)
+    }
+    pub fn made_with_kind(&mut self, size: usize, mode: u32, kind: u32) -> u32 {
+        hf_raw_pool_with_kind(size, mode, kind, &mut self.heads, &mut self.bytes, &mut self.size, &mut self.mode, &mut self.kind)
     }
     #[inline]
     pub fn process_frame(
         &mut self, counters: &mut Counters, pgns: &[u32], now_ms: u64, pgn: u32, source_address: u8, data: &[u8; 8], payload: &mut [u8; MAX_FAST_PACKET_PAYLOAD], length: &mut usize,
     ) -> u32 {
-        unsafe { hf_raw_process_frame(self.size, self.mode, &mut self.heads, &mut self.bytes, counters, pgns.as_ptr(), pgns.len(), now_ms, pgn, source_address, data, payload, length) }
+        unsafe {
+            hf_raw_process_frame(
+                self.size, self.mode, self.kind, &mut self.heads, &mut self.bytes, counters, pgns.as_ptr(), pgns.len(), now_ms, pgn, source_address, data, payload, length,
+            )
+        }
     }
     #[inline]
     pub fn receive(
         &mut self, counters: &mut Counters, pgns: &[u32], now_ms: u64, pgn: u32, source_address: u8, data: &[u8; 8], payload: &mut [u8; MAX_FAST_PACKET_PAYLOAD], length: &mut usize,
     ) -> u32 {
-        unsafe { hf_raw_receive(self.size, self.mode, &mut self.heads, &mut self.bytes, counters, pgns.as_ptr(), pgns.len(), now_ms, pgn, source_address, data, payload, length) }
+        unsafe {
+            hf_raw_receive(
+                self.size, self.mode, self.kind, &mut self.heads, &mut self.bytes, counters, pgns.as_ptr(), pgns.len(), now_ms, pgn, source_address, data, payload, length,
+            )
+        }
     }
     pub fn process_frame_with_length(
         &mut self, counters: &mut Counters, pgns: &[u32], now_ms: u64, pgn: u32, source_address: u8, data: &[u8; 8], frame_length: usize, payload: &mut [u8; MAX_FAST_PACKET_PAYLOAD],
@@ -130,7 +147,30 @@ impl Pool {
     ) -> u32 {
         unsafe {
             hf_raw_process_frame_with_length(
-                self.size, self.mode, &mut self.heads, &mut self.bytes, counters, pgns.as_ptr(), pgns.len(), now_ms, pgn, source_address, data, frame_length, payload, length,
+                self.size, self.mode, self.kind, &mut self.heads, &mut self.bytes, counters, pgns.as_ptr(), pgns.len(), now_ms, pgn, source_address, data, frame_length, payload, length,
+            )
+        }
+    }
+    #[inline]
+    pub fn process_frame_by_id(
+        &mut self, counters: &mut Counters, pgns: &[u32], now_ms: u64, id: u32, data: &[u8; 8], payload: &mut [u8; MAX_FAST_PACKET_PAYLOAD], length: &mut usize,
+    ) -> u32 {
+        unsafe {
+            hf_raw_process_frame_by_id(self.size, self.mode, self.kind, &mut self.heads, &mut self.bytes, counters, pgns.as_ptr(), pgns.len(), now_ms, id, data, payload, length)
+        }
+    }
+    #[inline]
+    pub fn receive_by_id(
+        &mut self, counters: &mut Counters, pgns: &[u32], now_ms: u64, id: u32, data: &[u8; 8], payload: &mut [u8; MAX_FAST_PACKET_PAYLOAD], length: &mut usize,
+    ) -> u32 {
+        unsafe { hf_raw_receive_by_id(self.size, self.mode, self.kind, &mut self.heads, &mut self.bytes, counters, pgns.as_ptr(), pgns.len(), now_ms, id, data, payload, length) }
+    }
+    pub fn process_frame_by_id_with_length(
+        &mut self, counters: &mut Counters, pgns: &[u32], now_ms: u64, id: u32, data: &[u8; 8], frame_length: usize, payload: &mut [u8; MAX_FAST_PACKET_PAYLOAD], length: &mut usize,
+    ) -> u32 {
+        unsafe {
+            hf_raw_process_frame_by_id_with_length(
+                self.size, self.mode, self.kind, &mut self.heads, &mut self.bytes, counters, pgns.as_ptr(), pgns.len(), now_ms, id, data, frame_length, payload, length,
             )
         }
     }
@@ -140,8 +180,9 @@ impl Pool {
     ) -> u32 {
         unsafe {
             hf_raw_process_frames(
-                self.size, self.mode, &mut self.heads, &mut self.bytes, counters, pgns.as_ptr(), pgns.len(), times.as_ptr(), times.len(), frame_pgns.as_ptr(), frame_pgns.len(),
-                sources.as_ptr(), sources.len(), data.as_ptr(), data.len(), kinds.as_mut_ptr(), kinds.len(), lengths.as_mut_ptr(), lengths.len(), arena.as_mut_ptr(), arena.len(), counts,
+                self.size, self.mode, self.kind, &mut self.heads, &mut self.bytes, counters, pgns.as_ptr(), pgns.len(), times.as_ptr(), times.len(), frame_pgns.as_ptr(),
+                frame_pgns.len(), sources.as_ptr(), sources.len(), data.as_ptr(), data.len(), kinds.as_mut_ptr(), kinds.len(), lengths.as_mut_ptr(), lengths.len(), arena.as_mut_ptr(),
+                arena.len(), counts,
             )
         }
     }

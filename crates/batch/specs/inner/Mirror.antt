@@ -3,7 +3,7 @@
 use mathlib.Core.Bool.{Bool, not, _&&_, _||_}
 use mathlib.Core.List.{List}
 use mathlib.Core.Path.{_≡_}
-use Prim.Native.Nat.{ℕ, zero, suc, _+_, _*_, _<_}
+use Prim.Native.Nat.{ℕ, zero, suc, _+_, _*_, _≤_, _<_, min}
 use lib.ListN.{length, getD}
 use lib.Dec.{eqb, ltb, leb}
 use Rattle.base.specs.Pick.{pick}
@@ -15,28 +15,34 @@ use Rattle.session.specs.Rules.{poolLimit, silentBy}
 use Rattle.session.specs.Frames.{sequenceOf, indexOf, sizeOf}
 use Rattle.session.specs.inner.Search.{firstOf}
 
--- source, PGN and sequence as one number above 0
-unfoldable pub packed : ℕ → ℕ → ℕ → ℕ
-packed source pgn sequence = source * 1099511627776 + pgn * 256 + sequence + 1
+-- source, PGN, sequence and part as one number above 0; parts from 511 on are one, for none of them is a destination's
+unfoldable pub packed : ℕ → ℕ → ℕ → ℕ → ℕ
+packed source pgn sequence part = min part 511 * 281474976710656 + source * 1099511627776 + pgn * 256 + sequence + 1
 
 -- the key of a slot in progress; 0 of an idle one
 unfoldable pub keyNumber : Head → ℕ
-keyNumber h = pick (h .«in_progress») (packed (h .«source_address») (h .pgn) (h .«sequence_id»)) 0
+keyNumber h = pick (h .«in_progress») (packed (h .«source_address») (h .pgn) (h .«sequence_id») (h .part)) 0
 
 unfoldable pub frameKey : Heard → ℕ
-frameKey f = packed (f .«source_address») (f .pgn) (sequenceOf f)
+frameKey f = packed (f .«source_address») (f .pgn) (sequenceOf f) (f .part)
 
--- what the type of a PGN and of a byte bound
-pub record InRange (p b : ℕ) : Type 0 where
+-- what the types of a source, of a PGN and of a byte bound
+pub record InRange (s p b : ℕ) : Type 0 where
+  pub source : s < 256
   pub pgn : p < 4294967296
   pub byte : b < 256
+
+-- a frame's key is in range, and its part is none or a destination's
+pub record Keyed (f : Heard) : Type 0 where
+  pub range : InRange (f .«source_address») (f .pgn) (getD (f .«data») 0 0)
+  pub part : f .part ≤ 256
 
 -- what stands in the three rows for a head
 pub record Shows (h : Head) (k o t : ℕ) : Type 0 where
   pub key : k ≡ keyNumber h
   pub owner : o ≡ h .«source_address»
   pub last : t ≡ h .«last_seen_ms»
-  pub range : InRange (h .pgn) (h .«sequence_id»)
+  pub range : InRange (h .«source_address») (h .pgn) (h .«sequence_id»)
 
 -- the rows show the first n heads
 pub record Mirrors (n : ℕ) (heads : List Head) (ks os ts : List ℕ) : Type 0 where

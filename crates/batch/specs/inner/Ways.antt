@@ -32,7 +32,7 @@ runsOn f h = inTurn f h && ltb 7 (h .«expected_size» - h .«current_size»)
 
 -- what the pool is looked at with, before the first frame
 unfoldable pub blankHeard : Heard
-blankHeard = record { «now_ms» = 0; pgn = 0; «source_address» = 0; «data» = replicate 8 0; length = 8 }
+blankHeard = record { «now_ms» = 0; pgn = 0; «source_address» = 0; part = 0; «data» = replicate 8 0; length = 8 }
 
 -- the refusal, if there is one: of an impossible pool, then of a row too short
 unfoldable pub refusalOf : Bool → Bool → Batched

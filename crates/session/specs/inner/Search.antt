@@ -18,7 +18,7 @@ nothingFound b = record { bad = b; key = poolLimit; live = poolLimit; own = pool
 unfoldable pub looked : Rules → Heard → ℕ → Head → Found → Found
 looked R f i h s =
     record {
-      bad = impossibleHead h || s .bad;
+      bad = impossibleHead R h || s .bad;
       key = pick (hasKey R f h) i (s .key);
       live = pick (hasLiveKey R f h) i (s .live);
       own = pick (isFreeOfSource R f h) i (s .own);

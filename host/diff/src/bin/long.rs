@@ -1,6 +1,6 @@
 //! Differential runs of any length, on all processors: cargo run --offline --release --bin long [steps] [first seed].
 //! Every thread takes the next seed, runs its share of each subject and says what it did; the first difference panics.
-use diff::{bench, clock::MODES, frames, ids, receive};
+use diff::{bench, destination::CHOICES, frames, ids, receive};
 use std::sync::atomic::{AtomicU64, Ordering};
 use std::time::Instant;
 
@@ -19,12 +19,14 @@ fn main() {
                     while done.load(Ordering::SeqCst) < wanted {
                         let k = seed.fetch_add(1, Ordering::SeqCst);
                         let mut steps = 0;
-                        for mode in MODES {
-                            steps += receive::traffic(mode, k, SHARE * 2 / 10);
-                            steps += receive::any_pool(mode, k, SHARE / 10);
-                            steps += receive::batches(mode, k, SHARE / 10);
-                            steps += receive::slots_chosen(mode, k, SHARE / 40);
-                            steps += receive::impossible_pools(mode, k, SHARE / 40);
+                        for chosen in CHOICES {
+                            steps += receive::traffic(chosen, k, SHARE / 10);
+                            steps += receive::any_pool(chosen, k, SHARE / 20);
+                            if !chosen.addressed {
+                                steps += receive::batches(chosen, k, SHARE / 10);
+                            }
+                            steps += receive::slots_chosen(chosen, k, SHARE / 80);
+                            steps += receive::impossible_pools(chosen, k, SHARE / 80);
                         }
                         steps += frames::random(k, SHARE / 20);
                         steps += ids::random(k, SHARE / 20);

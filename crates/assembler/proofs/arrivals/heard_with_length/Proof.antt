@@ -1,4 +1,4 @@
--- `arrivals::heard_with_length` meets its contract. Assumes nothing.
+-- `arrivals::heard_with_length` meets its contract: a frame cut to its length. Assumes nothing.
 use borrow.Author.Needs.{needs}
 use Rattle.assembler.specs.Arrivals.{heardWithLength}
 use Rattle.assembler.proofs.arrivals.heard_with_length.Statement.{statement}
@@ -6,7 +6,12 @@ use Rattle.assembler.proofs.arrivals.heard_with_length.Tie as tie
 
 returns : tie.Need-returns
 unfolding heardWithLength
-returns c = rw (c .before .fill-short .ensures, c .at-most-eight .ensures)
+returns c = rw (c .cut-to .ensures, c .before .heard-of .ensures)
 
 pub heard-with-length-spec : {M : Type 1} → statement M
-heard-with-length-spec = tie.close (tie.spec (λ c κs. search needs) (λ c κs. search needs) returns)
+heard-with-length-spec =
+    tie.close
+    (tie.spec
+    (λ c κs. search needs)
+    (λ c κs. search needs)
+    returns)

@@ -4,10 +4,11 @@ use contract.Running.{tablesOf}
 use borrow.Table.Referent.{fInt, rtF}
 use borrow.Fn.World.{World}
 use Rattle.walk.proofs.Raises.{raises}
-use Rattle.assembler.specs.View.{receiveOf}
 use Rattle.assembler.specs.Arrivals.{heardOf}
-use Rattle.assembler.specs.Promises.{rulesOf, Processes}
+use Rattle.assembler.specs.Promises.{atOriginal, answerTo, Processes}
 use Rattle.assembler.specs.inner.Forms.{processedOf}
+use Rattle.session.specs.declared.PoolKind.the-variants.{Original}
+use Rattle.assembler.proofs.Entries.{frame, known-entered}
 use Rattle.assembler.proofs.Promised.{received-by, process-promised}
 use Rattle.assembler.proofs.Types.{pool, counters, arrival, received, processed}
 use Rattle.assembler.proofs.receiving.receive.Reads as core-reads
@@ -28,9 +29,9 @@ unfolding code.routine tablesOf
 process-frame-spec 𝓤 H 𝓜 𝓖 𝓡 =
     let w : World = record { M = _; 𝓤 = 𝓤; H = H; 𝓜 = 𝓜; 𝓖 = 𝓖; 𝓡 = 𝓡 } in
     raises pool counters arrival received processed (rtF (fInt w32)) core-def.name kept-def.name told-def.name core-reads.Asked core-reads.Learnt kept-reads.Asked kept-reads.Learnt told-reads.Asked told-reads.Learnt
-    (λ p k l x. receiveOf (rulesOf p) l (heardOf x) p k) (λ o. o .counters) processedOf w code.env
+    (λ p k l x. answerTo l (atOriginal p (heardOf x)) p k) (λ o. o .counters) processedOf w code.env
     (core-reads.known w code.env core-def.name core-def.routine code.calls-assembler·receiving·receive (core-thm.met 𝓤 H 𝓜 𝓖 𝓡))
     (kept-reads.known w code.env kept-def.name kept-def.routine code.calls-assembler·lending·counters-of (kept-thm.met 𝓤 H 𝓜 𝓖 𝓡))
     (told-reads.known w code.env told-def.name told-def.routine code.calls-assembler·lending·processed-of (told-thm.met 𝓤 H 𝓜 𝓖 𝓡))
-    (λ κs a. tt) (λ κs a z e q. received-by (a .1 .1 .0 .now) (heardOf (a .1 .1 .1 .0)) (a .0) (a .1 .0) q) (λ a. tt) (λ a z e q. q) (λ a. tt) (λ a z e q. q)
-    (λ p k l x z d. Processes l x p k z d) (λ p k l x z d e c. process-promised l (heardOf x) p k e c) key.name (code.unfolded 𝓤 H 𝓜 𝓡)
+    (λ κs a. tt) (λ κs a z e q. received-by (a .1 .1 .0 .now) (atOriginal (a .0) (heardOf (a .1 .1 .1 .0))) (a .0) (a .1 .0) q) (λ a. tt) (λ a z e q. q) (λ a. tt) (λ a z e q. q)
+    (λ p k l x z d. Processes l x p k z d) (λ p k l x z d e c. process-promised l (atOriginal p (heardOf x)) p k (known-entered Original p (frame _)) e c) key.name (code.unfolded 𝓤 H 𝓜 𝓡)

@@ -8,10 +8,11 @@ use borrow.Fn.World.{World}
 use Rattle.walk.proofs.Walk as walk
 use Rattle.walk.proofs.Walk.{result}
 use Rattle.walk.proofs.Through.{lent-ps, through}
-use Rattle.assembler.specs.View.{receiveOf}
 use Rattle.assembler.specs.Arrivals.{heardOf}
-use Rattle.assembler.specs.Promises.{rulesOf, Receives, Processes}
+use Rattle.assembler.specs.Promises.{atOriginal, answerTo, Receives, Processes}
 use Rattle.assembler.specs.inner.Forms.{processedOf, receivedOf}
+use Rattle.session.specs.declared.PoolKind.the-variants.{Original}
+use Rattle.assembler.proofs.Entries.{frame, known-entered}
 use Rattle.assembler.proofs.Promised.{processed-by, promised}
 use Rattle.assembler.proofs.Types.{pool, counters, arrival, received, processed}
 use Rattle.assembler.proofs.lending.process_frame.Symbol as lent-def
@@ -32,8 +33,8 @@ unfolding code.routine tablesOf
 process-frame-through-spec 𝓤 H 𝓜 𝓖 𝓡 =
     let w : World = record { M = _; 𝓤 = 𝓤; H = H; 𝓜 = 𝓜; 𝓖 = 𝓖; 𝓡 = 𝓡 } in
     through pool counters arrival received processed (rtF (fInt w32)) lent-def.name joined-def.name (λ κs a. Unit {0}) says joined-reads.Asked joined-reads.Learnt
-    (λ p k l x. receiveOf (rulesOf p) l (heardOf x) p k) (λ o. o .counters) processedOf receivedOf w code.env
+    (λ p k l x. answerTo l (atOriginal p (heardOf x)) p k) (λ o. o .counters) processedOf receivedOf w code.env
     (walk.knows 2 (lent-ps pool counters arrival received processed (rtF (fInt w32)) lent-def.name joined-def.name) (result processed) says w code.env lent-def.name lent-def.routine code.calls-assembler·lending·process-frame (lent-thm.met 𝓤 H 𝓜 𝓖 𝓡))
     (joined-reads.known w code.env joined-def.name joined-def.routine code.calls-assembler·lending·joined (joined-thm.met 𝓤 H 𝓜 𝓖 𝓡))
-    (λ κs a. tt) (λ κs a z e q. processed-by (a .1 .1 .0 .now) (heardOf (a .1 .1 .1 .0)) (a .0) (a .1 .0 .now) q) (λ a. tt) (λ a z e q. q) (λ o. refl)
-    (λ p k l x z. Receives l x p k z) (λ p k l x z e. promised l (heardOf x) p k e) key.name (code.unfolded 𝓤 H 𝓜 𝓡)
+    (λ κs a. tt) (λ κs a z e q. processed-by (a .1 .1 .0 .now) (atOriginal (a .0) (heardOf (a .1 .1 .1 .0))) (a .0) (a .1 .0 .now) q) (λ a. tt) (λ a z e q. q) (λ o. refl)
+    (λ p k l x z. Receives l x p k z) (λ p k l x z e. promised l (atOriginal p (heardOf x)) p k (known-entered Original p (frame _)) e) key.name (code.unfolded 𝓤 H 𝓜 𝓡)

@@ -13,7 +13,7 @@ use Rattle.batch.specs.inner.Ways.{blankHeard}
 use Rattle.batch.proofs.RowLaws.{has-room, head-place, number-place, nearer, still-long}
 use Rattle.batch.proofs.WayLaws.{run-missing}
 use Rattle.batch.proofs.Mirrors.{remembers-none, looked-right}
-use Rattle.batch.proofs.Runs.{begins, ends, gives-refused, gives-run, possible, fits-all}
+use Rattle.batch.proofs.Runs.{begins, ends, gives-refused, gives-run, possible, own-kind, fits-all}
 use Rattle.batch.proofs.Promised.{batched, batch-refused}
 use Rattle.batch.proofs.Sought.{small-of}
 use Rattle.batch.proofs.Steps.{Stands, step-missed, stop-short, step-short, runs-fit, step-running, plan-fits, stop-by, step-by}
@@ -22,7 +22,7 @@ use Rattle.batch.proofs.batching.process_frames.Tie as tie
 
 abbrev Inv-loop : tie.InvT-loop
 Inv-loop pgns times frame-pgns sources «data» kinds₀ lengths₀ arena₀ q₀ mode n keys₀ owners₀ lasts₀ zero asked₀ known₀ c₀ used₀ i₀ kinds lengths arena q keys owners lasts asked known c used i =
-    Stands mode pgns (record { times = times; pgns = frame-pgns; sources = sources; bytes = «data» }) q₀ c₀ kinds₀ lengths₀ arena₀ kinds lengths arena q keys owners lasts c used i × Remembers pgns asked known
+    Stands (q₀ .kind) mode pgns (record { times = times; pgns = frame-pgns; sources = sources; bytes = «data» }) q₀ c₀ kinds₀ lengths₀ arena₀ kinds lengths arena q keys owners lasts c used i × Remembers pgns asked known
 
 abbrev μ-loop : tie.MeasureT-loop
 μ-loop pgns times frame-pgns sources «data» kinds₀ lengths₀ arena₀ q₀ mode n keys₀ owners₀ lasts₀ zero asked₀ known₀ c₀ used₀ i₀ kinds lengths arena q keys owners lasts asked known c used i =
@@ -32,7 +32,7 @@ returns : tie.Need-returns Inv-loop μ-loop
 returns c =
     let a = c .before .before .before .before .before .before .before .before .before .before .before .before .args in
     let told = sym (c .before .is-refused .ensures) ∙ c .if1 .taken in
-    batch-refused _ told (gives-refused (rulesBy (a .pool .mode)) (a .pgns .now) (record { times = a .times .now; pgns = a .frame-pgns .now; sources = a .sources .now; bytes = a .«data» .now }) (a .pool) (a .counters) (a .kinds .now) (a .lengths .now) (a .arena .now) (same-limit (a .pool .mode)) blankHeard _ (c .before .before .refusal .ensures) told)
+    batch-refused _ told (gives-refused (rulesBy (a .pool .kind) (a .pool .mode)) (a .pgns .now) (record { times = a .times .now; pgns = a .frame-pgns .now; sources = a .sources .now; bytes = a .«data» .now }) (a .pool) (a .counters) (a .kinds .now) (a .lengths .now) (a .arena .now) (same-limit (a .pool .kind) (a .pool .mode)) blankHeard _ (c .before .before .refusal .ensures) told)
 
 loop-holds : tie.Need-loop-holds Inv-loop μ-loop
 loop-holds c =
@@ -41,8 +41,8 @@ loop-holds c =
     let heads-good = good .0 .1 in
     let bytes-good = good .0 .1 .1 in
     let whole : Whole (a .pool) = record { heads = search (needs, length-unmap); bytes = search needs } in
-    let fit = fits-all (rulesBy (a .pool .mode)) (a .pgns .now) (record { times = a .times .now; pgns = a .frame-pgns .now; sources = a .sources .now; bytes = a .«data» .now }) (a .pool) (a .counters) (a .kinds .now) (a .lengths .now) (a .arena .now) (same-limit (a .pool .mode)) blankHeard _ (c .before .before .before .before .before .before .before .refusal .ensures) (sym (c .before .before .before .before .before .before .is-refused .ensures) ∙ c .before .before .before .before .before .if1 .left) in
-    (record { run = begins (rulesBy (a .pool .mode)) (a .pgns .now) (record { times = a .times .now; pgns = a .frame-pgns .now; sources = a .sources .now; bytes = a .«data» .now }) (a .pool) (a .counters) (a .kinds .now) (a .lengths .now) (a .arena .now) whole fit; possible = possible (rulesBy (a .pool .mode)) (a .pgns .now) (record { times = a .times .now; pgns = a .frame-pgns .now; sources = a .sources .now; bytes = a .«data» .now }) (a .pool) (a .counters) (a .kinds .now) (a .lengths .now) (a .arena .now) (same-limit (a .pool .mode)) blankHeard _ (c .before .before .before .before .before .before .before .refusal .ensures) (sym (c .before .before .before .before .before .before .is-refused .ensures) ∙ c .before .before .before .before .before .if1 .left); mirrors = c .before .before .before .before .mirror-of .ensures }, remembers-none (a .pgns .now) _ (c .is-listed .ensures))
+    let fit = fits-all (rulesBy (a .pool .kind) (a .pool .mode)) (a .pgns .now) (record { times = a .times .now; pgns = a .frame-pgns .now; sources = a .sources .now; bytes = a .«data» .now }) (a .pool) (a .counters) (a .kinds .now) (a .lengths .now) (a .arena .now) (same-limit (a .pool .kind) (a .pool .mode)) blankHeard _ (c .before .before .before .before .before .before .before .refusal .ensures) (sym (c .before .before .before .before .before .before .is-refused .ensures) ∙ c .before .before .before .before .before .if1 .left) in
+    (record { run = begins (rulesBy (a .pool .kind) (a .pool .mode)) (a .pgns .now) (record { times = a .times .now; pgns = a .frame-pgns .now; sources = a .sources .now; bytes = a .«data» .now }) (a .pool) (a .counters) (a .kinds .now) (a .lengths .now) (a .arena .now) whole fit; own = own-kind (rulesBy (a .pool .kind) (a .pool .mode)) (a .pgns .now) (record { times = a .times .now; pgns = a .frame-pgns .now; sources = a .sources .now; bytes = a .«data» .now }) (a .pool) (a .counters) (a .kinds .now) (a .lengths .now) (a .arena .now) (same-limit (a .pool .kind) (a .pool .mode)) blankHeard _ (c .before .before .before .before .before .before .before .refusal .ensures) (sym (c .before .before .before .before .before .before .is-refused .ensures) ∙ c .before .before .before .before .before .if1 .left); possible = possible (rulesBy (a .pool .kind) (a .pool .mode)) (a .pgns .now) (record { times = a .times .now; pgns = a .frame-pgns .now; sources = a .sources .now; bytes = a .«data» .now }) (a .pool) (a .counters) (a .kinds .now) (a .lengths .now) (a .arena .now) (same-limit (a .pool .kind) (a .pool .mode)) blankHeard _ (c .before .before .before .before .before .before .before .refusal .ensures) (sym (c .before .before .before .before .before .before .is-refused .ensures) ∙ c .before .before .before .before .before .if1 .left); mirrors = c .before .before .before .before .mirror-of .ensures }, remembers-none (a .pgns .now) _ (c .is-listed .ensures))
 
 frame-at-requires : tie.Need-frame-at-requires Inv-loop μ-loop
 frame-at-requires c κs =
@@ -53,7 +53,7 @@ frame-at-requires c κs =
 seek-requires : tie.Need-seek-requires Inv-loop μ-loop
 seek-requires c κs =
     let s = c .before .before .before .before .before .before .before .before .before .loop .inv .0 in
-    (s .mirrors .keys, s .mirrors .owners, s .mirrors .lasts, small-of _ (c .before .before .before .before .before .before .before .before .before .loop .q) (s .possible))
+    (s .mirrors .keys, s .mirrors .owners, s .mirrors .lasts, small-of _ _ (c .before .before .before .before .before .before .before .before .before .loop .q) (s .possible))
 
 slice-write-kinds : tie.Need-slice-write-kinds Inv-loop μ-loop
 slice-write-kinds c = still-long _ _ _ _ (c .before .before .before .before .before .before .before .before .before .before .before .before .before .before .before .loop-test .taken) (c .before .before .before .before .before .before .before .before .before .before .before .before .before .before .before .before .loop .inv .0 .run .kinds) (c .before .before .before .before .before .before .before .before .before .before .before .before .before .before .before .before .loop .inv .0 .run .fit .kinds)
@@ -68,7 +68,7 @@ loop-less : tie.Need-loop-less Inv-loop μ-loop
 loop-less c = nearer _ _ (c .before .before .before .before .before .before .before .before .before .before .before .before .before .before .before .loop-test .taken)
 
 loop-again : tie.Need-loop-again Inv-loop μ-loop
-loop-again c = (step-missed _ _ _ _ _ _ _ _ _ _ _ _ _ _ _ _ _ _ (c .before .before .before .before .before .before .before .before .before .before .before .before .before .before .before .before .loop .inv .0) (c .before .before .before .before .before .before .before .before .before .before .before .before .before .before .before .loop-test .taken) _ (c .before .before .before .before .before .before .before .before .before .before .before .before .before .before .frame-at .ensures) _ (looked-right _ _ _ (c .before .before .before .before .before .before .before .before .before .before .before .before .before .before .before .before .loop .inv .1) _ _ _ _ (c .before .before .before .before .before .before .before .before .before .before .before .looked-up .ensures) .0) _ (c .before .before .before .before .before .before .before .before .before .before .key-of-frame .ensures) _ (c .before .before .before .before .before .before .seek .ensures) (c .before .before .before .before .if2 .taken) _ (c .before .before .before .short-in .ensures .0) (c .before .before .if3 .taken) _ (c .before .missed .ensures .0) _ (c .before .missed .ensures .1), looked-right _ _ _ (c .before .before .before .before .before .before .before .before .before .before .before .before .before .before .before .before .loop .inv .1) _ _ _ _ (c .before .before .before .before .before .before .before .before .before .before .before .looked-up .ensures) .1)
+loop-again c = (step-missed _ _ _ _ _ _ _ _ _ _ _ _ _ _ _ _ _ _ _ (c .before .before .before .before .before .before .before .before .before .before .before .before .before .before .before .before .loop .inv .0) (c .before .before .before .before .before .before .before .before .before .before .before .before .before .before .before .loop-test .taken) _ (c .before .before .before .before .before .before .before .before .before .before .before .before .before .before .frame-at .ensures) _ (looked-right _ _ _ (c .before .before .before .before .before .before .before .before .before .before .before .before .before .before .before .before .loop .inv .1) _ _ _ _ (c .before .before .before .before .before .before .before .before .before .before .before .looked-up .ensures) .0) _ (c .before .before .before .before .before .before .before .before .before .before .key-of-frame .ensures) _ (c .before .before .before .before .before .before .seek .ensures) (c .before .before .before .before .if2 .taken) _ (c .before .before .before .short-in .ensures .0) (c .before .before .if3 .taken) _ (c .before .missed .ensures .0) _ (c .before .missed .ensures .1), looked-right _ _ _ (c .before .before .before .before .before .before .before .before .before .before .before .before .before .before .before .before .loop .inv .1) _ _ _ _ (c .before .before .before .before .before .before .before .before .before .before .before .looked-up .ensures) .1)
 
 same-length : tie.Need-same-length Inv-loop μ-loop
 same-length c = search (needs, c .before .before .before .before .before .before .before .before .before .before .before .before .before .before .before .before .loop .inv .0 .run .kinds)
@@ -82,8 +82,8 @@ same-length-3 c = search (needs, c .before .before .before .before .before .befo
 returns-2 : tie.Need-returns-2 Inv-loop μ-loop
 returns-2 c =
     let a = c .before .before .before .before .before .before .before .before .before .before .before .before .before .before .before .before .before .before .before .before .before .before .before .before .before .before .before .before .before .before .before .before .before .before .args in
-    batched (gives-run (rulesBy (a .pool .mode)) (a .pgns .now) (record { times = a .times .now; pgns = a .frame-pgns .now; sources = a .sources .now; bytes = a .«data» .now }) (a .pool) (a .counters) (a .kinds .now) (a .lengths .now) (a .arena .now) (same-limit (a .pool .mode)) blankHeard _ (c .before .before .before .before .before .before .before .before .before .before .before .before .before .before .before .before .before .before .before .before .before .before .before .before .refusal .ensures) (sym (c .before .before .before .before .before .before .before .before .before .before .before .before .before .before .before .before .before .before .before .before .before .before .before .is-refused .ensures) ∙ c .before .before .before .before .before .before .before .before .before .before .before .before .before .before .before .before .before .before .before .before .before .before .if1 .left) _
-    (stop-short _ _ _ _ _ _ _ _ _ _ _ _ _ _ _ _ _ _ (c .before .before .before .before .before .before .before .before .before .before .before .before .before .before .before .before .loop .inv .0) (c .before .before .before .before .before .before .before .before .before .before .before .before .before .before .before .loop-test .taken) _ (c .before .before .before .before .before .before .before .before .before .before .before .before .before .before .frame-at .ensures) _ (looked-right _ _ _ (c .before .before .before .before .before .before .before .before .before .before .before .before .before .before .before .before .loop .inv .1) _ _ _ _ (c .before .before .before .before .before .before .before .before .before .before .before .looked-up .ensures) .0) _ (c .before .before .before .before .before .before .before .before .before .before .key-of-frame .ensures) _ (c .before .before .before .before .before .before .seek .ensures) (c .before .before .before .before .if2 .taken) _ (c .before .before .before .short-in .ensures .0) (c .before .before .if3 .left) _ (c .before .no-room .ensures) (c .if4 .taken)))
+    batched (gives-run (rulesBy (a .pool .kind) (a .pool .mode)) (a .pgns .now) (record { times = a .times .now; pgns = a .frame-pgns .now; sources = a .sources .now; bytes = a .«data» .now }) (a .pool) (a .counters) (a .kinds .now) (a .lengths .now) (a .arena .now) (same-limit (a .pool .kind) (a .pool .mode)) blankHeard _ (c .before .before .before .before .before .before .before .before .before .before .before .before .before .before .before .before .before .before .before .before .before .before .before .before .refusal .ensures) (sym (c .before .before .before .before .before .before .before .before .before .before .before .before .before .before .before .before .before .before .before .before .before .before .before .is-refused .ensures) ∙ c .before .before .before .before .before .before .before .before .before .before .before .before .before .before .before .before .before .before .before .before .before .before .if1 .left) _
+    (stop-short _ _ _ _ _ _ _ _ _ _ _ _ _ _ _ _ _ _ _ (c .before .before .before .before .before .before .before .before .before .before .before .before .before .before .before .before .loop .inv .0) (c .before .before .before .before .before .before .before .before .before .before .before .before .before .before .before .loop-test .taken) _ (c .before .before .before .before .before .before .before .before .before .before .before .before .before .before .frame-at .ensures) _ (looked-right _ _ _ (c .before .before .before .before .before .before .before .before .before .before .before .before .before .before .before .before .loop .inv .1) _ _ _ _ (c .before .before .before .before .before .before .before .before .before .before .before .looked-up .ensures) .0) _ (c .before .before .before .before .before .before .before .before .before .before .key-of-frame .ensures) _ (c .before .before .before .before .before .before .seek .ensures) (c .before .before .before .before .if2 .taken) _ (c .before .before .before .short-in .ensures .0) (c .before .before .if3 .left) _ (c .before .no-room .ensures) (c .if4 .taken)))
 
 deliver-short-requires : tie.Need-deliver-short-requires Inv-loop μ-loop
 deliver-short-requires c κs = (has-room _ (c .before .before .before .before .before .before .before .before .before .before .before .before .before .before .before .before .before .loop .used) _ _ (c .before .before .no-room .ensures) (c .before .if4 .left), c .before .before .before .before .short-in .ensures .1)
@@ -109,13 +109,13 @@ loop-less-2 : tie.Need-loop-less-2 Inv-loop μ-loop
 loop-less-2 c = nearer _ _ (c .before .before .before .before .before .before .before .before .before .before .before .before .before .before .before .before .before .before .before .loop-test .taken)
 
 loop-again-2 : tie.Need-loop-again-2 Inv-loop μ-loop
-loop-again-2 c = (step-short _ _ _ _ _ _ _ _ _ _ _ _ _ _ _ _ _ _ (c .before .before .before .before .before .before .before .before .before .before .before .before .before .before .before .before .before .before .before .before .loop .inv .0) (c .before .before .before .before .before .before .before .before .before .before .before .before .before .before .before .before .before .before .before .loop-test .taken) _ (c .before .before .before .before .before .before .before .before .before .before .before .before .before .before .before .before .before .before .frame-at .ensures) _ (looked-right _ _ _ (c .before .before .before .before .before .before .before .before .before .before .before .before .before .before .before .before .before .before .before .before .loop .inv .1) _ _ _ _ (c .before .before .before .before .before .before .before .before .before .before .before .before .before .before .before .looked-up .ensures) .0) _ (c .before .before .before .before .before .before .before .before .before .before .before .before .before .before .key-of-frame .ensures) _ (c .before .before .before .before .before .before .before .before .before .before .seek .ensures) (c .before .before .before .before .before .before .before .before .if2 .taken) _ (c .before .before .before .before .before .before .before .short-in .ensures .0) (c .before .before .before .before .before .before .if3 .left) _ (c .before .before .before .before .before .no-room .ensures) (c .before .before .before .before .if4 .left) _ (c .before .before .deliver-short .ensures), looked-right _ _ _ (c .before .before .before .before .before .before .before .before .before .before .before .before .before .before .before .before .before .before .before .before .loop .inv .1) _ _ _ _ (c .before .before .before .before .before .before .before .before .before .before .before .before .before .before .before .looked-up .ensures) .1)
+loop-again-2 c = (step-short _ _ _ _ _ _ _ _ _ _ _ _ _ _ _ _ _ _ _ (c .before .before .before .before .before .before .before .before .before .before .before .before .before .before .before .before .before .before .before .before .loop .inv .0) (c .before .before .before .before .before .before .before .before .before .before .before .before .before .before .before .before .before .before .before .loop-test .taken) _ (c .before .before .before .before .before .before .before .before .before .before .before .before .before .before .before .before .before .before .frame-at .ensures) _ (looked-right _ _ _ (c .before .before .before .before .before .before .before .before .before .before .before .before .before .before .before .before .before .before .before .before .loop .inv .1) _ _ _ _ (c .before .before .before .before .before .before .before .before .before .before .before .before .before .before .before .looked-up .ensures) .0) _ (c .before .before .before .before .before .before .before .before .before .before .before .before .before .before .key-of-frame .ensures) _ (c .before .before .before .before .before .before .before .before .before .before .seek .ensures) (c .before .before .before .before .before .before .before .before .if2 .taken) _ (c .before .before .before .before .before .before .before .short-in .ensures .0) (c .before .before .before .before .before .before .if3 .left) _ (c .before .before .before .before .before .no-room .ensures) (c .before .before .before .before .if4 .left) _ (c .before .before .deliver-short .ensures), looked-right _ _ _ (c .before .before .before .before .before .before .before .before .before .before .before .before .before .before .before .before .before .before .before .before .loop .inv .1) _ _ _ _ (c .before .before .before .before .before .before .before .before .before .before .before .before .before .before .before .looked-up .ensures) .1)
 
 ran-on-requires : tie.Need-ran-on-requires Inv-loop μ-loop
 ran-on-requires c κs = run-missing _ _ (sym (c .before .runs-on .ensures) ∙ c .if5 .taken)
 
 keep-requires : tie.Need-keep-requires Inv-loop μ-loop
-keep-requires c κs = (c .before .before .before .before .before .before .before .before .before .before .before .before .before .before .before .before .before .loop .inv .0 .run .whole .bytes, c .before .before .before .before .before .if2 .left, runs-fit _ _ _ _ _ _ _ _ _ _ _ _ _ _ _ _ _ _ (c .before .before .before .before .before .before .before .before .before .before .before .before .before .before .before .before .before .loop .inv .0) (c .before .before .before .before .before .before .before .before .before .before .before .before .before .before .before .before .loop-test .taken) _ (c .before .before .before .before .before .before .before .before .before .before .before .before .before .before .before .frame-at .ensures) _ (looked-right _ _ _ (c .before .before .before .before .before .before .before .before .before .before .before .before .before .before .before .before .before .loop .inv .1) _ _ _ _ (c .before .before .before .before .before .before .before .before .before .before .before .before .looked-up .ensures) .0) _ (c .before .before .before .before .before .before .before .before .before .before .before .key-of-frame .ensures) _ (c .before .before .before .before .before .before .before .seek .ensures) (c .before .before .before .before .before .if2 .left) _ _ (c .before .before .before .runs-on .ensures) (c .before .before .if5 .taken))
+keep-requires c κs = (c .before .before .before .before .before .before .before .before .before .before .before .before .before .before .before .before .before .loop .inv .0 .run .whole .bytes, c .before .before .before .before .before .if2 .left, runs-fit _ _ _ _ _ _ _ _ _ _ _ _ _ _ _ _ _ _ _ (c .before .before .before .before .before .before .before .before .before .before .before .before .before .before .before .before .before .loop .inv .0) (c .before .before .before .before .before .before .before .before .before .before .before .before .before .before .before .before .loop-test .taken) _ (c .before .before .before .before .before .before .before .before .before .before .before .before .before .before .before .frame-at .ensures) _ (looked-right _ _ _ (c .before .before .before .before .before .before .before .before .before .before .before .before .before .before .before .before .before .loop .inv .1) _ _ _ _ (c .before .before .before .before .before .before .before .before .before .before .before .before .looked-up .ensures) .0) _ (c .before .before .before .before .before .before .before .before .before .before .before .key-of-frame .ensures) _ (c .before .before .before .before .before .before .before .seek .ensures) (c .before .before .before .before .before .if2 .left) _ _ (c .before .before .before .runs-on .ensures) (c .before .before .if5 .taken))
 
 slice-write-kinds-3 : tie.Need-slice-write-kinds-3 Inv-loop μ-loop
 slice-write-kinds-3 c = still-long _ _ _ _ (c .before .before .before .before .before .before .before .before .before .before .before .before .before .before .before .before .before .loop-test .taken) (c .before .before .before .before .before .before .before .before .before .before .before .before .before .before .before .before .before .before .loop .inv .0 .run .kinds) (c .before .before .before .before .before .before .before .before .before .before .before .before .before .before .before .before .before .before .loop .inv .0 .run .fit .kinds)
@@ -130,7 +130,7 @@ loop-less-3 : tie.Need-loop-less-3 Inv-loop μ-loop
 loop-less-3 c = nearer _ _ (c .before .before .before .before .before .before .before .before .before .before .before .before .before .before .before .before .before .loop-test .taken)
 
 loop-again-3 : tie.Need-loop-again-3 Inv-loop μ-loop
-loop-again-3 c = (step-running _ _ _ _ _ _ _ _ _ _ _ _ _ _ _ _ _ _ (c .before .before .before .before .before .before .before .before .before .before .before .before .before .before .before .before .before .before .loop .inv .0) (c .before .before .before .before .before .before .before .before .before .before .before .before .before .before .before .before .before .loop-test .taken) _ (c .before .before .before .before .before .before .before .before .before .before .before .before .before .before .before .before .frame-at .ensures) _ (looked-right _ _ _ (c .before .before .before .before .before .before .before .before .before .before .before .before .before .before .before .before .before .before .loop .inv .1) _ _ _ _ (c .before .before .before .before .before .before .before .before .before .before .before .before .before .looked-up .ensures) .0) _ (c .before .before .before .before .before .before .before .before .before .before .before .before .key-of-frame .ensures) _ (c .before .before .before .before .before .before .before .before .seek .ensures) (c .before .before .before .before .before .before .if2 .left) _ _ (c .before .before .before .before .runs-on .ensures) (c .before .before .before .if5 .taken) _ (c .before .before .ran-on .ensures) _ (c .keep .ensures), looked-right _ _ _ (c .before .before .before .before .before .before .before .before .before .before .before .before .before .before .before .before .before .before .loop .inv .1) _ _ _ _ (c .before .before .before .before .before .before .before .before .before .before .before .before .before .looked-up .ensures) .1)
+loop-again-3 c = (step-running _ _ _ _ _ _ _ _ _ _ _ _ _ _ _ _ _ _ _ (c .before .before .before .before .before .before .before .before .before .before .before .before .before .before .before .before .before .before .loop .inv .0) (c .before .before .before .before .before .before .before .before .before .before .before .before .before .before .before .before .before .loop-test .taken) _ (c .before .before .before .before .before .before .before .before .before .before .before .before .before .before .before .before .frame-at .ensures) _ (looked-right _ _ _ (c .before .before .before .before .before .before .before .before .before .before .before .before .before .before .before .before .before .before .loop .inv .1) _ _ _ _ (c .before .before .before .before .before .before .before .before .before .before .before .before .before .looked-up .ensures) .0) _ (c .before .before .before .before .before .before .before .before .before .before .before .before .key-of-frame .ensures) _ (c .before .before .before .before .before .before .before .before .seek .ensures) (c .before .before .before .before .before .before .if2 .left) _ _ (c .before .before .before .before .runs-on .ensures) (c .before .before .before .if5 .taken) _ (c .before .before .ran-on .ensures) _ (c .keep .ensures), looked-right _ _ _ (c .before .before .before .before .before .before .before .before .before .before .before .before .before .before .before .before .before .before .loop .inv .1) _ _ _ _ (c .before .before .before .before .before .before .before .before .before .before .before .before .before .looked-up .ensures) .1)
 
 same-length-4 : tie.Need-same-length-4 Inv-loop μ-loop
 same-length-4 c = search (needs, c .before .before .before .before .before .before .before .before .before .before .before .before .before .before .before .before .before .before .loop .inv .0 .run .kinds)
@@ -144,12 +144,12 @@ same-length-6 c = search (needs, c .before .before .before .before .before .befo
 returns-3 : tie.Need-returns-3 Inv-loop μ-loop
 returns-3 c =
     let a = c .before .before .before .before .before .before .before .before .before .before .before .before .before .before .before .before .before .before .before .before .before .before .before .before .before .before .before .before .before .before .before .before .before .before .before .before .args in
-    batched (gives-run (rulesBy (a .pool .mode)) (a .pgns .now) (record { times = a .times .now; pgns = a .frame-pgns .now; sources = a .sources .now; bytes = a .«data» .now }) (a .pool) (a .counters) (a .kinds .now) (a .lengths .now) (a .arena .now) (same-limit (a .pool .mode)) blankHeard _ (c .before .before .before .before .before .before .before .before .before .before .before .before .before .before .before .before .before .before .before .before .before .before .before .before .before .before .refusal .ensures) (sym (c .before .before .before .before .before .before .before .before .before .before .before .before .before .before .before .before .before .before .before .before .before .before .before .before .before .is-refused .ensures) ∙ c .before .before .before .before .before .before .before .before .before .before .before .before .before .before .before .before .before .before .before .before .before .before .before .before .if1 .left) _
-    (stop-by _ _ _ _ _ _ _ _ _ _ _ _ _ _ _ _ _ _ (c .before .before .before .before .before .before .before .before .before .before .before .before .before .before .before .before .before .before .loop .inv .0) (c .before .before .before .before .before .before .before .before .before .before .before .before .before .before .before .before .before .loop-test .taken) _ (c .before .before .before .before .before .before .before .before .before .before .before .before .before .before .before .before .frame-at .ensures) _ (looked-right _ _ _ (c .before .before .before .before .before .before .before .before .before .before .before .before .before .before .before .before .before .before .loop .inv .1) _ _ _ _ (c .before .before .before .before .before .before .before .before .before .before .before .before .before .looked-up .ensures) .0) _ (c .before .before .before .before .before .before .before .before .before .before .before .before .key-of-frame .ensures) _ (c .before .before .before .before .before .before .before .before .seek .ensures) (c .before .before .before .before .before .before .if2 .left) _ _ (c .before .before .decide .ensures) _ (c .before .no-room2 .ensures) (c .if6 .taken)))
+    batched (gives-run (rulesBy (a .pool .kind) (a .pool .mode)) (a .pgns .now) (record { times = a .times .now; pgns = a .frame-pgns .now; sources = a .sources .now; bytes = a .«data» .now }) (a .pool) (a .counters) (a .kinds .now) (a .lengths .now) (a .arena .now) (same-limit (a .pool .kind) (a .pool .mode)) blankHeard _ (c .before .before .before .before .before .before .before .before .before .before .before .before .before .before .before .before .before .before .before .before .before .before .before .before .before .before .refusal .ensures) (sym (c .before .before .before .before .before .before .before .before .before .before .before .before .before .before .before .before .before .before .before .before .before .before .before .before .before .is-refused .ensures) ∙ c .before .before .before .before .before .before .before .before .before .before .before .before .before .before .before .before .before .before .before .before .before .before .before .before .if1 .left) _
+    (stop-by _ _ _ _ _ _ _ _ _ _ _ _ _ _ _ _ _ _ _ (c .before .before .before .before .before .before .before .before .before .before .before .before .before .before .before .before .before .before .loop .inv .0) (c .before .before .before .before .before .before .before .before .before .before .before .before .before .before .before .before .before .loop-test .taken) _ (c .before .before .before .before .before .before .before .before .before .before .before .before .before .before .before .before .frame-at .ensures) _ (looked-right _ _ _ (c .before .before .before .before .before .before .before .before .before .before .before .before .before .before .before .before .before .before .loop .inv .1) _ _ _ _ (c .before .before .before .before .before .before .before .before .before .before .before .before .before .looked-up .ensures) .0) _ (c .before .before .before .before .before .before .before .before .before .before .before .before .key-of-frame .ensures) _ (c .before .before .before .before .before .before .before .before .seek .ensures) (c .before .before .before .before .before .before .if2 .left) _ _ (c .before .before .decide .ensures) _ (c .before .no-room2 .ensures) (c .if6 .taken)))
 
 take-requires : tie.Need-take-requires Inv-loop μ-loop
 take-requires c κs =
-    let fits = plan-fits _ _ _ _ _ _ _ _ _ _ _ _ _ _ _ _ _ _ (c .before .before .before .before .before .before .before .before .before .before .before .before .before .before .before .before .before .before .before .before .loop .inv .0) (c .before .before .before .before .before .before .before .before .before .before .before .before .before .before .before .before .before .before .before .loop-test .taken) _ (c .before .before .before .before .before .before .before .before .before .before .before .before .before .before .before .before .before .before .frame-at .ensures) _ (looked-right _ _ _ (c .before .before .before .before .before .before .before .before .before .before .before .before .before .before .before .before .before .before .before .before .loop .inv .1) _ _ _ _ (c .before .before .before .before .before .before .before .before .before .before .before .before .before .before .before .looked-up .ensures) .0) _ (c .before .before .before .before .before .before .before .before .before .before .before .before .before .before .key-of-frame .ensures) _ (c .before .before .before .before .before .before .before .before .before .before .seek .ensures) (c .before .before .before .before .before .before .before .before .if2 .left) _ _ (c .before .before .before .before .decide .ensures) in
+    let fits = plan-fits _ _ _ _ _ _ _ _ _ _ _ _ _ _ _ _ _ _ _ (c .before .before .before .before .before .before .before .before .before .before .before .before .before .before .before .before .before .before .before .before .loop .inv .0) (c .before .before .before .before .before .before .before .before .before .before .before .before .before .before .before .before .before .before .before .loop-test .taken) _ (c .before .before .before .before .before .before .before .before .before .before .before .before .before .before .before .before .before .before .frame-at .ensures) _ (looked-right _ _ _ (c .before .before .before .before .before .before .before .before .before .before .before .before .before .before .before .before .before .before .before .before .loop .inv .1) _ _ _ _ (c .before .before .before .before .before .before .before .before .before .before .before .before .before .before .before .looked-up .ensures) .0) _ (c .before .before .before .before .before .before .before .before .before .before .before .before .before .before .key-of-frame .ensures) _ (c .before .before .before .before .before .before .before .before .before .before .seek .ensures) (c .before .before .before .before .before .before .before .before .if2 .left) _ _ (c .before .before .before .before .decide .ensures) in
     (c .before .before .before .before .before .before .before .before .before .before .before .before .before .before .before .before .before .before .before .before .loop .inv .0 .run .whole .bytes, c .before .before .before .before .before .before .before .before .if2 .left, fits .room, fits .there, fits .whole, has-room _ (c .before .before .before .before .before .before .before .before .before .before .before .before .before .before .before .before .before .before .before .before .loop .used) _ _ (c .before .before .before .no-room2 .ensures) (c .before .before .if6 .left))
 
 slice-write-kinds-4 : tie.Need-slice-write-kinds-4 Inv-loop μ-loop
@@ -172,7 +172,7 @@ loop-less-4 c = nearer _ _ (c .before .before .before .before .before .before .b
 loop-again-4 : tie.Need-loop-again-4 Inv-loop μ-loop
 loop-again-4 c =
     let took = c .before .before .before .before .before .before .take .ensures in (
-      step-by _ _ _ _ _ _ _ _ _ _ _ _ _ _ _ _ _ _ (c .before .before .before .before .before .before .before .before .before .before .before .before .before .before .before .before .before .before .before .before .before .before .before .before .before .before .before .loop .inv .0) (c .before .before .before .before .before .before .before .before .before .before .before .before .before .before .before .before .before .before .before .before .before .before .before .before .before .before .loop-test .taken) _ (c .before .before .before .before .before .before .before .before .before .before .before .before .before .before .before .before .before .before .before .before .before .before .before .before .before .frame-at .ensures) _ (looked-right _ _ _ (c .before .before .before .before .before .before .before .before .before .before .before .before .before .before .before .before .before .before .before .before .before .before .before .before .before .before .before .loop .inv .1) _ _ _ _ (c .before .before .before .before .before .before .before .before .before .before .before .before .before .before .before .before .before .before .before .before .before .before .looked-up .ensures) .0) _ (c .before .before .before .before .before .before .before .before .before .before .before .before .before .before .before .before .before .before .before .before .before .key-of-frame .ensures) _ (c .before .before .before .before .before .before .before .before .before .before .before .before .before .before .before .before .before .seek .ensures) (c .before .before .before .before .before .before .before .before .before .before .before .before .before .before .before .if2 .left) _ _ (c .before .before .before .before .before .before .before .before .before .before .before .decide .ensures) _ (c .before .before .before .before .before .before .before .before .before .before .no-room2 .ensures) (c .before .before .before .before .before .before .before .before .before .if6 .left) _ (took .0) _ (took .1) _ (took .2) _ (took .3) _ (took .4) _ _ _ (record { key = c .key-of .ensures .0; owner = refl; last = refl; range = c .key-of .ensures .1 }),
+      step-by _ _ _ _ _ _ _ _ _ _ _ _ _ _ _ _ _ _ _ (c .before .before .before .before .before .before .before .before .before .before .before .before .before .before .before .before .before .before .before .before .before .before .before .before .before .before .before .loop .inv .0) (c .before .before .before .before .before .before .before .before .before .before .before .before .before .before .before .before .before .before .before .before .before .before .before .before .before .before .loop-test .taken) _ (c .before .before .before .before .before .before .before .before .before .before .before .before .before .before .before .before .before .before .before .before .before .before .before .before .before .frame-at .ensures) _ (looked-right _ _ _ (c .before .before .before .before .before .before .before .before .before .before .before .before .before .before .before .before .before .before .before .before .before .before .before .before .before .before .before .loop .inv .1) _ _ _ _ (c .before .before .before .before .before .before .before .before .before .before .before .before .before .before .before .before .before .before .before .before .before .before .looked-up .ensures) .0) _ (c .before .before .before .before .before .before .before .before .before .before .before .before .before .before .before .before .before .before .before .before .before .key-of-frame .ensures) _ (c .before .before .before .before .before .before .before .before .before .before .before .before .before .before .before .before .before .seek .ensures) (c .before .before .before .before .before .before .before .before .before .before .before .before .before .before .before .if2 .left) _ _ (c .before .before .before .before .before .before .before .before .before .before .before .decide .ensures) _ (c .before .before .before .before .before .before .before .before .before .before .no-room2 .ensures) (c .before .before .before .before .before .before .before .before .before .if6 .left) _ (took .0) _ (took .1) _ (took .2) _ (took .3) _ (took .4) _ _ _ (record { key = c .key-of .ensures .0; owner = refl; last = refl; range = c .key-of .ensures .1 }),
       looked-right _ _ _ (c .before .before .before .before .before .before .before .before .before .before .before .before .before .before .before .before .before .before .before .before .before .before .before .before .before .before .before .loop .inv .1) _ _ _ _ (c .before .before .before .before .before .before .before .before .before .before .before .before .before .before .before .before .before .before .before .before .before .before .looked-up .ensures) .1,
     )
 
@@ -188,8 +188,8 @@ same-length-9 c = search (needs, c .before .loop .inv .0 .run .arena)
 returns-4 : tie.Need-returns-4 Inv-loop μ-loop
 returns-4 c =
     let a = c .before .before .before .before .before .before .before .before .before .before .before .before .before .before .before .before .before .before .before .args in
-    batched (gives-run (rulesBy (a .pool .mode)) (a .pgns .now) (record { times = a .times .now; pgns = a .frame-pgns .now; sources = a .sources .now; bytes = a .«data» .now }) (a .pool) (a .counters) (a .kinds .now) (a .lengths .now) (a .arena .now) (same-limit (a .pool .mode)) blankHeard _ (c .before .before .before .before .before .before .before .before .before .refusal .ensures) (sym (c .before .before .before .before .before .before .before .before .is-refused .ensures) ∙ c .before .before .before .before .before .before .before .if1 .left) _
-    (ends (rulesBy (a .pool .mode)) _ _ _ _ _ _ _ _ _ _ _ _ _ _ (c .before .loop .inv .0 .run) (c .loop-test .left)))
+    batched (gives-run (rulesBy (a .pool .kind) (a .pool .mode)) (a .pgns .now) (record { times = a .times .now; pgns = a .frame-pgns .now; sources = a .sources .now; bytes = a .«data» .now }) (a .pool) (a .counters) (a .kinds .now) (a .lengths .now) (a .arena .now) (same-limit (a .pool .kind) (a .pool .mode)) blankHeard _ (c .before .before .before .before .before .before .before .before .before .refusal .ensures) (sym (c .before .before .before .before .before .before .before .before .is-refused .ensures) ∙ c .before .before .before .before .before .before .before .if1 .left) _
+    (ends (rulesBy (a .pool .kind) (a .pool .mode)) _ _ _ _ _ _ _ _ _ _ _ _ _ _ (c .before .loop .inv .0 .run) (c .loop-test .left)))
 
 pub process-frames-spec : {M : Type 1} → statement M
 process-frames-spec =

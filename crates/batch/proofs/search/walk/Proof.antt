@@ -14,10 +14,10 @@ use Rattle.batch.proofs.search.walk.Statement.{statement}
 use Rattle.batch.proofs.search.walk.Tie as tie
 
 abbrev Inv-loop : tie.InvT-loop
-Inv-loop mode size heard heads s₀ i₀ s i = (i ≤ poolLimit) × (length heads ≡ poolLimit) × Walk (rulesBy mode) heard size heads s i
+Inv-loop kind mode size heard heads s₀ i₀ s i = (i ≤ poolLimit) × (length heads ≡ poolLimit) × Walk (rulesBy kind mode) heard size heads s i
 
 abbrev μ-loop : tie.MeasureT-loop
-μ-loop mode size heard heads s₀ i₀ s i = i
+μ-loop kind mode size heard heads s₀ i₀ s i = i
 
 returns : tie.Need-returns Inv-loop μ-loop
 returns c =
@@ -28,11 +28,11 @@ loop-holds : tie.Need-loop-holds Inv-loop μ-loop
 unfolding pick
 loop-holds c =
     let a = c .before .before .args in
-    let long : length (a .t2) ≡ poolLimit = search (needs, length-unmap) in
+    let long : length (a .t3) ≡ poolLimit = search (needs, length-unmap) in
     let low : a .size ≤ poolLimit = c .before .if1 .left in
     let small = le-ltb poolLimit (a .size) low in
-    let walk : Walk (rulesBy (a .mode)) (a .heard) (a .size) (a .t2) (c .nothing-found2 .result) (a .size) =
-    walk-start (rulesBy (a .mode)) (a .heard) (a .size) (a .t2) long _ _ (c .nothing-found2 .ensures ∙ ap nothingFound (sym small)) (rw small) in
+    let walk : Walk (rulesBy (a .kind) (a .mode)) (a .heard) (a .size) (a .t3) (c .nothing-found2 .result) (a .size) =
+    walk-start (rulesBy (a .kind) (a .mode)) (a .heard) (a .size) (a .t3) long _ _ (c .nothing-found2 .ensures ∙ ap nothingFound (sym small)) (rw small) in
     (low, long, walk)
 
 loop-again : tie.Need-loop-again Inv-loop μ-loop

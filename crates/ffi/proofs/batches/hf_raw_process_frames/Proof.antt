@@ -15,4 +15,4 @@ hf-raw-process-frames-spec =
     (λ c. search needs)
     (λ c. search needs)
     (λ c. search needs)
-    (λ c. batch-left _ _ _ _ _ (c .before .before .before .before .before .before .before .before .before .before .before .before .before .before .before .before .before .pool-from .ensures) (c .before .before .before .before .before .before .before .before .before .before .before .before .before .before .before .counters-from .ensures) (c .before .before .before .before .before .before .before .before .before .before .before .process-frames .ensures) (c .leave-batch .ensures)))
+    (λ c. batch-left _ _ _ _ _ _ (c .before .before .before .before .before .before .before .before .before .before .before .before .before .before .before .before .before .pool-from .ensures) (c .before .before .before .before .before .before .before .before .before .before .before .before .before .before .before .counters-from .ensures) (c .before .before .before .before .before .before .before .before .before .before .before .process-frames .ensures) (c .leave-batch .ensures)))

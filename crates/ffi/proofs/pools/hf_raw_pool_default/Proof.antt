@@ -10,4 +10,4 @@ hf-raw-pool-default-spec =
     (tie.spec
     (λ c κs. search needs)
     (λ c κs. search needs)
-    (λ c. made-by (c .leave-made .ensures) (default-by (c .before .before .before .before .before .default .ensures)) (c .before .before .before .before .before .default .ensures)))
+    (λ c. made-by (c .leave-made .ensures) (default-by (c .before .before .before .before .before .before .default .ensures)) (c .before .before .before .before .before .before .default .ensures)))

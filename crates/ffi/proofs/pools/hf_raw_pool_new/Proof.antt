@@ -10,4 +10,4 @@ hf-raw-pool-new-spec =
     (tie.spec
     (λ c κs. search needs)
     (λ c κs. search needs)
-    (λ c. made-by (c .leave-made .ensures) (c .before .before .before .before .before .new .ensures .answer) (c .before .before .before .before .before .new .ensures .left)))
+    (λ c. made-by (c .leave-made .ensures) (c .before .before .before .before .before .before .new .ensures .answer) (c .before .before .before .before .before .before .new .ensures .left)))

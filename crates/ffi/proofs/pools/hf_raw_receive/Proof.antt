@@ -12,4 +12,4 @@ hf-raw-receive-spec =
     (λ c κs. search needs)
     (λ c κs. search needs)
     (λ c κs. search needs)
-    (λ c. left-by (c .leave .ensures) (received-by _ _ _ _ (c .before .before .before .before .before .before .before .before .before .before .pool-from .ensures) (c .before .before .before .before .before .before .before .before .counters-from .ensures) _ (c .before .before .before .before .before .before .receive .ensures))))
+    (λ c. left-by (c .leave .ensures) (received-by _ _ _ _ _ (c .before .before .before .before .before .before .before .before .before .before .pool-from .ensures) (c .before .before .before .before .before .before .before .before .counters-from .ensures) _ (c .before .before .before .before .before .before .receive .ensures))))

@@ -7,16 +7,21 @@ use Rattle.numbers.proofs.pools.head_over.Tie as tie
 returns : tie.Need-returns
 returns c =
     over-by _ _ _
-    (c .before .before .before .before .before .before .before .before .flag-on .ensures)
-    (c .before .before .before .before .before .before .byte-on .ensures)
-    (c .before .before .before .before .byte-on2 .ensures)
-    (c .before .before .byte-on3 .ensures)
-    (c .word-on .ensures)
+    (c .before .before .before .before .before .before .before .before .before .before .flag-on .ensures)
+    (c .before .before .before .before .before .before .before .before .byte-on .ensures)
+    (c .before .before .before .before .before .before .byte-on2 .ensures)
+    (c .before .before .before .before .byte-on3 .ensures)
+    (c .before .before .word-on .ensures)
+    (c .half-on .ensures)
 
 pub head-over-spec : {M : Type 1} → statement M
 head-over-spec =
     tie.close
     (tie.spec
+    (λ c. search needs)
+    (λ c. search needs)
+    (λ c κs. search needs)
+    (λ c. search needs)
     (λ c. search needs)
     (λ c. search needs)
     (λ c κs. search needs)

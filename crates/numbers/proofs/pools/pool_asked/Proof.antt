@@ -11,4 +11,5 @@ pool-asked-spec =
     (λ c κs. search needs)
     (λ c κs. search needs)
     (λ c κs. search needs)
-    (λ c. asked-by _ _ (c .before .before .size-under .ensures) (c .before .mode-from .ensures) (c .with-mode .ensures)))
+    (λ c κs. search needs)
+    (λ c. asked-by _ _ _ (c .before .before .before .size-under .ensures) (c .before .before .mode-from .ensures) (c .before .pool-kind-from .ensures) (c .with-kind .ensures)))

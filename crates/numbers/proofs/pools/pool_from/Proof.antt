@@ -11,4 +11,5 @@ pool-from-spec =
     (λ c κs. search needs)
     (λ c κs. search needs)
     (λ c κs. search needs)
-    (λ c. pool-by _ _ _ _ (c .before .before .before .heads-from .ensures) (c .before .mode-from .ensures) (c .size-under .ensures)))
+    (λ c κs. search needs)
+    (λ c. pool-by _ _ _ _ _ (c .before .before .before .before .heads-from .ensures) (c .before .before .pool-kind-from .ensures) (c .before .mode-from .ensures) (c .size-under .ensures)))

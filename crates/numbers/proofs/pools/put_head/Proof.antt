@@ -6,14 +6,15 @@ use native.Mathlib.Omega.{arith}
 use lib.ListN.{length, take}
 use lib.Seq.{sets}
 use Rattle.numbers.proofs.PoolLaws.{put-turn, put-done}
+use Rattle.numbers.specs.Pool.{headNumbers}
 use Rattle.numbers.proofs.pools.put_head.Statement.{statement}
 use Rattle.numbers.proofs.pools.put_head.Tie as tie
 
 abbrev Inv-loop : tie.InvT-loop
-Inv-loop n₀ at numbers k₀ n k = (k ≤ 8) × (length numbers ≡ 8) × (n ≡ sets n₀ at (take k numbers))
+Inv-loop n₀ at numbers k₀ n k = (k ≤ headNumbers) × (length numbers ≡ headNumbers) × (n ≡ sets n₀ at (take k numbers))
 
 abbrev μ-loop : tie.MeasureT-loop
-μ-loop n₀ at numbers k₀ n k = 8 - k
+μ-loop n₀ at numbers k₀ n k = headNumbers - k
 
 loop-again : tie.Need-loop-again Inv-loop μ-loop
 loop-again c =

@@ -8,7 +8,7 @@ returns : tie.Need-returns
 returns c =
     let e = c .before .before .before .before .before in
     let k = e .before .before in
-    look-is _ _ _ _ _ _ _ _ _ _ _ _
+    look-is _ _ _ _ _ _ _ _ _ _ _ _ _
     (k .before .before .before .is-silent .ensures)
     (k .before .before .has-key .ensures)
     (k .is-impossible .ensures)
