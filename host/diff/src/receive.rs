@@ -973,7 +973,8 @@ pub fn slots_chosen(chosen: Chosen, seed: u64, steps: u64) -> u64 {
     steps
 }
 
-/// Single calls on pools that document 01 calls impossible, by one slot or by their size; one slot in four by the part of its key.
+/// Single calls on pools that document 01 calls impossible, by one slot or by their size; one slot in four by the part of its key. A pool that was bent and is possible all
+/// the same is heard.
 pub fn impossible_pools(chosen: Chosen, seed: u64, steps: u64) -> u64 {
     let mut r = Rng::new(seed);
     let mut done = 0;
@@ -1000,14 +1001,16 @@ pub fn impossible_pools(chosen: Chosen, seed: u64, steps: u64) -> u64 {
         if let Some((k, part)) = bent {
             p.heads[SLOT_NUMBERS * k + PART] = part;
         }
-        if !impossible(&p) {
-            continue;
-        }
         let h = heard(chosen, &mut r, &slots[..size.min(LIMIT)], now);
-        let counters = std::array::from_fn(|_| r.next() as u32);
+        let mut counters = std::array::from_fn(|_| r.next() as u32);
         let length = r.one_in(3).then_some(r.below(10) as usize);
-        refused(&p, counters, r.pick(&chosen.lists()), &h, length, h.now % 2 == 0);
-        done += 1;
+        let (list, by_value) = (r.pick(&chosen.lists()), h.now % 2 == 0);
+        if impossible(&p) {
+            refused(&p, counters, list, &h, length, by_value);
+            done += 1;
+        } else {
+            assert_ne!(called(&mut p, &mut counters, list, &h, length, by_value).kind, 1, "{h:?} on a pool that is possible all the same");
+        }
     }
     steps
 }
