@@ -1,4 +1,6 @@
 // NMEA 2000 Fast Packet assembler: the pool, the receive call, and its other forms: by the identifier, for a frame with a length, with the counters lent.
+#![tactic(auto)]
+
 mod arrivals;
 mod bytes;
 mod lending;
@@ -47,7 +49,7 @@ pub struct MadePool {
 }
 
 // A frame that arrived, with the clock reading at it.
-#[derive(Drop)]
+#[derive(Clone, Copy)]
 pub struct Arrival {
     pub now_ms: u64,
     pub pgn: u32,
@@ -56,14 +58,14 @@ pub struct Arrival {
 }
 
 // A frame that arrived with a length: of its eight bytes the first `length` were sent.
-#[derive(Drop)]
+#[derive(Clone, Copy)]
 pub struct ArrivalWithLength {
     pub arrival: Arrival,
     pub length: usize,
 }
 
 // A frame that arrived with its identifier, for a pool whose key has the destination.
-#[derive(Drop)]
+#[derive(Clone, Copy)]
 pub struct ArrivalById {
     pub now_ms: u64,
     pub id: CanId,
@@ -71,7 +73,7 @@ pub struct ArrivalById {
 }
 
 // The same with a length.
-#[derive(Drop)]
+#[derive(Clone, Copy)]
 pub struct ArrivalByIdWithLength {
     pub arrival: ArrivalById,
     pub length: usize,

@@ -1,5 +1,7 @@
 // Many frames in one call: the pool is taken once and looked at once, and rows of frames are gone over in place. What it does is what the single
 // call does, frame by frame (specs/Rows).
+#![tactic(auto)]
+
 mod batching;
 mod bytes;
 mod list_memory;
@@ -15,7 +17,7 @@ pub use batching::process_frames;
 use session::Counters;
 
 // How a batch went. An impossible pool, or one whose key has the destination, is refused by 1, a row that is too short for its frames by 27.
-#[derive(Drop)]
+#[derive(Clone, Copy)]
 pub enum Batched {
     Done,
     ImpossiblePool,

@@ -115,7 +115,7 @@ fn past_others(
 // ---- the walk for a first frame
 
 // Where a walk stops: at the key, or at a place of the kind that it looks for beside it; POOL_LIMIT stands for none.
-#[derive(Drop)]
+#[derive(Clone, Copy)]
 struct Stop {
     at: usize,
     keyed: bool,

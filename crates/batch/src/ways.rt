@@ -27,7 +27,7 @@ pub(crate) fn short_in(listed: bool, heard: Heard) -> usize
 }
 
 // What a frame that takes no slot and brings no message leaves: the number of its kind, and the counters.
-#[derive(Drop)]
+#[derive(Clone, Copy)]
 pub(crate) struct Untaken {
     pub(crate) number: u8,
     pub(crate) counters: Counters,

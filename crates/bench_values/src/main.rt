@@ -3,6 +3,8 @@
 // modes; the pools of its No. 12, whose key has the destination, beside those of the original's kind; every refusal number that a call can give, with what it
 // carries, those of the bench once in separate slices and once over a row of frames; and the identifiers of its No. 4 that are too wide. The file 'stdout' was
 // written from the text of both and not from what the program gave, the numbers of the kinds from docs/REFUSALS.md. The builder's frames are in the program builder_values.
+#![tactic(auto)]
+
 mod addressed;
 mod batching;
 mod bench_calls;

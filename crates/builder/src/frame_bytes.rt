@@ -7,7 +7,7 @@ ghost use Rattle.builder.specs.inner.Placed.{headed, laid_at};
 use fast_packet::FILL;
 
 // What a frame has beside its identifier, with the frame index and the bytes sent that follow.
-#[derive(Drop)]
+#[derive(Clone, Copy)]
 pub(crate) struct Laid {
     pub data: [u8; 8],
     pub len: usize,

@@ -1,4 +1,6 @@
 // Frames of a Fast Packet message, or the one raw frame of a short message, from a payload.
+#![tactic(auto)]
+
 ghost use Rattle.std.specs.Prelude.{◌≡◌};
 ghost use Rattle.can_id.specs.Build.{of_built, build_of, error_number, error_carries};
 ghost use Rattle.builder.specs.Builder.{new_builder, with_sequence, with_priority, with_destination, id_builder};
@@ -15,7 +17,7 @@ use fast_packet::MAX_FAST_PACKET_PAYLOAD;
 // ---- what goes in and what comes out
 
 // What all frames of one message share. The payload travels beside it.
-#[derive(Drop)]
+#[derive(Clone, Copy)]
 pub struct FastPacketBuilder {
     pub pgn: u32,
     pub source_address: u8,
@@ -27,14 +29,14 @@ pub struct FastPacketBuilder {
 }
 
 // A builder, and the number that the caller holds from now on.
-#[derive(Drop)]
+#[derive(Clone, Copy)]
 pub struct MadeBuilder {
     pub builder: FastPacketBuilder,
     pub sequence_id: u8,
 }
 
 // What asking for the next frame found.
-#[derive(Drop)]
+#[derive(Clone, Copy)]
 pub enum NextKind {
     Frame,
     End,
@@ -42,7 +44,7 @@ pub enum NextKind {
 }
 
 // The answer, with the frame index and the bytes sent that the next question takes. Without a frame there are zeros in its place.
-#[derive(Drop)]
+#[derive(Clone, Copy)]
 pub struct Next {
     pub kind: NextKind,
     pub frame: CanFrame,
@@ -229,7 +231,7 @@ impl FastPacketBuilder {
 // ---- frame by frame, as a caller of the original writes it
 
 // Where the frames of a message have got to. It goes in by value, and comes back with the frame.
-#[derive(Drop)]
+#[derive(Clone, Copy)]
 pub struct FrameIterator {
     pub builder: FastPacketBuilder,
     pub frame_index: u8,
@@ -237,7 +239,7 @@ pub struct FrameIterator {
 }
 
 // An answer, and the iterator for the next question.
-#[derive(Drop)]
+#[derive(Clone, Copy)]
 pub struct Item {
     pub iterator: FrameIterator,
     pub kind: NextKind,

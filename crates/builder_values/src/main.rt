@@ -7,6 +7,8 @@
 // It wrote document 01's number for each error, zeros for a frame that is not there, and gave the destination when it made the
 // builder, which has no setter there. In the last two cases, nine bytes marked not fast, the original panics: those two lines are
 // step 5 of document 01, by hand.
+#![tactic(auto)]
+
 use builder::{FastPacketBuilder, FrameIterator, NextKind};
 use can_id::{CanFrame, CanIdBuildError, Destination};
 use fast_packet::MAX_FAST_PACKET_PAYLOAD;

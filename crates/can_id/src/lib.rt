@@ -1,4 +1,6 @@
 // Creation and reading of the 29-bit CAN identifiers of NMEA 2000, by the layout of SAE J1939-21.
+#![tactic(auto)]
+
 ghost use Rattle.std.specs.Prelude.{◌≡◌, ◌<◌};
 ghost use Rattle.can_id.specs.Layout.{priority_of, pgn_of, destination_of, source_of};
 ghost use Rattle.can_id.specs.Read.{of_read, read_of};
@@ -7,18 +9,18 @@ ghost use Rattle.can_id.specs.Build.{of_built, build_of, new_id_builder, id_with
 // ---- the identifier
 
 // An extended CAN identifier: 29 bits. A driver may have left flags in the three above, so `read` refuses a number that has any of them.
-#[derive(Drop)]
+#[derive(Clone, Copy)]
 pub struct CanId(pub u32);
 
 // The address that a message is sent to. A PGN with PF 240 or above goes to nobody in particular.
-#[derive(Drop)]
+#[derive(Clone, Copy)]
 pub enum Destination {
     Nobody,
     To(u8),
 }
 
 // What an identifier says.
-#[derive(Drop)]
+#[derive(Clone, Copy)]
 pub struct CanIdParts {
     pub priority: u8,
     pub pgn: u32,
@@ -27,7 +29,7 @@ pub struct CanIdParts {
 }
 
 // What reading gives.
-#[derive(Drop)]
+#[derive(Clone, Copy)]
 pub enum Read {
     Parts(CanIdParts),
     // The number is 2^29 or more: it is no identifier.
@@ -120,7 +122,7 @@ impl CanId {
 // ---- the frame
 
 // A frame of the bus: `len` (0 to 8) of its eight bytes are valid.
-#[derive(Drop)]
+#[derive(Clone, Copy)]
 pub struct CanFrame {
     pub id: CanId,
     pub data: [u8; 8],
@@ -130,7 +132,7 @@ pub struct CanFrame {
 // ---- building an identifier
 
 // Why no identifier, or no frame, is built.
-#[derive(Drop)]
+#[derive(Clone, Copy)]
 pub enum CanIdBuildError {
     // The parameters make no identifier, or the payload no message.
     InvalidData,
@@ -145,14 +147,14 @@ pub enum CanIdBuildError {
 }
 
 // What building gives.
-#[derive(Drop)]
+#[derive(Clone, Copy)]
 pub enum Built {
     Id(CanId),
     Refused(CanIdBuildError),
 }
 
 // The parts of an identifier. They are public, so `build` looks at them again.
-#[derive(Drop)]
+#[derive(Clone, Copy)]
 pub struct CanIdBuilder {
     pub priority: u8,
     pub pgn: u32,

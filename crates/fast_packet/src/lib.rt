@@ -1,4 +1,6 @@
 // NMEA 2000 Fast Packet: what the builder and the assembler share.
+#![tactic(auto)]
+
 ghost use Rattle.std.specs.Prelude.{◌≡◌, ◌||◌, ◌<◌, min, get_or, take};
 ghost use Rattle.fast_packet.specs.FastPacket.{listed_in, filled_from};
 

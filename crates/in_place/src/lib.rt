@@ -1,4 +1,6 @@
 // The receive call over a pool that its caller lends: rows of numbers and bytes, worked on in place, one frame at a time or many.
+#![tactic(auto)]
+
 mod bytes;
 mod counting;
 mod rows;

@@ -96,7 +96,7 @@ fn past_keys(keys: &[u64; POOL_LIMIT], from: usize, size: usize, key: u64) -> us
 // ---- the walk for a first frame
 
 // Where a walk stops: at the key, or at a place of the kind that it looks for beside it; POOL_LIMIT stands for none.
-#[derive(Drop)]
+#[derive(Clone, Copy)]
 pub(crate) struct Stop {
     pub(crate) at: usize,
     pub(crate) keyed: bool,

@@ -1,5 +1,7 @@
 // Takes apart the identifiers of its standard input, eight hex digits a line, and writes of each its priority, PGN, destination ('-' for none)
 // and source. The file 'stdout' that this is held to was made by Wireshark's J1939 dissector: see tools/judge-identifiers.
+#![tactic(auto)]
+
 ghost use Rattle.std.specs.Prelude.{◌<◌};
 
 use can_id::{CanId, CanIdParts, Destination, Read};

@@ -1,4 +1,6 @@
 // The numbers that stand for what C does not have. The entries are the crate `ffi`'s.
+#![tactic(auto)]
+
 mod bench_answers;
 mod frames;
 mod numbers;

@@ -37,7 +37,7 @@ pub(crate) fn is_other(source: u8, pgn: u32, id: u32) -> bool
 }
 
 // Whether a source claimed its address before its first message, as far as some frames tell.
-#[derive(Drop)]
+#[derive(Clone, Copy)]
 pub(crate) enum Claim {
     Awaited,
     Made,

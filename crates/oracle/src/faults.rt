@@ -7,7 +7,7 @@ use crate::Fault;
 use splitter::{FILL, FRAME_BYTES, INDICES, MAX_FAST_PACKET_PAYLOAD};
 
 // Whether a row was refused so far: at a frame, or because a frame's identifier is too wide, which stands over all else.
-#[derive(Drop)]
+#[derive(Clone, Copy)]
 pub(crate) enum Standing {
     Clear,
     At(Fault),

@@ -7,6 +7,8 @@
 //     sent (4), payload length (4), dots; byte i of the payload is (7 i + 1) modulo 256.
 // The file stdout that this is held to was written by the original, its Ignored under the name of the counter that it raised; it has no mode 01, and was
 // asked for it on a clock of its own. host/diff/src/bin/replay_list.rs makes both.
+#![tactic(auto)]
+
 ghost use Rattle.std.specs.Prelude.{◌≡◌, ◌+◌, ◌<◌, ◌≤◌, length};
 
 use assembler::{Arrival, Pool, Received, process_frame_through};

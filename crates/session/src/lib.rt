@@ -1,6 +1,8 @@
 // One session of the Fast Packet assembler, but for its bytes: its types, its silence and its counters, what a frame finds in the heads and what it
 // makes of the head that it takes. The single call and the batch share it. specs/ says what the tests and heads are (document 01); specs/inner/ how the
 // code goes about a call.
+#![tactic(auto)]
+
 mod counting;
 mod frames;
 mod heads;
@@ -30,7 +32,7 @@ pub const CONTINUATION_PAYLOAD: usize = 7;
 
 // What a clock reading before a session's last one says of it, chosen when the pool is made: nothing, as in the original, or that it is silent. A
 // half message whose boat's time was set back is silent for 0 ms by the original, and can live for hours.
-#[derive(Drop)]
+#[derive(Clone, Copy)]
 pub enum Mode {
     AsOriginal,
     SetBackIsSilence,
@@ -38,14 +40,14 @@ pub enum Mode {
 
 // Which key the messages of a pool have, chosen when it is made: source, PGN and sequence, as in the original; or the destination too, which the
 // identifier says. By the original's key one sender's answers to two displays at once are taken for one.
-#[derive(Drop)]
+#[derive(Clone, Copy)]
 pub enum PoolKind {
     Original,
     Addressed,
 }
 
 // A session but for its buffer. The part of its key that is the destination is 0 for none, and the destination plus 1 else.
-#[derive(Drop)]
+#[derive(Clone, Copy)]
 pub struct Head {
     pub in_progress: bool,
     pub source_address: u8,
@@ -59,7 +61,7 @@ pub struct Head {
 }
 
 // A frame as it was heard, with the clock reading at it: of its eight bytes the first `length` were sent. Its part is that of its key, as a head has it.
-#[derive(Drop)]
+#[derive(Clone, Copy)]
 pub struct Heard {
     pub now_ms: u64,
     pub pgn: u32,
@@ -71,7 +73,7 @@ pub struct Heard {
 
 // The counters are cumulative. `rejected_frames` and `unknown_pgn` say that the assembler was handed traffic it does not deal with; the other
 // three say that a message was lost.
-#[derive(Drop)]
+#[derive(Clone, Copy)]
 pub struct Counters {
     pub expired_sessions: u32,
     pub pool_exhausted: u32,
@@ -81,7 +83,7 @@ pub struct Counters {
 }
 
 // Which counter a frame raises.
-#[derive(Drop)]
+#[derive(Clone, Copy)]
 pub enum Mark {
     Nothing,
     Expired,
@@ -93,7 +95,7 @@ pub enum Mark {
 
 // What the caller is told of a frame. An impossible pool is refused, and so is an identifier that is too wide. NotListed, Rejected, PoolFull and Lost say why a frame was not taken; Lost is a
 // continuation without a live session, or one out of turn or cut short, which ends its session.
-#[derive(Drop)]
+#[derive(Clone, Copy)]
 pub enum Kind {
     ImpossiblePool,
     TooWide,
@@ -124,7 +126,7 @@ pub const POOL_FULL: u8 = 106;
 pub const LOST: u8 = 107;
 
 // What one walk over the heads finds: whether any is impossible, and the first place of each kind; POOL_LIMIT stands for none.
-#[derive(Drop)]
+#[derive(Clone, Copy)]
 pub struct Found {
     pub bad: bool,
     pub key: usize,
@@ -135,7 +137,7 @@ pub struct Found {
 
 // What a frame does, made from the one head that it may change: the answer and the counter; the head after it; `count` bytes of the frame, from
 // `from` on, go to place `at` of the buffer; a message of `whole` bytes leaves the buffer, or one of `short` bytes the frame itself.
-#[derive(Drop)]
+#[derive(Clone, Copy)]
 pub struct Plan {
     pub kind: Kind,
     pub mark: Mark,

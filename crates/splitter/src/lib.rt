@@ -1,4 +1,6 @@
 // The bench's splitter: frames of a payload, byte by byte, which is the injection side. It shares no code with the builder.
+#![tactic(auto)]
+
 ghost use Rattle.std.specs.Prelude.{◌≡◌, ◌+◌, ◌≤◌, length};
 ghost use Rattle.std.proofs.lemmas.List.Edits.{sets};
 ghost use Rattle.splitter.specs.Frames.{count_in};
@@ -17,7 +19,7 @@ pub use bench_frames::{
 pub use by_value::{ROW_FRAMES, fast_packet_frames_into};
 
 // A captured or injected frame: identifier, bytes and length.
-#[derive(Drop)]
+#[derive(Clone, Copy)]
 pub struct Frame {
     pub id: u32,
     pub data: [u8; 8],
@@ -25,7 +27,7 @@ pub struct Frame {
 }
 
 // What the splitter answers: the number of frames, or why there is none.
-#[derive(Drop)]
+#[derive(Clone, Copy)]
 pub enum Split {
     Frames(usize),
     BadSplit,
@@ -34,7 +36,7 @@ pub enum Split {
 }
 
 // The splitter's answer and the row that it wrote to, by value.
-#[derive(Drop)]
+#[derive(Clone, Copy)]
 pub struct SplitRow {
     pub split: Split,
     pub row: [Frame; ROW_FRAMES],

@@ -15,7 +15,7 @@ const LAST_SEQUENCE: u8 = 7;
 pub(crate) const LATER_BYTES: usize = 7;
 
 // A payload that is being laid out, with the index of its next frame.
-#[derive(Drop)]
+#[derive(Clone, Copy)]
 pub(crate) struct Job {
     pub id: u32,
     pub sequence: u8,

@@ -1,1 +1,2 @@
 // The cases of document 01 that are marked P. It has no code.
+#![tactic(auto)]
