@@ -1,0 +1,15 @@
+-- `fill_short` meets its contract: after k turns the first k bytes are those of the filled frame. Assumes nothing.
+use Prim.Native.Nat.{◌≤◌, ◌-◌, min}
+use mathlib.Core.Path.{◌≡◌}
+use borrow.Author.Rules.{rules}
+use lib.ListN.{length, take}
+use native.Mathlib.Omega.{arith}
+use Rattle.base.proofs.Fills.{pasted}
+use Rattle.fast_packet.proofs.Laws.{cutting}
+use Rattle.fast_packet.proofs.fill_short.Given as goal
+
+abbrev pub invariant-loop-k : goal.invariant-loop-k
+invariant-loop-k l = (l.k ≤ 8) × (length l.initial.out ≡ 8) × (length l.out ≡ 8) × (l.out ≡ pasted l.initial.out 0 (take (min l.len 8) l.data) l.k)
+
+abbrev pub decreases-loop-k : goal.decreases-loop-k
+decreases-loop-k l = 8 - l.k
