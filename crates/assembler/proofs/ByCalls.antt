@@ -66,7 +66,7 @@ made_good kind mode false n e = fresh_good kind mode n (ltb-false pool_limit n e
 
 pub same_rules : (p q : Pool) → Made p.kind p.mode q → rules_of q ≡ rules_of p
 unfolding rules_of
-same_rules p q m = rw (m.of-kind, m.in-mode)
+same_rules p q m = rw (m.of_kind, m.in_mode)
 
 module _ (pgns : List ℕ) (p : Pool) (k : Counters) (good : Good p) where
   stepped_good : (f : Heard) → CallOk (record { pgns = pgns; heard = f }) → part_fits (rules_of p) (record { pgns = pgns; heard = f }) ≡ true → Good (receive_of (rules_of p) pgns f p k).pool

@@ -65,7 +65,7 @@ module _ {list times pgns sources bytes : List ℕ} {p : Pool} {k : Counters} {k
 
   pub batched_by : Batches list times pgns sources bytes p k kinds lengths arena r kinds' lengths' arena'
       → left_by r kinds' lengths' arena' ≡ batch_of (rules_of p) list (record { times = times; pgns = pgns; sources = sources; bytes = bytes }) p k kinds lengths arena
-  batched_by h = left_is h.leaves-these
+  batched_by h = left_is h.leaves_these
 
 module _ {list times pgns sources bytes : List ℕ} {p : Pool} {k : Counters} {kinds lengths arena : List ℕ} where
   -- of a batch that ran

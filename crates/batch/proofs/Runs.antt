@@ -172,8 +172,8 @@ module _ (R : Rules) (l : List ℕ) (w : Rows) (p : Pool) (k : Counters) (ks₀ 
         rw (
           ← e,
           over_is ks₀ ks i ki h.kinds_kept,
-          over_is ls₀ ls i li h.lengths-kept,
-          over_is ar₀ ar used h.room h.arena-kept,
+          over_is ls₀ ls i li h.lengths_kept,
+          over_is ar₀ ar used h.room h.arena_kept,
           length-take-le i ks ki,
           length-take-le used ar h.room,
         )
@@ -261,11 +261,11 @@ module _ (R : Rules) (l : List ℕ) (w : Rows) (p : Pool) (k : Counters) (ks₀ 
               arena = long ∙ h.arena;
               room = omega (arith, long, fits_arena y);
               kinds_kept = kept_past ks ks₀ v h.kinds_kept;
-              lengths_kept = kept_past ls ls₀ n h.lengths-kept;
+              lengths_kept = kept_past ls ls₀ n h.lengths_kept;
               arena_kept =
                   rw (en, ear)
                   (laid_rest ar (drop (g * 223) bs) (drop 2 f.«data») used d.whole d.short (omega (arith, en, fits_arena y)) (omega (arith, en, fits_arena y)) whole_there short_there does.fits.whole (omega (arith, does.fits.short)) alone
-                  ∙ rw (← drop-drop (d.whole + d.short) used ar, ← drop-drop (d.whole + d.short) used ar₀, h.arena-kept));
+                  ∙ rw (← drop-drop (d.whole + d.short) used ar, ← drop-drop (d.whole + d.short) used ar₀, h.arena_kept));
               run = rw (← took_is, add-one i) (unfold pick in rw y at turned);
             }
 

@@ -12,6 +12,6 @@ pub process_frames_unique : (list times pgns sources bytes : List ℕ) (pool : P
     → Batches list times pgns sources bytes pool counters kinds lengths arena s kinds₂ lengths₂ arena₂
     → (r ≡ s) × (kinds₁ ≡ kinds₂) × (lengths₁ ≡ lengths₂) × (arena₁ ≡ arena₂)
 process_frames_unique list times pgns sources bytes pool counters kinds lengths arena r s kinds₁ lengths₁ arena₁ kinds₂ lengths₂ arena₂ p q =
-    let one = p.leaves-these in
-    let two = q.leaves-these in
+    let one = p.leaves_these in
+    let two = q.leaves_these in
     (determined (answer_is one) (answer_is two), determined one.told two.told, determined one.measured two.measured, determined one.delivered two.delivered)

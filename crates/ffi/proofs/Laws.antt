@@ -158,7 +158,7 @@ module _ (size mode kind : ℕ) (pgns : List ℕ) (rows : Rows) (before : BatchM
       → PoolAfter r before.heads code heads bytes counters counts
       → FramesLeft size mode kind pgns rows before code (record { heads = heads; bytes = bytes; counters = counters; kinds = kinds; lengths = lengths; arena = arena; counts = counts })
   batch_left {r} {heads} {bytes} {counters} {kinds} {lengths} {arena} {counts} {code} g h =
-      let left = g.leaves-these in
+      let left = g.leaves_these in
       subst
       (λ (l : BatchLeft).
       BatchMemoryLeft l before code (record { heads = heads; bytes = bytes; counters = counters; kinds = kinds; lengths = lengths; arena = arena; counts = counts }))

@@ -366,7 +366,7 @@ no_mode_left wanted asked kind none l =
 
 pub no_kind_left : (wanted asked kind : ℕ) {before : PoolMemory} {code : ℕ} {after : PoolMemory} → 1 < kind → PoolWithKindLeft wanted asked kind before code after → after.kind ≡ 0
 no_kind_left wanted asked kind none l =
-    l.of-kind ∙ ap pool_kind_number (made_in (size_made (size_under asked kind wanted)) (pool_kind_from kind) (mode_from asked)).1 ∙ (unfold pool_kind_from pool_kind_number pick in rw (ne_eqb kind 1 (λ e. omega arith)) refl)
+    l.of_kind ∙ ap pool_kind_number (made_in (size_made (size_under asked kind wanted)) (pool_kind_from kind) (mode_from asked)).1 ∙ (unfold pool_kind_from pool_kind_number pick in rw (ne_eqb kind 1 (λ e. omega arith)) refl)
 
 -- ---- reading an identifier: `hf_can_id_read`
 pub refused_reading_leaves : (id : ℕ) (before : List ℕ) (code : ℕ) (after : List ℕ) → IdRead id before code after → (code ≡ 0 → ⊥) → after ≡ before

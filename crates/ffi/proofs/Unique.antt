@@ -149,14 +149,14 @@ pub hf_reassemble_unique : (ids bytes lens : List ℕ) (source pgn : ℕ) (list 
     → (a ≡ b) × (l ≡ m) × (n ≡ o) × (v ≡ x)
 hf_reassemble_unique ids bytes lens source pgn list arena p q =
     let e = five_unique (counted (delivered_to list arena (row_in ids bytes lens) source pgn)) p.answer q.answer in
-    (e.0, determined p.list-after q.list-after, determined p.arena-after q.arena-after, e.1)
+    (e.0, determined p.list_after q.list_after, determined p.arena_after q.arena_after, e.1)
 
 -- what is returned, the three rows and the number of frames
 pub hf_fast_packet_frames_unique : (id sequence : ℕ) (payload ids bytes lens : List ℕ) {a b : ℕ} {i j k l m n : List ℕ} {f g : ℕ}
     → SplitsInNumbers id sequence payload ids bytes lens a i k m f → SplitsInNumbers id sequence payload ids bytes lens b j l n g
     → (a ≡ b) × (i ≡ j) × (k ≡ l) × (m ≡ n) × (f ≡ g)
 hf_fast_packet_frames_unique id sequence payload ids bytes lens p q =
-    (determined p.told q.told, determined p.ids-after q.ids-after, determined p.bytes_after q.bytes_after, determined p.lens-after q.lens-after, determined p.given q.given)
+    (determined p.told q.told, determined p.ids_after q.ids_after, determined p.bytes_after q.bytes_after, determined p.lens_after q.lens_after, determined p.given q.given)
 
 pub hf_frame_count_unique : (ids bytes lens r s : ℕ) → r ≡ count_in ids bytes lens → s ≡ count_in ids bytes lens → r ≡ s
 hf_frame_count_unique ids bytes lens r s = determined

@@ -121,7 +121,7 @@ receives_made R z (c ∷ cs) =
     let r = receive_of R c.pgns c.heard z.pool z.counters in
     let one = made_kept R c.pgns c.heard z.pool z.counters in
     let rest = receives_made R (after_call z r) cs in
-    record { of_kind = rest.of-kind ∙ one.of-kind; in_mode = rest.in-mode ∙ one.in-mode }
+    record { of_kind = rest.of_kind ∙ one.of_kind; in_mode = rest.in_mode ∙ one.in_mode }
 
 taken_made : {z y : State} {cs : List Call} → Taken z y cs → Made z.pool.kind z.pool.mode y.pool
 taken_made {z} {y} {cs} t = subst (λ (u : State). Made z.pool.kind z.pool.mode u.pool) (sym t.is) (receives_made (rules_of z.pool) z cs)

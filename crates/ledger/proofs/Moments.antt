@@ -149,8 +149,8 @@ pub batch_not_impossible : (p : Pool) → Empty p → p.kind ≡ Original → {c
     → Batches list times pgns sources bytes y.pool y.counters kinds lengths arena r kinds' lengths' arena' → r.result ≡ ImpossiblePool → ⊥
 batch_not_impossible p e own {cs} {y} run l {list} {times} {pgns} {sources} {bytes} {kinds} {lengths} {arena} {r} h one =
     let w : Rows = record { times = times; pgns = pgns; sources = sources; bytes = bytes } in
-    let refused : (batch_of (rules_of y.pool) list w y.pool y.counters kinds lengths arena).answer ≡ refuses 1 [] = sym h.leaves-these.answer ∙ ap (λ (b : Batched). of_batched b r.taken) one ∙ (unfold of_batched in refl) in
-    let kind-kept : y.pool.kind ≡ Original = (ran_made run).of-kind ∙ (unfold start in own) in
+    let refused : (batch_of (rules_of y.pool) list w y.pool y.counters kinds lengths arena).answer ≡ refuses 1 [] = sym h.leaves_these.answer ∙ ap (λ (b : Batched). of_batched b r.taken) one ∙ (unfold of_batched in refl) in
+    let kind-kept : y.pool.kind ≡ Original = (ran_made run).of_kind ∙ (unfold start in own) in
     let taken : refuses_pool (rules_of y.pool) y.pool ≡ false = not_refused (rules_of y.pool) y.pool kind-kept (pool_possible p e run l) in
     by_length (rules_of y.pool) list w y.pool y.counters kinds lengths arena taken refused
 

@@ -152,6 +152,6 @@ module _ (R : Rules) (l : List ℕ) (w : Rows) (k : Counters) where
 pub batch_tells_alike : {list times pgns sources bytes : List ℕ} {p : Pool} {k : Counters} {kinds lengths arena : List ℕ} {r : Batch} {kinds' lengths' arena' : List ℕ}
     → Batches list times pgns sources bytes p k kinds lengths arena r kinds' lengths' arena' → RowTellsAlike (take r.taken kinds') k r.counters
 batch_tells_alike {list} {times} {pgns} {sources} {bytes} {p} {k} {kinds} {lengths} {arena} h =
-    let left = h.leaves-these in
+    let left = h.leaves_these in
     rw (left.taken, left.told, left.counted)
     (batch_alike (rules_of p) list (record { times = times; pgns = pgns; sources = sources; bytes = bytes }) k p kinds lengths arena)

@@ -252,7 +252,7 @@ module _ {l times pgns sources bytes : List ℕ} (z : State) {kinds lengths aren
   heard_rows = record { times = times; pgns = pgns; sources = sources; bytes = bytes }
 
   abbrev promise : AreLeft (batch_of (rules_of z.pool) l heard_rows z.pool z.counters kinds lengths arena) r kinds' lengths' arena'
-  promise = h.leaves-these
+  promise = h.leaves_these
 
   batch_after : after_batch z r kinds' lengths' arena' ≡ after l heard_rows z kinds lengths arena small (batch_of (rules_of z.pool) l heard_rows z.pool z.counters kinds lengths arena)
   unfolding after after_batch answer_from

@@ -79,7 +79,7 @@ next_kind z a own =
     let here : at_original z.pool (heard_of a) ≡ gives (heard_of a) = unfold entered same_kind pick in rw own in
     ap (λ (x : Answer Heard). (answer_to list x z.pool z.counters).pool.kind) here
     ∙ ap (λ (r : Received). r.pool.kind) (answer_steps list z.pool z.counters (heard_of a))
-    ∙ (made_kept (rules_of z.pool) list (heard_of a) z.pool z.counters).of-kind ∙ own
+    ∙ (made_kept (rules_of z.pool) list (heard_of a) z.pool z.counters).of_kind ∙ own
 
 runs : (n : ℕ) (z : State) → z.pool.kind ≡ Original → Ran z (again n) (after n z)
 unfolding again after

@@ -42,7 +42,7 @@ pub meets_demand_2 : Demand2 (receive_of base)
 unfolding Demand2
 meets_demand_2 pgns heard pool counters own old bare plain whole =
     let stays : receive_of base pgns heard pool counters ≡ receive_of original pgns heard pool counters =
-    unfold receive_of base original in ap (shown pool.kind pool.mode) ((old_kind AsOriginal).steps-stay (slots_of pool) counters (record { pgns = pgns; heard = heard }) bare plain) in
+    unfold receive_of base original in ap (shown pool.kind pool.mode) ((old_kind AsOriginal).steps_stay (slots_of pool) counters (record { pgns = pgns; heard = heard }) bare plain) in
     ap as_original stays ∙ call_as original pgns heard pool counters own old whole
 
 -- ---- one fixed kind of answer
@@ -189,5 +189,5 @@ unfolding Demand2
 rejects_stores_nothing meets =
     let c : Call = goes_on 1 1 35 in
     let same : last_of (read_reply (reply_of (by stores_nothing c.pgns c.heard halfway.pool halfway.counters))) ≡ last_of (original_of original c.pgns c.heard halfway.pool halfway.counters).answer =
-    unfold as_original in ap (λ (o : Original). last_of o.answer) (meets c.pgns c.heard halfway.pool halfway.counters halfway_made.of-kind halfway_made.in-mode halfway_bare (unfold goes_on frame in refl) (none_cut original (within (slots_of halfway.pool)) c (unfold goes_on frame in refl))) in
+    unfold as_original in ap (λ (o : Original). last_of o.answer) (meets c.pgns c.heard halfway.pool halfway.counters halfway_made.of_kind halfway_made.in_mode halfway_bare (unfold goes_on frame in refl) (none_cut original (within (slots_of halfway.pool)) c (unfold goes_on frame in refl))) in
     omega (arith, same, nothing_says, steps_say)

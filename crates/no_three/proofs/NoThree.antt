@@ -77,8 +77,8 @@ no_three =
       process_frame_by_id_through = λ pgns a p k r h. by_reply pgns Addressed p k (known_by_id a) h.answer;
       process_frame_by_id_with_length_through = λ pgns x p k r h. by_reply pgns Addressed p k (known_by_id_with_length x) h.answer;
       process_frames = λ list times pgns sources bytes kinds lengths arena p k r kinds' lengths' arena' h. (
-        by_answer h.leaves-these.answer (batch_other (rules_of p) list _ p k kinds lengths arena).0,
-        by_row h.leaves-these.taken h.leaves-these.told (batch_other (rules_of p) list _ p k kinds lengths arena).1,
+        by_answer h.leaves_these.answer (batch_other (rules_of p) list _ p k kinds lengths arena).0,
+        by_row h.leaves_these.taken h.leaves_these.told (batch_other (rules_of p) list _ p k kinds lengths arena).1,
       );
       fast_packet_frames = λ id sequence payload row row' r h. by_answer h.answer (counted_other _ (split_other id sequence payload (length row)));
       fast_packet_frames_into = λ id sequence payload row row' r h. by_answer h.answer (counted_other _ (split_other id sequence payload (length row)));

@@ -134,7 +134,7 @@ leave_unique r before a b p q x y = (
 -- and of a pool, by what its making answered and the pool beside that
 pub pool_left_unique : (answer : Answer ℕ) (pool : Pool) (before : PoolMemory) (a b : ℕ) (p q : PoolMemory) → PoolLeft answer pool before a p → PoolLeft answer pool before b q → (a ≡ b) × (p ≡ q)
 pool_left_unique answer pool before a b p q x y =
-    (determined x.told y.told, pools_same p q (determined x.kept y.kept) (determined x.stored y.stored) (determined x.sized y.sized) (determined x.moded y.moded) (determined x.of-kind y.of-kind))
+    (determined x.told y.told, pools_same p q (determined x.kept y.kept) (determined x.stored y.stored) (determined x.sized y.sized) (determined x.moded y.moded) (determined x.of_kind y.of_kind))
 
 pub leave_made_unique : (m : MadePool) (before : PoolMemory) (a b : ℕ) (p q : PoolMemory) → MadePoolLeft m before a p → MadePoolLeft m before b q → (a ≡ b) × (p ≡ q)
 leave_made_unique m = pool_left_unique (of_made m.result m.pool.size) m.pool

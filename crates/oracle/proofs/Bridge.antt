@@ -250,12 +250,12 @@ module _ (s : Scan) (bs : List ℕ) (len : ℕ) (long : length bs ≡ 8) (full :
 
       told_wrong : fault_values wrong ≡ s.n ∷ bench_sequence bs ∷ bench_index bs ∷ o.sequence ∷ o.index ∷ []
       unfolding fault_values
-      told_wrong = rw (k.same-sequence, k.same_index)
+      told_wrong = rw (k.same_sequence, k.same_index)
 
       later_passed : bench_sequence bs ≡ o.sequence → bench_index bs ≡ o.index
           → Does s bs len o.bytes (collected_at s.n (record { sequence = o.sequence; announced = o.announced; index = o.index + 1; bytes = o.bytes ++ drop 1 bs }))
       later_passed x y =
-          let f : fault_of s bs len ≡ padding_of s bs = sym (later_fault (when_ne _ _ some_missing (when_eq _ _ (x ∙ sym k.same-sequence) (when_eq _ _ (y ∙ sym k.same_index) refl)))) in
+          let f : fault_of s bs len ≡ padding_of s bs = sym (later_fault (when_ne _ _ some_missing (when_eq _ _ (x ∙ sym k.same_sequence) (when_eq _ _ (y ∙ sym k.same_index) refl)))) in
           let l : s.missing + length o.bytes ≡ o.announced = k.lacks in
           let w : 1 ≤ s.missing = k.waiting in
           subst (λ (n : ℕ). Does s bs len o.bytes (collected_at s.n (record { sequence = o.sequence; announced = o.announced; index = o.index + 1; bytes = o.bytes ++ drop n bs }))) later_head
@@ -269,9 +269,9 @@ module _ (s : Scan) (bs : List ℕ) (len : ℕ) (long : length bs ≡ 8) (full :
           (same? (bench_index bs) o.index
           (λ y. subst (Does s bs len o.bytes) (when_eq _ _ y refl) (later_passed x y))
           (λ y. subst (Does s bs len o.bytes) (when_ne _ _ y refl)
-          (record { why = wrong; found = sym (later_fault (when_ne _ _ some_missing (when_eq _ _ (x ∙ sym k.same-sequence) (when_ne _ _ (λ e. y (e ∙ k.same_index)) refl)))); number = refl; values = told_wrong }))))
+          (record { why = wrong; found = sym (later_fault (when_ne _ _ some_missing (when_eq _ _ (x ∙ sym k.same_sequence) (when_ne _ _ (λ e. y (e ∙ k.same_index)) refl)))); number = refl; values = told_wrong }))))
           (λ x. subst (Does s bs len o.bytes) (when_ne _ _ x refl)
-          (record { why = wrong; found = sym (later_fault (when_ne _ _ some_missing (when_ne _ _ (λ e. x (e ∙ k.same-sequence)) refl))); number = refl; values = told_wrong }))
+          (record { why = wrong; found = sym (later_fault (when_ne _ _ some_missing (when_ne _ _ (λ e. x (e ∙ k.same_sequence)) refl))); number = refl; values = told_wrong }))
 
     later_does : (o : Option OpenMessage) → Knows s o → Does s bs len (had o) (later_frame s.n o bs)
     unfolding later_frame fault_number fault_values
@@ -397,7 +397,7 @@ module _ (s : Scan) (f : Frame) (clear : s.fault ≡ Clear) (narrow : is_wide f.
 
 pub skip_knows : (s : Scan) (o : Option OpenMessage) → Knows s o → Knows (skipped s) o
 skip_knows s none k = k
-skip_knows s (some o) k = record { lacks = k.lacks; waiting = k.waiting; same_sequence = k.same-sequence; same_size = k.same_size; same_index = k.same_index }
+skip_knows s (some o) k = record { lacks = k.lacks; waiting = k.waiting; same_sequence = k.same_sequence; same_size = k.same_size; same_index = k.same_index }
 
 -- what is known of the rest of the row, from any state on
 abbrev Rest : List Frame → Type 0
@@ -420,7 +420,7 @@ module _ (s : Scan) (f : Frame) (fs : List Frame) (rest : Rest fs) (clear : s.fa
     whole_tells m w (refuses k vs) d = stops_on s f fs (takes s f clear narrow.0 own w.clear) q d
     whole_tells m w (gives ms) d =
         let e : scan_frame s f ≡ taken s (frame_bytes f) = takes s f clear narrow.0 own w.clear in
-        gets_one s f fs e q w.one_more w.same-sequence w.same_size (ap (λ (l : List ℕ). q ++ l) (adds s f clear narrow.0 e) ∙ w.bytes) d
+        gets_one s f fs e q w.one_more w.same_sequence w.same_size (ap (λ (l : List ℕ). q ++ l) (adds s f clear narrow.0 e) ∙ w.bytes) d
 
     outcome_tells : (x : FrameOutcome) → Does s (frame_bytes f) f.len q x → Tells s q (f ∷ fs) (then_of x (λ o'. messages_from s.source s.pgn (s.n + 1) o' fs))
     unfolding then_of taken
@@ -536,11 +536,11 @@ module _ (fs : List Frame) (source pgn : ℕ) (l o : List ℕ) {s st : Scan} {v 
       (sym (ev ∙ ap (λ (t : Scan). verdict_of t (length l) (length o)) (et ∙ ap (λ (t : Scan). scan_of t fs) es))) (strict_tells fs source pgn l o)
 
   pub strict_stops : b ≡ true → Reassembles fs source pgn l o v l o
-  strict_stops e = record { answer = told_kept.answer; list_after = told_kept.none_list (sym eb ∙ e); arena_after = told_kept.none-arena (sym eb ∙ e) }
+  strict_stops e = record { answer = told_kept.answer; list_after = told_kept.none_list (sym eb ∙ e); arena_after = told_kept.none_arena (sym eb ∙ e) }
 
   pub strict_goes_on : {l' o' : List ℕ} → b ≡ false → l' ≡ sets l (3 * s.messages) (rows_laid s fs) → o' ≡ sets o s.total (bytes_laid s fs) → Reassembles fs source pgn l o v l' o'
   strict_goes_on e el eo = record {
     answer = told_kept.answer;
-    list_after = el ∙ ap (λ (t : Scan). sets l (3 * t.messages) (rows_laid t fs)) es ∙ told_kept.some-list (sym eb ∙ e);
-    arena_after = eo ∙ ap (λ (t : Scan). sets o t.total (bytes_laid t fs)) es ∙ told_kept.some-arena (sym eb ∙ e);
+    list_after = el ∙ ap (λ (t : Scan). sets l (3 * t.messages) (rows_laid t fs)) es ∙ told_kept.some_list (sym eb ∙ e);
+    arena_after = eo ∙ ap (λ (t : Scan). sets o t.total (bytes_laid t fs)) es ∙ told_kept.some_arena (sym eb ∙ e);
   }

@@ -378,7 +378,7 @@ module _ (t : Tx) (f : Frame) (fs : List Frame) (o : Option OpenMessage) (hold :
     one_all : (m : BenchMessage) → Whole t.scan (frame_bytes f) f.len (had o) m → take (length m.payload) (buffer_of t f) ≡ m.payload → (x : Answer (List BenchMessage)) → BadTells (tx_of t f) fs x → BadTells t (f ∷ fs) (before m x)
     unfolding before
     one_all m w b (refuses k vs) d = tt
-    one_all m w b (gives ms) d = one_tells t f fs (takes t.scan f hold.clear narrow own w.clear) m w.one_more w.same-sequence w.same_size b ms d
+    one_all m w b (gives ms) d = one_tells t f fs (takes t.scan f hold.clear narrow own w.clear) m w.one_more w.same_sequence w.same_size b ms d
 
     whole_bad : (m : BenchMessage) → Whole t.scan (frame_bytes f) f.len (had o) m → length m.payload ≤ 223 → BadTells t (f ∷ fs) (before m (messages_from t.scan.source t.scan.pgn (t.scan.n + 1) none fs))
     unfolding taken

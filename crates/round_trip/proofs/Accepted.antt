@@ -264,9 +264,9 @@ module _ (id source pgn : ℕ) where
           let pl : List ℕ = g.m.payload in
           let le : length (had o) ≤ length (had o ++ c) = rw length-append (omega arith) in
           let b : split_bytes (bench_sequence (frame_bytes f)) pl (at o) ≡ frame_bytes f = frame_bytes_lem o f.«data» pl small fair here g.same_size (filled_on (had o) c pl g.starts) in
-          let b' : split_bytes g.m.sequence pl (at o) ≡ frame_bytes f = ap (λ (q : ℕ). split_bytes q pl (at o)) g.same-sequence ∙ b in
+          let b' : split_bytes g.m.sequence pl (at o) ≡ frame_bytes f = ap (λ (q : ℕ). split_bytes q pl (at o)) g.same_sequence ∙ b in
           let room : at o < count_of (length pl) = in_count o (frame_bytes f) fair (length pl) g.same_size in
-          concludes o (frame_bytes f) (f ∷ fs) g.m g.later ms g.all g.same-sequence g.same_size follows
+          concludes o (frame_bytes f) (f ∷ fs) g.m g.later ms g.all g.same_sequence g.same_size follows
           (sym (take-take (length (had o)) (length (had o ++ c)) pl le) ∙ ap (take (length (had o))) g.starts ∙ take-append_seam (had o) c)
           (led g.m.sequence pl (at o) g.later room b' g.frames)
 
@@ -323,7 +323,7 @@ module _ (id source pgn : ℕ) where
   skipped_sent : (f : Frame) (fs : List Frame) → is_other source pgn f.id ≡ true → (o : Option OpenMessage) (ms : List BenchMessage) → Sent o fs ms → Sent o (f ∷ fs) ms
   skipped_sent f fs h none ms d = ap (under id) (passed source pgn f fs h) ∙ d
   skipped_sent f fs h (some p) ms d =
-      record { m = d.m; later = d.later; all = d.all; same_sequence = d.same-sequence; same_size = d.same_size; starts = d.starts; frames = ap (under id) (passed source pgn f fs h) ∙ d.frames }
+      record { m = d.m; later = d.later; all = d.all; same_sequence = d.same_sequence; same_size = d.same_size; starts = d.starts; frames = ap (under id) (passed source pgn f fs h) ∙ d.frames }
 
   row_sent : (fs : List Frame) → AreBytes fs → Rest fs
   unfolding messages_from end_of own_frames under split_all

@@ -106,7 +106,7 @@ module _ (id sequence : ℕ) (p : List ℕ) (space : ℕ) {s : Split} {b : Bool}
       let i : j.index ≡ 0 = made.at_first in
       let h : length p ≤ 223 = split_small e in
       let f : job_frames m j ≡ split_frames_from j.id j.sequence (take j.size j.payload) j.index m = frames_same m j (omega arith) in
-      let g : split_frames_from j.id j.sequence (take j.size j.payload) j.index m ≡ split_frames_from id sequence p 0 m = rw (made.same_id, made.same-sequence, made.same_bytes, made.at_first) in
+      let g : split_frames_from j.id j.sequence (take j.size j.payload) j.index m ≡ split_frames_from id sequence p 0 m = rw (made.same_id, made.same_sequence, made.same_bytes, made.at_first) in
       ap (λ (k : ℕ). job_frames k j) en ∙ f ∙ g
 
 -- into a row of frames

@@ -32,13 +32,13 @@ split_back Short = refl
 -- `fast_packet_frames`: an answer and a row
 pub fast_packet_frames_unique : (id sequence : ℕ) (payload : List ℕ) (row : List Frame) {r s : Split} {l m : List Frame}
     → SplitsInto id sequence payload row r l → SplitsInto id sequence payload row s m → (r ≡ s) × (l ≡ m)
-fast_packet_frames_unique id sequence payload row p q = (determined_by of_split back_split split_back p.answer q.answer, determined p.row-after q.row-after)
+fast_packet_frames_unique id sequence payload row p q = (determined_by of_split back_split split_back p.answer q.answer, determined p.row_after q.row_after)
 
 -- `fast_packet_rows`: an answer and three slices
 pub fast_packet_rows_unique : (id sequence : ℕ) (payload ids bytes lens : List ℕ) {r s : Split} {i j b c l m : List ℕ}
     → SplitsIntoSlices id sequence payload ids bytes lens r i b l → SplitsIntoSlices id sequence payload ids bytes lens s j c m → (r ≡ s) × (i ≡ j) × (b ≡ c) × (l ≡ m)
 fast_packet_rows_unique id sequence payload ids bytes lens p q =
-    (determined_by of_split back_split split_back p.answer q.answer, determined p.ids-after q.ids-after, determined p.bytes_after q.bytes_after, determined p.lens-after q.lens-after)
+    (determined_by of_split back_split split_back p.answer q.answer, determined p.ids_after q.ids_after, determined p.bytes_after q.bytes_after, determined p.lens_after q.lens_after)
 
 -- `fast_packet_frames_into` promises of the row that it is given what `fast_packet_frames` does of a lent one
 pub fast_packet_frames_into_unique : (id sequence : ℕ) (payload : List ℕ) (row : List Frame) {r s : SplitRow}

@@ -18,8 +18,8 @@ hf_fast_packet_frames_spec =
     (λ c. search rules)
     (λ c. record {
       told = c.split-number.ensures ∙ ap code_of c.before.before.before.before.before.before.before.before.fast-packet-rows.ensures.answer;
-      ids_after = c.before.before.before.before.before.before.before.before.fast-packet-rows.ensures.ids-after;
+      ids_after = c.before.before.before.before.before.before.before.before.fast-packet-rows.ensures.ids_after;
       bytes_after = c.before.before.before.before.before.before.before.before.fast-packet-rows.ensures.bytes_after;
-      lens_after = c.before.before.before.before.before.before.before.before.fast-packet-rows.ensures.lens-after;
+      lens_after = c.before.before.before.before.before.before.before.before.fast-packet-rows.ensures.lens_after;
       given = c.before.split-count.ensures ∙ ap value_of c.before.before.before.before.before.before.before.before.fast-packet-rows.ensures.answer;
     }))

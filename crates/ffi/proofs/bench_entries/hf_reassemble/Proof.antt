@@ -14,6 +14,6 @@ hf_reassemble_spec =
     (λ c. search rules)
     (λ c. record {
       answer = told_so c.before.before.before.before.before.before.reassemble-rows.ensures.answer c.told-reassembled.ensures;
-      list_after = c.before.before.before.before.before.before.reassemble-rows.ensures.list-after;
-      arena_after = c.before.before.before.before.before.before.reassemble-rows.ensures.arena-after;
+      list_after = c.before.before.before.before.before.before.reassemble-rows.ensures.list_after;
+      arena_after = c.before.before.before.before.before.before.reassemble-rows.ensures.arena_after;
     }))

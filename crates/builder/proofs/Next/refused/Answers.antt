@@ -1,0 +1,6 @@
+-- `Next::refused` meets its contract. Assumes nothing.
+use Rattle.std.proofs.Common.{refl, rules}
+use Rattle.builder.proofs.Next.refused.Goals as goal
+
+pub returns : goal.returns
+returns c = rw c.no_frame.ensures
