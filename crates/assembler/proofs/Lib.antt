@@ -3,7 +3,6 @@ pub mod Views
 pub mod Events
 pub mod Carries
 pub mod Keeps
-pub mod Types
 pub mod Replies
 pub mod Entries
 pub mod Promised

@@ -7,7 +7,7 @@ use Rattle.base.proofs.Cases.{pick_all}
 use Rattle.base.specs.Answer.{Answer, gives, refuses, counted}
 use Rattle.splitter.specs.Frames.{is_wide, frame_bytes, count_in}
 use Rattle.splitter.specs.Bytes.{split_bytes, split_frame, count_of}
-use Rattle.splitter.specs.inner.Job.{told_of, job_frame, is_unsplit, after_one, job_frames, IsJobOf}
+use Rattle.splitter.specs.inner.Job.{told_of, job_frame, is_unsplit, after_one, job_frames, job_end, IsJobOf}
 use Rattle.splitter.specs.Split.{split_frames_from, split_frames, split_of, of_split, row_with, ids_of, bytes_all, lens_of, ids_with, bytes_with, lens_with, SplitsInto, split_in, SplitsIntoSlices}
 use Rattle.splitter.specs.declared.Split.TheVariants.{Frames, BadSplit, TooWide, Short}
 use Rattle.base.proofs.Laying.{sets_append}
@@ -212,6 +212,33 @@ module _ (n : ℕ) where
         ∙ sym (ap (λ (fs : List Frame). sets l (8 * i) (bytes_all fs)) (one_more i j h))
         ∙ e)
 
+  -- a row of frames, and the job that is left
+  abbrev pub row_left : Job → List Frame → ℕ → List Frame
+  row_left j l i = sets l i (job_frames (n - i) j)
+
+  abbrev pub end_left : Job → ℕ → Job
+  end_left j i = job_end (n - i) j
+
+  module _ (j : Job) {k : Job} (i : ℕ) (h : i < n) (ek : k ≡ after_one j) where
+    pub row_turn : {f : Frame} (l : List Frame) {x : List Frame} → f ≡ job_frame j → row_left j l i ≡ x → row_left k (set l i f) (i + 1) ≡ x
+    row_turn {f} l ef e = rw (ek, ef, add-one i) (sym (ap (λ (fs : List Frame). sets l i fs) (one_more i j h ∙ ap (λ (m : ℕ). job_frame j ∷ job_frames (n - m) (after_one j)) (add-one i))) ∙ e)
+
+    pub end_turn : {x : Job} → end_left j i ≡ x → end_left k (i + 1) ≡ x
+    end_turn e = let z : n - i ≡ suc (n - (i + 1)) = omega arith in ap (job_end (n - (i + 1))) ek ∙ sym (ap (λ (m : ℕ). job_end m j) z) ∙ e
+
+  module _ (j : Job) (i : ℕ) (h : n ≤ i) where
+    pub row_done : {l x : List Frame} → row_left j l i ≡ x → l ≡ x
+    row_done {l} e = sym (ap (λ (fs : List Frame). sets l i fs) (no_more i j h)) ∙ e
+
+    pub end_done : {x : Job} → end_left j i ≡ x → j ≡ x
+    end_done e = let z : n - i ≡ 0 = omega arith in sym (ap (λ (m : ℕ). job_end m j) z) ∙ e
+
+  pub row_none : (j : Job) (l : List Frame) → row_left j l 0 ≡ sets l 0 (job_frames n j)
+  row_none j l = let e : n - 0 ≡ n = omega arith in ap (λ (k : ℕ). sets l 0 (job_frames k j)) e
+
+  pub end_none : (j : Job) → end_left j 0 ≡ job_end n j
+  end_none j = let e : n - 0 ≡ n = omega arith in ap (λ (k : ℕ). job_end k j) e
+
   module _ (j : Job) {l : List ℕ} (i : ℕ) {x : List ℕ} (h : n ≤ i) where
     pub ids_done : ids_left j l i ≡ x → l ≡ x
     unfolding ids_of
@@ -233,5 +260,7 @@ module _ (n : ℕ) where
 
   pub bytes_none : (j : Job) (l : List ℕ) → bytes_left j l 0 ≡ sets l 0 (bytes_all (job_frames n j))
   bytes_none j l = let e : n - 0 ≡ n = omega arith in ap (λ (k : ℕ). sets l 0 (bytes_all (job_frames k j))) e
+
+pub ruleset laying_row = (row_none, row_turn, row_done, end_none, end_turn, end_done)
 
 pub ruleset laying_frames = (ids_none, ids_turn, ids_done, lens_none, lens_turn, lens_done, bytes_none, bytes_turn, bytes_done)
