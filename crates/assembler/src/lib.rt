@@ -25,7 +25,7 @@ pub const POOL_BYTES: usize = POOL_LIMIT * MAX_FAST_PACKET_PAYLOAD;
 
 // A fixed pool of reusable sessions: session k is heads[k] with the MAX_FAST_PACKET_PAYLOAD bytes from MAX_FAST_PACKET_PAYLOAD * k on. Those from
 // `size` on are not used. Kind and mode are those that the pool was made with; no call changes them.
-#[derive(Drop)]
+#[derive(Clone, Copy)]
 pub struct Pool {
     pub kind: PoolKind,
     pub mode: Mode,
@@ -35,14 +35,14 @@ pub struct Pool {
 }
 
 // How the making of a pool went. Above the limit it is refused by 1.
-#[derive(Drop)]
+#[derive(Clone, Copy)]
 pub enum Made {
     Fresh,
     ImpossiblePool,
 }
 
 // What making a pool gives.
-#[derive(Drop)]
+#[derive(Clone, Copy)]
 pub struct MadePool {
     pub result: Made,
     pub pool: Pool,
@@ -80,7 +80,7 @@ pub struct ArrivalByIdWithLength {
 }
 
 // What a call answers where the counters are the caller's own.
-#[derive(Drop)]
+#[derive(Clone, Copy)]
 pub struct Processed {
     pub kind: Kind,
     pub payload: [u8; MAX_FAST_PACKET_PAYLOAD],
@@ -89,7 +89,7 @@ pub struct Processed {
 }
 
 // What a call answers, with the counters after it. Without a message the payload is zeros and the length 0.
-#[derive(Drop)]
+#[derive(Clone, Copy)]
 pub struct Received {
     pub kind: Kind,
     pub payload: [u8; MAX_FAST_PACKET_PAYLOAD],

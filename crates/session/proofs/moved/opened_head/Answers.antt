@@ -1,9 +1,8 @@
--- `heads::opened_head` meets its contract. Assumes nothing.
-use borrow.Author.Rules.{rules}
+-- `moved::opened_head` meets its contract. Assumes nothing.
 use mathlib.Core.Path.{refl}
 use Rattle.session.specs.Heads.{opened_head}
 use Rattle.session.proofs.moved.opened_head.Goals as goal
 
 pub returns : goal.returns
 unfolding opened_head
-returns c = rw (c.sequence_of.ensures, c.?type_size.ensures)
+returns c = rw (c.sequence_of.ensures, c.size_of.ensures)

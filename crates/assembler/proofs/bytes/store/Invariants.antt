@@ -1,0 +1,16 @@
+-- `bytes::store` meets its contract: after i turns the bytes are a copy of i of the frame's. Assumes nothing.
+use borrow.Author.Rules.{rules}
+use Prim.Native.Nat.{◌≤◌, ◌-◌}
+use mathlib.Core.Path.{◌≡◌, refl, ◌∙◌}
+use lib.ListN.{length, drop, length-set}
+use lib.Seq.{paste}
+use native.Mathlib.Omega.{arith}
+use Rattle.assembler.specs.Making.{pool_bytes}
+use Rattle.assembler.proofs.Copies.{copy_none, copy_turn}
+use Rattle.assembler.proofs.bytes.store.Given as goal
+
+abbrev pub invariant-loop-i : goal.invariant-loop-i
+invariant-loop-i l = (l.i ≤ l.n) × (length l.initial.out ≡ pool_bytes) × (length l.frame ≡ 8) × (l.out ≡ paste l.initial.out l.at (drop l.from l.frame) l.i)
+
+abbrev pub decreases-loop-i : goal.decreases-loop-i
+decreases-loop-i l = l.n - l.i

@@ -1,0 +1,22 @@
+-- `deliver_rows` meets its contract: a loop along the row. Assumes nothing.
+use borrow.Author.Rules.{rules}
+use Prim.Native.Nat.{◌≤◌, ◌-◌}
+use mathlib.Core.Path.{◌≡◌}
+use lib.ListN.{length}
+use Rattle.splitter.specs.Frames.{count_in}
+use Rattle.oracle.specs.Rows.{row_in}
+use Rattle.oracle.specs.inner.Scan.{Counted}
+use Rattle.oracle.proofs.RowLaws.{rest, arena_left, laying_bytes}
+use Rattle.oracle.proofs.deliver_rows.Goals as goal
+
+pub loop-i-init : goal.loop-i-init
+loop-i-init c = search (rules, laying_bytes)
+
+pub lay_bytes-st-requires : goal.lay_bytes-st-requires
+lay_bytes-st-requires c = search (rules, laying_bytes)
+
+pub loop-i-preserved : goal.loop-i-preserved
+loop-i-preserved c = search (rules, laying_bytes)
+
+pub returns : goal.returns
+returns c = search (rules, laying_bytes)

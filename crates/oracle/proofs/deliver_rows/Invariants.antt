@@ -1,0 +1,16 @@
+-- `deliver_rows` meets its contract: a loop along the row. Assumes nothing.
+use borrow.Author.Rules.{rules}
+use Prim.Native.Nat.{◌≤◌, ◌-◌}
+use mathlib.Core.Path.{◌≡◌}
+use lib.ListN.{length}
+use Rattle.splitter.specs.Frames.{count_in}
+use Rattle.oracle.specs.Rows.{row_in}
+use Rattle.oracle.specs.inner.Scan.{Counted}
+use Rattle.oracle.proofs.RowLaws.{rest, arena_left, laying_bytes}
+use Rattle.oracle.proofs.deliver_rows.Given as goal
+
+abbrev pub invariant-loop-i : goal.invariant-loop-i
+invariant-loop-i l = (l.n ≡ count_in (length l.ids) (length l.bytes) (length l.lens)) × (l.i ≤ l.n) × Counted l.i l.st × (length l.arena ≡ length l.initial.arena) × (arena_left l.st l.arena (rest l.ids l.bytes l.lens l.n l.i) ≡ arena_left l.initial.st l.initial.arena (row_in l.ids l.bytes l.lens))
+
+abbrev pub decreases-loop-i : goal.decreases-loop-i
+decreases-loop-i l = l.n - l.i

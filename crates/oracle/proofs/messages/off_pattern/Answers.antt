@@ -1,0 +1,17 @@
+-- `off_pattern` meets its contract: what is left to look at decides. Assumes nothing.
+use Prim.Native.Nat.{◌-◌}
+use mathlib.Core.Path.{◌≡◌}
+use borrow.Author.Rules.{rules}
+use lib.ListN.{length, drop, take}
+use Rattle.oracle.specs.Check.{off_from}
+use Rattle.oracle.proofs.CheckLaws.{offness}
+use Rattle.oracle.proofs.messages.off_pattern.Goals as goal
+
+pub returns-then-bytes-k : goal.returns-then-bytes-k
+returns-then-bytes-k c = search (rules, offness)
+
+pub loop-k-preserved : goal.loop-k-preserved
+loop-k-preserved c = search (rules, offness)
+
+pub returns : goal.returns
+returns c = search (rules, offness)
