@@ -15,7 +15,7 @@ loop-i-init c = (search rules, c.requires.0, search rules, copy_none c.args.out.
 pub loop-i-preserved : goal.loop-i-preserved
 loop-i-preserved c = let a = c.args in
     let inv = c.loop-i.invariant in
-    (omega arith, inv.1, inv.2, copy_turn a.out.now a.at a.t3 a.from c.loop-i.i _ inv.3 (omega arith) (omega arith))
+    (omega arith, inv.1, inv.2, copy_turn a.out.now a.at a.frame a.from c.loop-i.i _ inv.3 (omega arith) (omega arith))
 
 pub returns : goal.returns
 returns c = let full : c.loop-i.i ≡ c.args.n = omega arith in

@@ -13,18 +13,6 @@ use Rattle.session.proofs.Walks.{Walk, walk_start, walk_low, walk_turn, walk_don
 use Rattle.assembler.proofs.Carries.{planned, answered, slot_long, payload_long}
 use Rattle.assembler.proofs.receiving.receive_heard.Goals as goal
 
-deliver_short_requires : tie.Need-deliver-short-requires invariant-loop decreases-loop
-unfolding rules_by
-deliver_short_requires c κs =
-    let q = c.before.before.before.before.before.before.before.before.before.before in
-    let a = q.before.before.before.before.before.before.before.before.before.before.args in
-    let inv = q.before.before.before.before.before.before.loop.invariant in
-    let seen = walk_done _ _ _ _ _ _ inv.3 q.before.before.before.before.before.loop-test.false in
-    let fits = (planned (rules_by a.pool.kind a.pool.mode) (same_limit a.pool.kind a.pool.mode) _ a.heard a.pool a.counters inv.1 inv.2 _ _ _ _ _ _ seen q.before.before.before.before.is-listed.ensures q.before.before.before.place-for.ensures q.before.before.within-limit.ensures.0 q.decide.ensures).fits in
-    let low = q.before.before.within-limit.ensures.1 in
-    let long = slot_long _ a.heard a.pool inv.1 inv.2 _ _ low fits c.before.before.before.before.before.store.ensures in
-    (payload_long _ _ _ _ low fits long c.before.deliver.ensures, fits.short)
-
 pub loop-i-init : goal.loop-i-init
 loop-i-init c = let a = c.args in
     let whole : Whole a.pool = record { heads = search (rules, length_unmap); bytes = search rules } in
@@ -63,7 +51,14 @@ deliver-requires c = let a = c.args in
     (refl, slot_long _ a.heard a.pool inv.1 inv.2 _ _ low fits c.store.ensures, fits.whole, omega (arith, fits.whole, low))
 
 pub deliver_short-requires : goal.deliver_short-requires
-deliver_short-requires c = deliver_short_requires c
+unfolding rules_by
+deliver_short-requires c = let a = c.args in
+    let inv = c.loop-i.invariant in
+    let seen = walk_done _ _ _ _ _ _ inv.3 c.loop-i-test.false in
+    let fits = (planned (rules_by a.pool.kind a.pool.mode) (same_limit a.pool.kind a.pool.mode) _ a.heard a.pool a.counters inv.1 inv.2 _ _ _ _ _ _ seen c.is_listed-listed.ensures c.place_for-place.ensures c.within_limit-g.ensures.0 c.decide-d.ensures).fits in
+    let low = c.within_limit-g.ensures.1 in
+    let long = slot_long _ a.heard a.pool inv.1 inv.2 _ _ low fits c.store.ensures in
+    (payload_long _ _ _ _ low fits long c.deliver.ensures, fits.short)
 
 pub overflow_add-result : goal.overflow_add-result
 unfolding rules_by
