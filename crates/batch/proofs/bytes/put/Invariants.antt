@@ -1,0 +1,12 @@
+-- `bytes::put` meets its contract: after i turns the bytes are a copy of i of the frame's. Assumes nothing.
+use Rattle.std.proofs.Common.{◌≡◌, ◌-◌, ◌≤◌, length, drop, refl, arith, rules}
+use lib.Seq.{paste}
+use Rattle.assembler.specs.Making.{pool_bytes}
+use Rattle.assembler.proofs.Copies.{copy_none, copy_turn}
+use Rattle.batch.proofs.bytes.put.Given as goal
+
+abbrev pub invariant-loop-i : goal.invariant-loop-i
+invariant-loop-i l = (l.i ≤ l.n) × (length l.initial.out ≡ pool_bytes) × (length l.frame ≡ 8) × (l.out ≡ paste l.initial.out l.at (drop l.from l.frame) l.i)
+
+abbrev pub decreases-loop-i : goal.decreases-loop-i
+decreases-loop-i l = l.n - l.i

@@ -1,0 +1,13 @@
+-- `walks::past_keys` meets its contract: no place up to s has the key. Assumes nothing.
+use Rattle.std.proofs.Common.{◌≡◌, ◌-◌, ◌≤◌, length, sym, ◌∙◌, arith, rules}
+use Rattle.session.specs.Rules.{pool_limit}
+use Rattle.batch.specs.inner.Mirror.{key_at}
+use Rattle.batch.specs.inner.Walks.{Past}
+use Rattle.batch.proofs.WalkLaws.{past_none, past_four}
+use Rattle.batch.proofs.walks.past_keys.Given as goal
+
+abbrev pub invariant-loop-s : goal.invariant-loop-s
+invariant-loop-s l = (l.s ≤ l.size) × (l.size ≤ pool_limit) × (length l.keys ≡ pool_limit) × Past (key_at l.keys l.key) l.from l.s
+
+abbrev pub decreases-loop-s : goal.decreases-loop-s
+decreases-loop-s l = l.size - l.s

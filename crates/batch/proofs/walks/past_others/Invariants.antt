@@ -1,0 +1,14 @@
+-- `walks::past_others` meets its contract: no place up to s has the key or is of the source. Assumes nothing.
+use Rattle.std.proofs.Common.{◌≡◌, ◌-◌, ◌≤◌, length, sym, ◌∙◌, arith, rules}
+use Rattle.base.proofs.Bools.{or_left, or_right}
+use Rattle.session.specs.Rules.{pool_limit}
+use Rattle.batch.specs.inner.Mirror.{key_at}
+use Rattle.batch.specs.inner.Walks.{owner_at, Past}
+use Rattle.batch.proofs.WalkLaws.{past_none, past_four}
+use Rattle.batch.proofs.walks.past_others.Given as goal
+
+abbrev pub invariant-loop-s : goal.invariant-loop-s
+invariant-loop-s l = (l.s ≤ l.size) × (l.size ≤ pool_limit) × (length l.keys ≡ pool_limit) × (length l.owners ≡ pool_limit) × Past (key_at l.keys l.key) l.from l.s × Past (owner_at l.owners l.source) l.from l.s
+
+abbrev pub decreases-loop-s : goal.decreases-loop-s
+decreases-loop-s l = l.size - l.s
