@@ -87,6 +87,7 @@ impl CanId {
 
     // The 18-bit PGN. With PF below 240 its low byte is 0, since PS is then the destination. Its fields stand side by side in the identifier,
     // so they are read at once: ten bits down to PF, or eighteen down to PS.
+    #[tactic(auto, using(crate::proofs::LayoutLaws::pgn_addressed, crate::proofs::LayoutLaws::pgn_broadcast))]
     fn pgn(self) -> u32
         ensures { result ≡ pgn_of self.0 }
     {
