@@ -10,7 +10,6 @@ use mathlib.Core.Option.{Option, none, some}
 use mathlib.Core.Path.{◌≡◌, refl, sym, ap, ◌∙◌, subst}
 use native.Mathlib.Nat.{zero-add}
 use native.Mathlib.Omega.{arith}
-use borrow.Author.Rules.{zero≤}
 use lib.Dec.{eqb, ltb}
 use lib.ListN.{length, get_or, take, drop, length-append, length-drop, drop_of_length-le}
 use lib.Seq.{sets, length-take-le, take_all, drop-drop, take-append-add, drop-append-add}
@@ -526,7 +525,7 @@ module _ (fs : List Frame) (source pgn : ℕ) (l o : List ℕ) where
 
 -- ---- the two ways out of strict reassembly's code, whichever form its row has
 pub fresh_counts : {s : Scan} (source pgn : ℕ) → s ≡ start_of source pgn → Counted 0 s
-fresh_counts source pgn e = subst (λ (s : Scan). Counted 0 s) (sym e) (record { frames = zero≤; whole = zero≤; bytes = zero≤ })
+fresh_counts source pgn e = subst (λ (s : Scan). Counted 0 s) (sym e) (record { frames = omega arith; whole = omega arith; bytes = omega arith })
 
 module _ (fs : List Frame) (source pgn : ℕ) (l o : List ℕ) {s st : Scan} {v : Reassembled} {b : Bool}
     (es : s ≡ start_of source pgn) (et : st ≡ scan_of s fs) (ev : v ≡ verdict_of st (length l) (length o)) (eb : b ≡ is_none v) where

@@ -8,7 +8,6 @@ use mathlib.Core.Option.{Option, none, some}
 use mathlib.Core.Path.{◌≡◌, refl, sym, ap, ◌∙◌, subst}
 use native.Mathlib.Nat.{zero-add}
 use native.Mathlib.Omega.{arith}
-use borrow.Author.Rules.{zero≤}
 use borrow.Author.Tests.{eq-eqb, ne_eqb}
 use lib.Dec.{eqb, ltb}
 use lib.ListN.{length, get_or, take, drop, length-append, length-take}
@@ -503,7 +502,7 @@ module _ (fs : List Frame) (source expected base : ℕ) where
 
 -- ---- the code's way, whichever form its row has
 pub fresh_tx : {t : Tx} (source base : ℕ) → t ≡ tx_start source base → Counted 0 t.scan
-fresh_tx source base e = subst (λ (t : Tx). Counted 0 t.scan) (sym e) (record { frames = zero≤; whole = zero≤; bytes = zero≤ })
+fresh_tx source base e = subst (λ (t : Tx). Counted 0 t.scan) (sym e) (record { frames = omega arith; whole = omega arith; bytes = omega arith })
 
 pub check_told : (fs : List Frame) (source expected base : ℕ) {t u : Tx} {z : Checked} → t ≡ tx_start source base → u ≡ tx_all t fs → z ≡ checked_of u expected → ChecksTx fs source expected base z
 check_told fs source expected base et eu ez =

@@ -1,12 +1,13 @@
--- Laws of rows: a frame that is read from separate slices, a loop along the row that they stand for, and the first frames of an array. Assumes nothing.
-use Prim.Native.Nat.{ℕ, ◌+◌, ◌*◌, ◌<◌, ◌≤◌, suc, ◌-◌, min}
+-- Laws of rows: a frame that is read from separate slices, and a loop along a row, in separate slices or lent as it is. Assumes nothing.
+use Prim.Native.Nat.{ℕ, ◌+◌, ◌*◌, ◌<◌, ◌≤◌, suc, ◌-◌}
 use mathlib.Core.List.{List, [], ◌∷◌}
 use mathlib.Core.Path.{◌≡◌, refl, sym, ap, ◌∙◌}
 use native.Mathlib.Nat.{add-zero}
 use native.Mathlib.Omega.{arith}
-use lib.ListN.{length, get_or, drop, replicate, take}
-use lib.Seq.{get_or-drop, sets, take_all, length-take-le}
-use Rattle.base.proofs.Cases.{when_lt, when_ge, less?}
+use lib.ListN.{length, get_or, drop, replicate}
+use lib.Seq.{get_or-drop, sets}
+use Rattle.std.proofs.lemmas.List.{at_drop_more}
+use Rattle.base.proofs.Cases.{when_lt, when_ge}
 use Rattle.splitter.specs.Frames.{eight, count_in}
 use Rattle.oracle.specs.Rows.{frame_in, frames_in, row_in}
 use Rattle.oracle.specs.inner.Frames.{frame_or_none}
@@ -133,16 +134,26 @@ pub ruleset laying_bytes = (arena_none, arena_turn, arena_done, counts_on, small
 
 pub ruleset laying_rows = (list_none, list_turn, list_done, counts_on, small)
 
--- ---- the first n of nine frames, where nine bound n
-module _ (fs : List Frame) (n : ℕ) {m : ℕ} (nine : length fs ≡ 9) (e : m ≡ min n 9) where
-  pub first_there : m ≤ length fs
-  first_there = omega arith
+-- ---- along a lent row: what is left of it at place i, and one frame on
+module _ (fs : List Frame) (i : ℕ) (d : Frame) (h : i < length fs) where
+  pub scan_on : (s₀ s : Scan) {t : Scan} → t ≡ scan_frame s (get_or fs i d) → scan_of s (drop i fs) ≡ scan_of s₀ fs → scan_of t (drop (i + 1) fs) ≡ scan_of s₀ fs
+  scan_on s₀ s et e = ap (λ (u : Scan). scan_of u (drop (i + 1) fs)) et ∙ sym (at_drop_more (scan_of s) fs i d h) ∙ e
 
-  pub first_many : m ≡ length (take m fs)
-  first_many = sym (length-take-le m fs first_there)
+  pub tx_on : (t₀ s : Tx) {t : Tx} → t ≡ tx_of s (get_or fs i d) → tx_all s (drop i fs) ≡ tx_all t₀ fs → tx_all t (drop (i + 1) fs) ≡ tx_all t₀ fs
+  tx_on t₀ s et e = ap (λ (u : Tx). tx_all u (drop (i + 1) fs)) et ∙ sym (at_drop_more (tx_all s) fs i d h) ∙ e
 
-  pub first_same : take m fs ≡ take n fs
-  first_same =
-      less? n 9
-      (λ h. let s : m ≡ n = omega arith in ap (λ (k : ℕ). take k fs) s)
-      (λ h. take_all m fs (omega arith) ∙ sym (take_all n fs (omega arith)))
+  pub arena_on : (s₀ : Scan) (o₀ : List ℕ) (s : Scan) (o : List ℕ) {t : Scan} {p : List ℕ} → t ≡ scan_frame s (get_or fs i d) → p ≡ sets o s.total (added_of s (get_or fs i d))
+      → arena_left s o (drop i fs) ≡ arena_left s₀ o₀ fs → arena_left t p (drop (i + 1) fs) ≡ arena_left s₀ o₀ fs
+  arena_on s₀ o₀ s o et ep e = rw (et, ep) (sym (arena_more s (get_or fs i d) o (drop (i + 1) fs)) ∙ sym (at_drop_more (arena_left s o) fs i d h) ∙ e)
+
+  pub list_on : (s₀ : Scan) (o₀ : List ℕ) (s : Scan) (o : List ℕ) {t : Scan} {p : List ℕ} → t ≡ scan_frame s (get_or fs i d) → p ≡ sets o (3 * s.messages) (row_of s (get_or fs i d))
+      → list_left s o (drop i fs) ≡ list_left s₀ o₀ fs → list_left t p (drop (i + 1) fs) ≡ list_left s₀ o₀ fs
+  list_on s₀ o₀ s o et ep e = rw (et, ep) (sym (list_more s (get_or fs i d) o (drop (i + 1) fs)) ∙ sym (at_drop_more (list_left s o) fs i d h) ∙ e)
+
+pub ruleset scanning_on = (scan_on, counts_on)
+
+pub ruleset checking_on = (tx_on, counts_tx)
+
+pub ruleset laying_bytes_on = (scan_on, arena_on, counts_on)
+
+pub ruleset laying_rows_on = (scan_on, list_on, counts_on)

@@ -7,7 +7,6 @@ use mathlib.Core.List.{List, [], ◌∷◌, ◌++◌}
 use mathlib.Core.Option.{Option, none, some}
 use mathlib.Core.Path.{◌≡◌, refl, sym, ap, ◌∙◌, subst}
 use native.Mathlib.Numerals.{add-one}
-use borrow.Author.Rules.{zero≤}
 use native.Mathlib.Omega.{arith}
 use lib.Dec.{eqb}
 use lib.ListN.{length, get_or, take, drop, length-append, length-take}
@@ -189,7 +188,7 @@ frame_bytes_lem (some p) d payload small fair here l g =
 
 -- ---- counts
 had_fits : (o : Option OpenMessage) (bs : List ℕ) → Fair o → length (had o) ≤ size o bs
-had_fits none bs fair = zero≤
+had_fits none bs fair = omega arith
 had_fits (some p) bs fair = let h : length p.bytes < p.announced = fair.2 in omega arith
 
 in_count : (o : Option OpenMessage) (bs : List ℕ) → Fair o → (n : ℕ) → n ≡ size o bs → at o < count_of n

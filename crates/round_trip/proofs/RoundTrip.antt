@@ -10,7 +10,6 @@ use mathlib.Core.Option.{Option, none, some}
 use mathlib.Core.Path.{◌≡◌, refl, sym, ap, ◌∙◌}
 use native.Mathlib.Numerals.{add-one}
 use native.Mathlib.Omega.{arith}
-use borrow.Author.Rules.{zero≤}
 use lib.ListN.{length, get_or, take, drop, length-append, length-drop, take-append-drop}
 use lib.Seq.{take_all, take-add, take-append-add, drop-append-add, length-take-le}
 use Rattle.base.specs.Answer.{gives}
@@ -102,8 +101,8 @@ module _ (n : ℕ) (m : BenchMessage) (sq : m.sequence ≤ 7) (some_bytes : 1 �
   first_collects : outcome_of n none (split_bytes m.sequence m.payload 0) 8 ≡ collected_at n (record { sequence = m.sequence; announced = length m.payload; index = 1; bytes = take 0 m.payload ++ fill 6 (drop 0 m.payload) })
   unfolding outcome_of first_frame
   first_collects =
-      let z : (m.sequence % 8 * 32 + 0 % 32) % 32 ≡ 0 = told_index m.sequence 0 sq zero≤ in
-      let q : (m.sequence % 8 * 32 + 0 % 32) / 32 ≡ m.sequence = told_sequence m.sequence 0 sq zero≤ in
+      let z : (m.sequence % 8 * 32 + 0 % 32) % 32 ≡ 0 = told_index m.sequence 0 sq (omega arith) in
+      let q : (m.sequence % 8 * 32 + 0 % 32) / 32 ≡ m.sequence = told_sequence m.sequence 0 sq (omega arith) in
       rw first_bytes_lem
       (sym (when_eq _ _ {a = 8} {b = 8} refl (when_eq _ _ z (when_ne _ _ {a = length p} {b = 0} (λ e. omega arith) (when_ge _ _ {a = 223} {b = length p} most refl))))
       ∙ ap (λ (x : ℕ). collected_at n (record { sequence = x; announced = length p; index = 1; bytes = fill 6 p })) q)

@@ -1,5 +1,4 @@
 -- `accept` meets its contract: the facts on each way out pick the law of that case. Assumes nothing.
-use borrow.Author.Rules.{rules}
 use Rattle.oracle.proofs.StrictLaws.{take_open, take_whole}
 use Rattle.oracle.proofs.accept.Goals as goal
 

@@ -1,12 +1,6 @@
 -- `deliver_rows` meets its contract: a loop along the row. Assumes nothing.
 use borrow.Author.Rules.{rules}
-use Prim.Native.Nat.{◌≤◌, ◌-◌}
-use mathlib.Core.Path.{◌≡◌}
-use lib.ListN.{length}
-use Rattle.splitter.specs.Frames.{count_in}
-use Rattle.oracle.specs.Rows.{row_in}
-use Rattle.oracle.specs.inner.Scan.{Counted}
-use Rattle.oracle.proofs.RowLaws.{rest, arena_left, laying_bytes}
+use Rattle.oracle.proofs.RowLaws.{laying_bytes}
 use Rattle.oracle.proofs.deliver_rows.Goals as goal
 
 pub loop-i-init : goal.loop-i-init

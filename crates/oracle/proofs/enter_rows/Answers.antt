@@ -1,12 +1,6 @@
 -- `enter_rows` meets its contract: a loop along the row. Assumes nothing.
 use borrow.Author.Rules.{rules}
-use Prim.Native.Nat.{◌≤◌, ◌-◌}
-use mathlib.Core.Path.{◌≡◌}
-use lib.ListN.{length}
-use Rattle.splitter.specs.Frames.{count_in}
-use Rattle.oracle.specs.Rows.{row_in}
-use Rattle.oracle.specs.inner.Scan.{Counted}
-use Rattle.oracle.proofs.RowLaws.{rest, list_left, laying_rows}
+use Rattle.oracle.proofs.RowLaws.{laying_rows}
 use Rattle.oracle.proofs.enter_rows.Goals as goal
 
 pub loop-i-init : goal.loop-i-init

@@ -1,12 +1,11 @@
 -- `enter_rows` meets its contract: a loop along the row. Assumes nothing.
-use borrow.Author.Rules.{rules}
 use Prim.Native.Nat.{◌≤◌, ◌-◌}
 use mathlib.Core.Path.{◌≡◌}
 use lib.ListN.{length}
 use Rattle.splitter.specs.Frames.{count_in}
 use Rattle.oracle.specs.Rows.{row_in}
 use Rattle.oracle.specs.inner.Scan.{Counted}
-use Rattle.oracle.proofs.RowLaws.{rest, list_left, laying_rows}
+use Rattle.oracle.proofs.RowLaws.{rest, list_left}
 use Rattle.oracle.proofs.enter_rows.Given as goal
 
 abbrev pub invariant-loop-i : goal.invariant-loop-i

@@ -1,6 +1,5 @@
 -- `fault_of` meets its contract: each variant is its clause. Assumes nothing.
 use mathlib.Core.Path.{sym, ap}
-use borrow.Author.Rules.{rules}
 use Rattle.oracle.specs.inner.Tx.{faulty_of}
 use Rattle.oracle.proofs.fault_of.Goals as goal
 

@@ -1,9 +1,5 @@
 -- `put` meets its contract: after i turns the first i bytes are laid. Assumes nothing.
-use Prim.Native.Nat.{◌≤◌, ◌-◌, ◌+◌, ◌<◌}
-use mathlib.Core.Path.{◌≡◌}
 use borrow.Author.Rules.{rules}
-use lib.ListN.{length, take, drop}
-use Rattle.base.proofs.Laying.{laid}
 use Rattle.oracle.proofs.Grows.{laying_part}
 use Rattle.oracle.proofs.put.Goals as goal
 

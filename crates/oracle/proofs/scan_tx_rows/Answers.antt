@@ -1,13 +1,6 @@
 -- `scan_tx_rows` meets its contract: a loop along the row. Assumes nothing.
 use borrow.Author.Rules.{rules}
-use Prim.Native.Nat.{◌≤◌, ◌-◌}
-use mathlib.Core.Path.{◌≡◌}
-use lib.ListN.{length}
-use Rattle.splitter.specs.Frames.{count_in}
-use Rattle.oracle.specs.Rows.{row_in}
-use Rattle.oracle.specs.inner.Scan.{Counted}
-use Rattle.oracle.specs.inner.Tx.{tx_all}
-use Rattle.oracle.proofs.RowLaws.{rest, checking}
+use Rattle.oracle.proofs.RowLaws.{checking}
 use Rattle.oracle.proofs.scan_tx_rows.Goals as goal
 
 pub loop-i-init : goal.loop-i-init

@@ -1,5 +1,4 @@
 -- `tx_start` meets its contract: the facts on each way out pick the law of that case. Assumes nothing.
-use borrow.Author.Rules.{rules}
 use Rattle.oracle.proofs.tx_start.Goals as goal
 
 pub returns : goal.returns

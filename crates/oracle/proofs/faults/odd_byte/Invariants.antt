@@ -1,10 +1,8 @@
 -- `odd_byte` meets its contract: what is left to look at has the same first odd byte. Assumes nothing.
 use Prim.Native.Nat.{◌-◌}
 use mathlib.Core.Path.{◌≡◌}
-use borrow.Author.Rules.{rules}
 use lib.ListN.{length, drop}
 use Rattle.oracle.specs.Strict.{odd_of}
-use Rattle.oracle.proofs.FaultLaws.{oddness}
 use Rattle.oracle.proofs.faults.odd_byte.Given as goal
 
 abbrev pub invariant-loop-i : goal.invariant-loop-i

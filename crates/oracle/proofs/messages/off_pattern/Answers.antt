@@ -1,9 +1,5 @@
 -- `off_pattern` meets its contract: what is left to look at decides. Assumes nothing.
-use Prim.Native.Nat.{◌-◌}
-use mathlib.Core.Path.{◌≡◌}
 use borrow.Author.Rules.{rules}
-use lib.ListN.{length, drop, take}
-use Rattle.oracle.specs.Check.{off_from}
 use Rattle.oracle.proofs.CheckLaws.{offness}
 use Rattle.oracle.proofs.messages.off_pattern.Goals as goal
 

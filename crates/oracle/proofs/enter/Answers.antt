@@ -1,0 +1,7 @@
+-- `enter` meets its contract: what the rest of the row comes to, and what it leaves of the list, is what it was at the start. Assumes nothing.
+use Rattle.std.proofs.Common.{rules}
+use Rattle.oracle.proofs.RowLaws.{laying_rows_on}
+use Rattle.oracle.proofs.enter.Goals as goal
+
+pub loop-i-preserved : goal.loop-i-preserved
+loop-i-preserved c = search (rules, laying_rows_on)
