@@ -5,8 +5,7 @@
 ghost use Rattle.std.specs.Prelude.{◌<◌};
 
 use can_id::{CanId, CanIdParts, Destination, Read};
-use std::io;
-use std::io::{BufReader, BufWriter, ErrorKind, Write};
+use std::io::{self, BufReader, BufWriter, ErrorKind, Write};
 
 fn wide(x: u8) -> u32
     ensures { result < 256 }
