@@ -9,6 +9,7 @@ use assembler::{
 };
 use can_id::CanId;
 use session::{Counters, Mode, PoolKind};
+use std::io::{self, Write};
 
 const ANSWER: u32 = 126208;
 
@@ -64,7 +65,7 @@ fn plain(pgn: u32, index: u8, mark: u8) -> Arrival {
 
 // ---- calls
 
-#[derive(Drop)]
+#[derive(Clone, Copy)]
 struct Kept {
     pool: Pool,
     counters: Counters,
@@ -92,65 +93,93 @@ fn after(r: Received) -> Kept {
     }
 }
 
-fn show(r: Received) {
+fn show<W: Write>(out: &mut W, r: Received) -> io::Result<()> {
     let kind = r.kind;
     let payload = r.payload;
     let counters = r.counters;
     let pool = r.pool;
-    receiving::show_kind(kind);
-    left::tell_message(r.length as u64, payload[0], payload[6]);
-    left::show_with_parts(counters, pool);
+    receiving::show_kind(out, kind)?;
+    left::tell_message(out, r.length as u64, payload[0], payload[6])?;
+    left::show_with_parts(out, counters, pool)
 }
 
-fn show_by_id_with_length(k: Kept, arrival: ArrivalById, length: usize) {
+fn show_by_id_with_length<W: Write>(
+    out: &mut W,
+    k: Kept,
+    arrival: ArrivalById,
+    length: usize,
+) -> io::Result<()> {
     let pool = k.pool;
     let counters = k.counters;
     let x = ArrivalByIdWithLength {
         arrival: arrival,
         length: length,
     };
-    show(receive_by_id_with_length(pool, counters, &[ANSWER, ENGINE], x));
-    say::text(b"  lent: ");
-    show(process_frame_by_id_with_length_through(pool, counters, &[ANSWER, ENGINE], x));
+    show(
+        out,
+        receive_by_id_with_length(pool, counters, &[ANSWER, ENGINE], x),
+    )?;
+    say::text(out, b"  lent: ")?;
+    show(
+        out,
+        process_frame_by_id_with_length_through(pool, counters, &[ANSWER, ENGINE], x),
+    )
 }
 
 // At the entry that is handed the identifier.
-fn by_id(words: &[u8], k: Kept, arrival: ArrivalById) -> Kept {
+fn by_id<W: Write>(out: &mut W, words: &[u8], k: Kept, arrival: ArrivalById) -> io::Result<Kept> {
     let pool = k.pool;
     let counters = k.counters;
-    say::text(words);
+    say::text(out, words)?;
     let r = receive_by_id(pool, counters, &[ANSWER, ENGINE], arrival);
-    show(r);
-    say::text(b"  lent: ");
-    show(process_frame_by_id_through(pool, counters, &[ANSWER, ENGINE], arrival));
-    say::text(b"  at length 8: ");
-    show_by_id_with_length(k, arrival, 8);
-    after(r)
+    show(out, r)?;
+    say::text(out, b"  lent: ")?;
+    show(
+        out,
+        process_frame_by_id_through(pool, counters, &[ANSWER, ENGINE], arrival),
+    )?;
+    say::text(out, b"  at length 8: ")?;
+    show_by_id_with_length(out, k, arrival, 8)?;
+    Ok(after(r))
 }
 
-fn show_plain_with_length(pool: Pool, counters: Counters, arrival: Arrival) {
+fn show_plain_with_length<W: Write>(
+    out: &mut W,
+    pool: Pool,
+    counters: Counters,
+    arrival: Arrival,
+) -> io::Result<()> {
     let x = ArrivalWithLength {
         arrival: arrival,
         length: 8,
     };
-    say::text(b"  at length 8: ");
-    show(receive_with_length(pool, counters, &[ANSWER, ENGINE], x));
-    say::text(b"  lent: ");
-    show(process_frame_with_length_through(pool, counters, &[ANSWER, ENGINE], x));
+    say::text(out, b"  at length 8: ")?;
+    show(
+        out,
+        receive_with_length(pool, counters, &[ANSWER, ENGINE], x),
+    )?;
+    say::text(out, b"  lent: ")?;
+    show(
+        out,
+        process_frame_with_length_through(pool, counters, &[ANSWER, ENGINE], x),
+    )
 }
 
 // At the entry that is handed PGN and source, and in a batch.
-fn by_pgn(words: &[u8], k: Kept, arrival: Arrival) -> Kept {
+fn by_pgn<W: Write>(out: &mut W, words: &[u8], k: Kept, arrival: Arrival) -> io::Result<Kept> {
     let pool = k.pool;
     let counters = k.counters;
-    say::text(words);
+    say::text(out, words)?;
     let r = receive(pool, counters, &[ANSWER, ENGINE], arrival);
-    show(r);
-    say::text(b"  lent: ");
-    show(process_frame_through(pool, counters, &[ANSWER, ENGINE], arrival));
-    show_plain_with_length(pool, counters, arrival);
-    batching::show_with_parts(pool, counters, arrival);
-    after(r)
+    show(out, r)?;
+    say::text(out, b"  lent: ")?;
+    show(
+        out,
+        process_frame_through(pool, counters, &[ANSWER, ENGINE], arrival),
+    )?;
+    show_plain_with_length(out, pool, counters, arrival)?;
+    batching::show_with_parts(out, pool, counters, arrival)?;
+    Ok(after(r))
 }
 
 // ---- the entries
@@ -162,75 +191,104 @@ fn addressed_of_size_33() -> Kept {
     started(pool)
 }
 
-fn original_by_id(words: &[u8], id: u32) {
-    by_id(words, fresh(PoolKind::Original), frame(id, 0, 16));
+fn original_by_id<W: Write>(out: &mut W, words: &[u8], id: u32) -> io::Result<()> {
+    by_id(out, words, fresh(PoolKind::Original), frame(id, 0, 16))?;
+    Ok(())
 }
 
-fn addressed_by_pgn(words: &[u8], pgn: u32) {
-    by_pgn(words, fresh(PoolKind::Addressed), plain(pgn, 0, 16));
+fn addressed_by_pgn<W: Write>(out: &mut W, words: &[u8], pgn: u32) -> io::Result<()> {
+    by_pgn(out, words, fresh(PoolKind::Addressed), plain(pgn, 0, 16))?;
+    Ok(())
 }
 
 // An identifier that is too wide is refused before the pool is looked at, and a pool at the other kind's entry before the list is.
-pub(crate) fn entries() {
+pub(crate) fn entries<W: Write>(out: &mut W) -> io::Result<()> {
     by_id(
+        out,
         b"addressed, of size 33, identifier 0x20000000: ",
         addressed_of_size_33(),
         frame(TOO_WIDE, 0, 16),
-    );
+    )?;
     by_id(
+        out,
         b"addressed, of size 33, identifier 0x1FFFFFFF: ",
         addressed_of_size_33(),
         frame(LAST, 0, 16),
-    );
+    )?;
     by_id(
+        out,
         b"addressed, identifier 0x1FFFFFFF: ",
         fresh(PoolKind::Addressed),
         frame(LAST, 0, 16),
-    );
-    original_by_id(b"original, by identifier 0x20000000: ", TOO_WIDE);
-    original_by_id(b"original, by the identifier of a listed PGN: ", TO_16);
+    )?;
+    original_by_id(out, b"original, by identifier 0x20000000: ", TOO_WIDE)?;
+    original_by_id(out, b"original, by the identifier of a listed PGN: ", TO_16)?;
     original_by_id(
+        out,
         b"original, by the identifier of an unlisted PGN: ",
         UNLISTED,
-    );
-    addressed_by_pgn(b"addressed, by a listed PGN: ", ANSWER);
-    addressed_by_pgn(b"addressed, by an unlisted PGN: ", CLAIM);
+    )?;
+    addressed_by_pgn(out, b"addressed, by a listed PGN: ", ANSWER)?;
+    addressed_by_pgn(out, b"addressed, by an unlisted PGN: ", CLAIM)
 }
 
 // ---- one source, one PGN, one number, and two destinations
 
-fn two_by_id() {
+fn two_by_id<W: Write>(out: &mut W) -> io::Result<()> {
     let mut k = fresh(PoolKind::Addressed);
-    k = by_id(b"addressed, to 16, frame 0: ", k, frame(TO_16, 0, 16));
-    k = by_id(b"addressed, to 17, frame 0: ", k, frame(TO_17, 0, 17));
-    say::text(b"addressed, to 16, frame 1 at length 1: ");
-    show_by_id_with_length(k, frame(TO_16, 1, 16), 1);
-    k = by_id(b"addressed, to 16, frame 1: ", k, frame(TO_16, 1, 16));
-    by_id(b"addressed, to 17, frame 1: ", k, frame(TO_17, 1, 17));
+    k = by_id(out, b"addressed, to 16, frame 0: ", k, frame(TO_16, 0, 16))?;
+    k = by_id(out, b"addressed, to 17, frame 0: ", k, frame(TO_17, 0, 17))?;
+    say::text(out, b"addressed, to 16, frame 1 at length 1: ")?;
+    show_by_id_with_length(out, k, frame(TO_16, 1, 16), 1)?;
+    k = by_id(out, b"addressed, to 16, frame 1: ", k, frame(TO_16, 1, 16))?;
+    by_id(out, b"addressed, to 17, frame 1: ", k, frame(TO_17, 1, 17))?;
+    Ok(())
 }
 
-fn two_by_pgn() {
+fn two_by_pgn<W: Write>(out: &mut W) -> io::Result<()> {
     let mut k = fresh(PoolKind::Original);
-    k = by_pgn(b"original, to 16, frame 0: ", k, plain(ANSWER, 0, 16));
-    k = by_pgn(b"original, to 17, frame 0: ", k, plain(ANSWER, 0, 17));
-    k = by_pgn(b"original, to 16, frame 1: ", k, plain(ANSWER, 1, 16));
-    by_pgn(b"original, to 17, frame 1: ", k, plain(ANSWER, 1, 17));
+    k = by_pgn(out, b"original, to 16, frame 0: ", k, plain(ANSWER, 0, 16))?;
+    k = by_pgn(out, b"original, to 17, frame 0: ", k, plain(ANSWER, 0, 17))?;
+    k = by_pgn(out, b"original, to 16, frame 1: ", k, plain(ANSWER, 1, 16))?;
+    by_pgn(out, b"original, to 17, frame 1: ", k, plain(ANSWER, 1, 17))?;
+    Ok(())
 }
 
-pub(crate) fn two_displays() {
-    two_by_id();
-    two_by_pgn();
+pub(crate) fn two_displays<W: Write>(out: &mut W) -> io::Result<()> {
+    two_by_id(out)?;
+    two_by_pgn(out)
 }
 
 // ---- no destination
 
-pub(crate) fn broadcasts() {
+pub(crate) fn broadcasts<W: Write>(out: &mut W) -> io::Result<()> {
     let mut k = fresh(PoolKind::Addressed);
-    k = by_id(b"addressed, PGN 127489, frame 0: ", k, frame(TO_ALL, 0, 1));
-    by_id(b"addressed, PGN 127489, frame 1: ", k, frame(TO_ALL, 1, 1));
+    k = by_id(
+        out,
+        b"addressed, PGN 127489, frame 0: ",
+        k,
+        frame(TO_ALL, 0, 1),
+    )?;
+    by_id(
+        out,
+        b"addressed, PGN 127489, frame 1: ",
+        k,
+        frame(TO_ALL, 1, 1),
+    )?;
     k = fresh(PoolKind::Original);
-    k = by_pgn(b"original, PGN 127489, frame 0: ", k, plain(ENGINE, 0, 1));
-    by_pgn(b"original, PGN 127489, frame 1: ", k, plain(ENGINE, 1, 1));
+    k = by_pgn(
+        out,
+        b"original, PGN 127489, frame 0: ",
+        k,
+        plain(ENGINE, 0, 1),
+    )?;
+    by_pgn(
+        out,
+        b"original, PGN 127489, frame 1: ",
+        k,
+        plain(ENGINE, 1, 1),
+    )?;
+    Ok(())
 }
 
 // ---- parts of slots
@@ -248,29 +306,32 @@ fn held_by_id(pgn: u32, part: u16) -> Kept {
 }
 
 // A first frame of another source.
-fn beside(words: &[u8], pgn: u32, part: u16) {
-    by_id(words, held_by_id(pgn, part), frame(FROM_36, 0, 16));
+fn beside<W: Write>(out: &mut W, words: &[u8], pgn: u32, part: u16) -> io::Result<()> {
+    by_id(out, words, held_by_id(pgn, part), frame(FROM_36, 0, 16))?;
+    Ok(())
 }
 
-fn parts_of_answers() {
-    beside(b"addressed, 126208 with part 0: ", ANSWER, 0);
-    beside(b"addressed, 126208 with part 1: ", ANSWER, 1);
-    beside(b"addressed, 126208 with part 256: ", ANSWER, 256);
-    beside(b"addressed, 126208 with part 257: ", ANSWER, 257);
+fn parts_of_answers<W: Write>(out: &mut W) -> io::Result<()> {
+    beside(out, b"addressed, 126208 with part 0: ", ANSWER, 0)?;
+    beside(out, b"addressed, 126208 with part 1: ", ANSWER, 1)?;
+    beside(out, b"addressed, 126208 with part 256: ", ANSWER, 256)?;
+    beside(out, b"addressed, 126208 with part 257: ", ANSWER, 257)?;
     by_id(
+        out,
         b"addressed, 126208 with part 256, continued to 255: ",
         held_by_id(ANSWER, 256),
         frame(TO_255, 1, 16),
-    );
+    )?;
+    Ok(())
 }
 
-fn parts_by_pf() {
-    beside(b"addressed, 127489 with part 0: ", ENGINE, 0);
-    beside(b"addressed, 127489 with part 17: ", ENGINE, 17);
-    beside(b"addressed, PF 239 with part 0: ", 0x1_EF00, 0);
-    beside(b"addressed, PF 239 with part 17: ", 0x1_EF00, 17);
-    beside(b"addressed, PF 240 with part 0: ", 0x1_F000, 0);
-    beside(b"addressed, PF 240 with part 17: ", 0x1_F000, 17);
+fn parts_by_pf<W: Write>(out: &mut W) -> io::Result<()> {
+    beside(out, b"addressed, 127489 with part 0: ", ENGINE, 0)?;
+    beside(out, b"addressed, 127489 with part 17: ", ENGINE, 17)?;
+    beside(out, b"addressed, PF 239 with part 0: ", 0x1_EF00, 0)?;
+    beside(out, b"addressed, PF 239 with part 17: ", 0x1_EF00, 17)?;
+    beside(out, b"addressed, PF 240 with part 0: ", 0x1_F000, 0)?;
+    beside(out, b"addressed, PF 240 with part 17: ", 0x1_F000, 17)
 }
 
 // Slots 0 and 1 are in progress, slot 0 to 16, and slot 1 with this part.
@@ -293,27 +354,32 @@ fn idle_by_id(part: u16) -> Kept {
     started(pool)
 }
 
-fn parts_not_looked_at() {
+fn parts_not_looked_at<W: Write>(out: &mut W) -> io::Result<()> {
     by_id(
+        out,
         b"addressed, of size 2, slot 1 with part 257: ",
         held_twice(257, 2),
         frame(TO_16, 1, 16),
-    );
+    )?;
     by_id(
+        out,
         b"addressed, of size 1, slot 1 with part 257: ",
         held_twice(257, 1),
         frame(TO_16, 1, 16),
-    );
+    )?;
     by_id(
+        out,
         b"addressed, slot 1 idle with part 257, an unlisted PGN: ",
         idle_by_id(257),
         frame(UNLISTED, 0, 16),
-    );
+    )?;
     by_id(
+        out,
         b"addressed, slot 1 idle with part 17, to 17: ",
         idle_by_id(17),
         frame(TO_17, 0, 17),
-    );
+    )?;
+    Ok(())
 }
 
 // Slot 0 was opened by source 35, and has part 17.
@@ -334,37 +400,43 @@ fn held_by_pgn(in_progress: bool, size: usize) -> Kept {
     started(pool)
 }
 
-fn parts_of_the_original() {
+fn parts_of_the_original<W: Write>(out: &mut W) -> io::Result<()> {
     by_pgn(
+        out,
         b"original, slot 0 in progress with part 17: ",
         held_by_pgn(true, 2),
         plain(ENGINE, 0, 16),
-    );
+    )?;
     by_pgn(
+        out,
         b"original, slot 0 idle with part 17: ",
         held_by_pgn(false, 2),
         plain(ENGINE, 0, 16),
-    );
+    )?;
     by_pgn(
+        out,
         b"original, of size 0, slot 0 in progress with part 17: ",
         held_by_pgn(true, 0),
         plain(ENGINE, 0, 16),
-    );
+    )?;
+    Ok(())
 }
 
 // The parts of slots in progress within the size are looked at, and no others.
-pub(crate) fn parts() {
-    parts_of_answers();
-    parts_by_pf();
-    parts_not_looked_at();
-    parts_of_the_original();
+pub(crate) fn parts<W: Write>(out: &mut W) -> io::Result<()> {
+    parts_of_answers(out)?;
+    parts_by_pf(out)?;
+    parts_not_looked_at(out)?;
+    parts_of_the_original(out)
 }
 
 // A reset keeps the source and no part.
-pub(crate) fn resets() {
+pub(crate) fn resets<W: Write>(out: &mut W) -> io::Result<()> {
     by_id(
+        out,
         b"addressed, to 16, out of turn: ",
         held_by_id(ANSWER, 17),
         frame(TO_16, 2, 16),
-    );
+    )?;
+    Ok(())
 }

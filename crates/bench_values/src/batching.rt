@@ -3,16 +3,17 @@ use crate::{left, say};
 use assembler::{Arrival, Pool};
 use batch::{Batch, Batched, process_frames};
 use session::{Counters, Mode, PoolKind};
+use std::io::{self, Write};
 
 const PGN: u32 = 127489;
 
 const OTHER_PGN: u32 = 126208;
 
-fn show_result(res: Batched, kind: u8) {
+fn show_result<W: Write>(out: &mut W, res: Batched, kind: u8) -> io::Result<()> {
     match res {
-        Batched::Done => say::number(kind as u64),
-        Batched::ImpossiblePool => say::refused_by(1),
-        Batched::NoRoom => say::refused_by(27),
+        Batched::Done => say::number(out, kind as u64),
+        Batched::ImpossiblePool => say::refused_by(out, 1),
+        Batched::NoRoom => say::refused_by(out, 27),
     }
 }
 
@@ -53,7 +54,12 @@ struct Answered {
     pool: Pool,
 }
 
-fn show_answer(pool: Pool, counters: Counters, arrival: Arrival) -> Answered {
+fn show_answer<W: Write>(
+    out: &mut W,
+    pool: Pool,
+    counters: Counters,
+    arrival: Arrival,
+) -> io::Result<Answered> {
     let mut kinds = [0u8; 1];
     let mut lengths = [0u8; 1];
     let mut arena = [0u8; 7];
@@ -68,44 +74,59 @@ fn show_answer(pool: Pool, counters: Counters, arrival: Arrival) -> Answered {
     let result = r.result;
     let counted = r.counters;
     let after = r.pool;
-    say::text(b"  in a batch: ");
-    show_result(result, kinds[0]);
-    Answered {
+    say::text(out, b"  in a batch: ")?;
+    show_result(out, result, kinds[0])?;
+    Ok(Answered {
         length: wide(lengths[0]),
         first: arena[0],
         last: arena[6],
         counters: counted,
         pool: after,
-    }
+    })
 }
 
-pub(crate) fn show(pool: Pool, counters: Counters, arrival: Arrival) {
-    let r = show_answer(pool, counters, arrival);
+pub(crate) fn show<W: Write>(
+    out: &mut W,
+    pool: Pool,
+    counters: Counters,
+    arrival: Arrival,
+) -> io::Result<()> {
+    let r = show_answer(out, pool, counters, arrival)?;
     let counted = r.counters;
     let after = r.pool;
-    left::show(r.length, counted, after);
+    left::show(out, r.length, counted, after)
 }
 
 // The same with the slot's time.
-pub(crate) fn show_with_time(pool: Pool, counters: Counters, arrival: Arrival) {
-    say::text(b"  ");
-    let r = show_answer(pool, counters, arrival);
+pub(crate) fn show_with_time<W: Write>(
+    out: &mut W,
+    pool: Pool,
+    counters: Counters,
+    arrival: Arrival,
+) -> io::Result<()> {
+    say::text(out, b"  ")?;
+    let r = show_answer(out, pool, counters, arrival)?;
     let counted = r.counters;
     let after = r.pool;
-    left::show_with_time(r.length, counted, after);
+    left::show_with_time(out, r.length, counted, after)
 }
 
 // The same with the message and the parts of two slots.
-pub(crate) fn show_with_parts(pool: Pool, counters: Counters, arrival: Arrival) {
-    let r = show_answer(pool, counters, arrival);
+pub(crate) fn show_with_parts<W: Write>(
+    out: &mut W,
+    pool: Pool,
+    counters: Counters,
+    arrival: Arrival,
+) -> io::Result<()> {
+    let r = show_answer(out, pool, counters, arrival)?;
     let counted = r.counters;
     let after = r.pool;
-    left::tell_message(r.length, r.first, r.last);
-    left::show_with_parts(counted, after);
+    left::tell_message(out, r.length, r.first, r.last)?;
+    left::show_with_parts(out, counted, after)
 }
 
-fn without_kinds(words: &[u8], pool: Pool) {
-    say::text(words);
+fn without_kinds<W: Write>(out: &mut W, words: &[u8], pool: Pool) -> io::Result<()> {
+    say::text(out, words)?;
     let arrival = Arrival {
         now_ms: 0,
         pgn: PGN,
@@ -123,16 +144,16 @@ fn without_kinds(words: &[u8], pool: Pool) {
         &mut arena,
     );
     let result = r.result;
-    show_result(result, 0);
-    say::line();
+    show_result(out, result, 0)?;
+    say::line(out)
 }
 
-pub(crate) fn refusals() {
+pub(crate) fn refusals<W: Write>(out: &mut W) -> io::Result<()> {
     let mut pool = Pool::default();
-    without_kinds(b"a batch with no row for its kinds: ", pool);
+    without_kinds(out, b"a batch with no row for its kinds: ", pool)?;
     pool.size = 33;
-    without_kinds(b"  and for a pool of size 33: ", pool);
+    without_kinds(out, b"  and for a pool of size 33: ", pool)?;
     let made = Pool::with_kind(4, Mode::AsOriginal, PoolKind::Addressed);
     let addressed = made.pool;
-    without_kinds(b"  and for an addressed pool: ", addressed);
+    without_kinds(out, b"  and for an addressed pool: ", addressed)
 }

@@ -5,6 +5,7 @@ use assembler::{
     receive_with_length,
 };
 use session::Counters;
+use std::io::{self, Write};
 
 const PGN: u32 = 127489;
 
@@ -22,54 +23,68 @@ fn frame(index: u8, next: u8, length: usize) -> ArrivalWithLength {
     }
 }
 
-fn show_answer(r: Received) {
+fn show_answer<W: Write>(out: &mut W, r: Received) -> io::Result<()> {
     let kind = r.kind;
     let counted = r.counters;
     let after = r.pool;
-    receiving::show_kind(kind);
-    left::show(r.length as u64, counted, after);
+    receiving::show_kind(out, kind)?;
+    left::show(out, r.length as u64, counted, after)
 }
 
-fn show(words: &[u8], pool: Pool, counters: Counters, x: ArrivalWithLength) {
-    say::text(words);
-    show_answer(receive_with_length(pool, counters, &[PGN], x));
-    say::text(b"  lent: ");
-    show_answer(process_frame_with_length_through(pool, counters, &[PGN], x));
+fn show<W: Write>(
+    out: &mut W,
+    words: &[u8],
+    pool: Pool,
+    counters: Counters,
+    x: ArrivalWithLength,
+) -> io::Result<()> {
+    say::text(out, words)?;
+    show_answer(out, receive_with_length(pool, counters, &[PGN], x))?;
+    say::text(out, b"  lent: ")?;
+    show_answer(
+        out,
+        process_frame_with_length_through(pool, counters, &[PGN], x),
+    )
 }
 
-fn on_a_fresh_pool(words: &[u8], x: ArrivalWithLength) {
+fn on_a_fresh_pool<W: Write>(out: &mut W, words: &[u8], x: ArrivalWithLength) -> io::Result<()> {
     let made = Pool::new(1);
     let pool = made.pool;
-    show(words, pool, left::no_counts(), x);
+    show(out, words, pool, left::no_counts(), x)
 }
 
 // After a first frame that announces so many bytes.
-fn after_a_first_frame(words: &[u8], announced: u8, x: ArrivalWithLength) {
+fn after_a_first_frame<W: Write>(
+    out: &mut W,
+    words: &[u8],
+    announced: u8,
+    x: ArrivalWithLength,
+) -> io::Result<()> {
     let made = Pool::new(1);
     let pool = made.pool;
     let r = receive_with_length(pool, left::no_counts(), &[PGN], frame(0, announced, 8));
     let opened = r.pool;
     let counters = r.counters;
-    show(words, opened, counters, x);
+    show(out, words, opened, counters, x)
 }
 
-pub(crate) fn first_frames() {
-    on_a_fresh_pool(b"00 07 at length 0: ", frame(0, 7, 0));
-    on_a_fresh_pool(b"01 07 at length 0: ", frame(1, 7, 0));
-    on_a_fresh_pool(b"00 07 at length 1: ", frame(0, 7, 1));
-    on_a_fresh_pool(b"00 07 at length 7: ", frame(0, 7, 7));
-    on_a_fresh_pool(b"00 07 at length 8: ", frame(0, 7, 8));
-    on_a_fresh_pool(b"00 03 at length 4: ", frame(0, 3, 4));
-    on_a_fresh_pool(b"00 03 at length 5: ", frame(0, 3, 5));
-    on_a_fresh_pool(b"00 E0 at length 8: ", frame(0, 224, 8));
-    on_a_fresh_pool(b"00 E0 at length 2: ", frame(0, 224, 2));
+pub(crate) fn first_frames<W: Write>(out: &mut W) -> io::Result<()> {
+    on_a_fresh_pool(out, b"00 07 at length 0: ", frame(0, 7, 0))?;
+    on_a_fresh_pool(out, b"01 07 at length 0: ", frame(1, 7, 0))?;
+    on_a_fresh_pool(out, b"00 07 at length 1: ", frame(0, 7, 1))?;
+    on_a_fresh_pool(out, b"00 07 at length 7: ", frame(0, 7, 7))?;
+    on_a_fresh_pool(out, b"00 07 at length 8: ", frame(0, 7, 8))?;
+    on_a_fresh_pool(out, b"00 03 at length 4: ", frame(0, 3, 4))?;
+    on_a_fresh_pool(out, b"00 03 at length 5: ", frame(0, 3, 5))?;
+    on_a_fresh_pool(out, b"00 E0 at length 8: ", frame(0, 224, 8))?;
+    on_a_fresh_pool(out, b"00 E0 at length 2: ", frame(0, 224, 2))
 }
 
-pub(crate) fn continuations() {
-    after_a_first_frame(b"14 announced, 01 at length 7: ", 14, frame(1, 7, 7));
-    after_a_first_frame(b"14 announced, 01 at length 8: ", 14, frame(1, 7, 8));
-    after_a_first_frame(b"8 announced, 01 at length 2: ", 8, frame(1, 7, 2));
-    after_a_first_frame(b"8 announced, 01 at length 3: ", 8, frame(1, 7, 3));
-    after_a_first_frame(b"8 announced, 02 at length 1: ", 8, frame(2, 7, 1));
-    on_a_fresh_pool(b"01 at length 1, no session: ", frame(1, 7, 1));
+pub(crate) fn continuations<W: Write>(out: &mut W) -> io::Result<()> {
+    after_a_first_frame(out, b"14 announced, 01 at length 7: ", 14, frame(1, 7, 7))?;
+    after_a_first_frame(out, b"14 announced, 01 at length 8: ", 14, frame(1, 7, 8))?;
+    after_a_first_frame(out, b"8 announced, 01 at length 2: ", 8, frame(1, 7, 2))?;
+    after_a_first_frame(out, b"8 announced, 01 at length 3: ", 8, frame(1, 7, 3))?;
+    after_a_first_frame(out, b"8 announced, 02 at length 1: ", 8, frame(2, 7, 1))?;
+    on_a_fresh_pool(out, b"01 at length 1, no session: ", frame(1, 7, 1))
 }

@@ -17,26 +17,30 @@ mod say;
 mod set_back;
 mod wide;
 
-fn main() {
-    receiving::one_slot();
-    receiving::full_pool();
-    receiving::continuations();
-    cut_frames::first_frames();
-    cut_frames::continuations();
-    set_back::continuations();
-    set_back::first_frames();
-    set_back::ends_of_the_clock();
-    set_back::idle_slots();
-    addressed::entries();
-    addressed::two_displays();
-    addressed::broadcasts();
-    addressed::parts();
-    addressed::resets();
-    receiving::made();
-    receiving::refusals();
-    batching::refusals();
-    building::refusals();
-    bench_calls::refusals();
-    bench_calls::transmit_refusals();
-    wide::refusals();
+use std::io::{self, BufWriter, Write};
+
+fn main(rt: HostRuntime) -> io::Result<()> {
+    let mut out = BufWriter::new(rt.alloc(), io::writer(&rt))?;
+    receiving::one_slot(&mut out)?;
+    receiving::full_pool(&mut out)?;
+    receiving::continuations(&mut out)?;
+    cut_frames::first_frames(&mut out)?;
+    cut_frames::continuations(&mut out)?;
+    set_back::continuations(&mut out)?;
+    set_back::first_frames(&mut out)?;
+    set_back::ends_of_the_clock(&mut out)?;
+    set_back::idle_slots(&mut out)?;
+    addressed::entries(&mut out)?;
+    addressed::two_displays(&mut out)?;
+    addressed::broadcasts(&mut out)?;
+    addressed::parts(&mut out)?;
+    addressed::resets(&mut out)?;
+    receiving::made(&mut out)?;
+    receiving::refusals(&mut out)?;
+    batching::refusals(&mut out)?;
+    building::refusals(&mut out)?;
+    bench_calls::refusals(&mut out)?;
+    bench_calls::transmit_refusals(&mut out)?;
+    wide::refusals(&mut out)?;
+    out.flush()
 }

@@ -2,6 +2,7 @@
 use crate::{batching, left, say};
 use assembler::{Arrival, Made, MadePool, Pool, Received, receive};
 use session::{Counters, Kind, Mode, PoolKind};
+use std::io::{self, Write};
 
 const PGN: u32 = 127489;
 
@@ -21,27 +22,27 @@ fn unlisted_frame() -> Arrival {
     arrival
 }
 
-pub(crate) fn show_kind(kind: Kind) {
+pub(crate) fn show_kind<W: Write>(out: &mut W, kind: Kind) -> io::Result<()> {
     match kind {
-        Kind::ImpossiblePool => say::refused_by(1),
-        Kind::TooWide => say::refused_by(8),
-        Kind::NotListed => say::text(b"NotListed"),
-        Kind::Rejected => say::text(b"Rejected"),
-        Kind::PoolFull => say::text(b"PoolFull"),
-        Kind::Lost => say::text(b"Lost"),
-        Kind::FragmentConsumed => say::text(b"FragmentConsumed"),
-        Kind::MessageComplete => say::text(b"MessageComplete"),
+        Kind::ImpossiblePool => say::refused_by(out, 1),
+        Kind::TooWide => say::refused_by(out, 8),
+        Kind::NotListed => say::text(out, b"NotListed"),
+        Kind::Rejected => say::text(out, b"Rejected"),
+        Kind::PoolFull => say::text(out, b"PoolFull"),
+        Kind::Lost => say::text(out, b"Lost"),
+        Kind::FragmentConsumed => say::text(out, b"FragmentConsumed"),
+        Kind::MessageComplete => say::text(out, b"MessageComplete"),
     }
 }
 
-fn show(pool: Pool, counters: Counters, arrival: Arrival) {
+fn show<W: Write>(out: &mut W, pool: Pool, counters: Counters, arrival: Arrival) -> io::Result<()> {
     let r = receive(pool, counters, &[PGN], arrival);
     let kind = r.kind;
     let counted = r.counters;
     let after = r.pool;
-    show_kind(kind);
-    left::show(r.length as u64, counted, after);
-    batching::show(pool, counters, arrival);
+    show_kind(out, kind)?;
+    left::show(out, r.length as u64, counted, after)?;
+    batching::show(out, pool, counters, arrival)
 }
 
 // A pool of one slot, which source 35 has taken at 0: seven bytes are announced, one is missing.
@@ -51,149 +52,183 @@ fn taken() -> Received {
     receive(pool, left::no_counts(), &[PGN], frame(0, 35, 0, 7))
 }
 
-fn heard_by_one(words: &[u8], arrival: Arrival) {
-    say::text(words);
+fn heard_by_one<W: Write>(out: &mut W, words: &[u8], arrival: Arrival) -> io::Result<()> {
+    say::text(out, words)?;
     let r = taken();
     let pool = r.pool;
     let counters = r.counters;
-    show(pool, counters, arrival);
+    show(out, pool, counters, arrival)
 }
 
 // One slot, another key's message silent 500, and 501.
-pub(crate) fn one_slot() {
-    heard_by_one(b"one slot, silent 500: ", frame(500, 36, 0, 7));
-    heard_by_one(b"one slot, silent 501: ", frame(501, 36, 0, 7));
+pub(crate) fn one_slot<W: Write>(out: &mut W) -> io::Result<()> {
+    heard_by_one(out, b"one slot, silent 500: ", frame(500, 36, 0, 7))?;
+    heard_by_one(out, b"one slot, silent 501: ", frame(501, 36, 0, 7))
 }
 
 // With no slot free only a message that needs one finds the pool full.
-pub(crate) fn full_pool() {
-    heard_by_one(b"no slot free, an unlisted PGN: ", unlisted_frame());
-    heard_by_one(b"no slot free, announced 0: ", frame(0, 36, 0, 0));
-    heard_by_one(b"no slot free, announced 1: ", frame(0, 36, 0, 1));
-    heard_by_one(b"no slot free, announced 6: ", frame(0, 36, 0, 6));
-    heard_by_one(b"no slot free, announced 7: ", frame(0, 36, 0, 7));
-    heard_by_one(b"no slot free, announced 223: ", frame(0, 36, 0, 223));
-    heard_by_one(b"no slot free, announced 224: ", frame(0, 36, 0, 224));
+pub(crate) fn full_pool<W: Write>(out: &mut W) -> io::Result<()> {
+    heard_by_one(out, b"no slot free, an unlisted PGN: ", unlisted_frame())?;
+    heard_by_one(out, b"no slot free, announced 0: ", frame(0, 36, 0, 0))?;
+    heard_by_one(out, b"no slot free, announced 1: ", frame(0, 36, 0, 1))?;
+    heard_by_one(out, b"no slot free, announced 6: ", frame(0, 36, 0, 6))?;
+    heard_by_one(out, b"no slot free, announced 7: ", frame(0, 36, 0, 7))?;
+    heard_by_one(out, b"no slot free, announced 223: ", frame(0, 36, 0, 223))?;
+    heard_by_one(out, b"no slot free, announced 224: ", frame(0, 36, 0, 224))
 }
 
 // A continuation that is lost leaves its slot, unless it is out of turn.
-pub(crate) fn continuations() {
-    heard_by_one(b"a continuation of another source: ", frame(0, 36, 1, 7));
-    heard_by_one(b"a continuation out of turn: ", frame(0, 35, 2, 7));
-    heard_by_one(b"a continuation after 500 ms: ", frame(500, 35, 1, 7));
-    heard_by_one(b"a continuation after 501 ms: ", frame(501, 35, 1, 7));
+pub(crate) fn continuations<W: Write>(out: &mut W) -> io::Result<()> {
+    heard_by_one(
+        out,
+        b"a continuation of another source: ",
+        frame(0, 36, 1, 7),
+    )?;
+    heard_by_one(out, b"a continuation out of turn: ", frame(0, 35, 2, 7))?;
+    heard_by_one(out, b"a continuation after 500 ms: ", frame(500, 35, 1, 7))?;
+    heard_by_one(out, b"a continuation after 501 ms: ", frame(501, 35, 1, 7))
 }
 
-fn show_made(made: MadePool) {
+fn show_made<W: Write>(out: &mut W, made: MadePool) -> io::Result<()> {
     let result = made.result;
     let pool = made.pool;
     match result {
-        Made::Fresh => say::text(b"fresh"),
-        Made::ImpossiblePool => say::refused_by(1),
+        Made::Fresh => say::text(out, b"fresh")?,
+        Made::ImpossiblePool => say::refused_by(out, 1)?,
     }
-    say::text(b", size ");
-    say::number(pool.size as u64);
+    say::text(out, b", size ")?;
+    say::number(out, pool.size as u64)
 }
 
-pub(crate) fn show_mode(mode: Mode) {
+pub(crate) fn show_mode<W: Write>(out: &mut W, mode: Mode) -> io::Result<()> {
     match mode {
-        Mode::AsOriginal => say::text(b"as the original"),
-        Mode::SetBackIsSilence => say::text(b"set back is silence"),
+        Mode::AsOriginal => say::text(out, b"as the original"),
+        Mode::SetBackIsSilence => say::text(out, b"set back is silence"),
     }
 }
 
-fn made_as_original(words: &[u8], size: usize) {
-    say::text(words);
-    show_made(Pool::new(size));
-    say::line();
+fn made_as_original<W: Write>(out: &mut W, words: &[u8], size: usize) -> io::Result<()> {
+    say::text(out, words)?;
+    show_made(out, Pool::new(size))?;
+    say::line(out)
 }
 
-fn made_in_a_mode(words: &[u8], size: usize, mode: Mode) {
-    say::text(words);
+fn made_in_a_mode<W: Write>(out: &mut W, words: &[u8], size: usize, mode: Mode) -> io::Result<()> {
+    say::text(out, words)?;
     let made = Pool::with_mode(size, mode);
-    show_made(made);
+    show_made(out, made)?;
     let pool = made.pool;
     let kept = pool.mode;
-    say::text(b", ");
-    show_mode(kept);
-    say::line();
+    say::text(out, b", ")?;
+    show_mode(out, kept)?;
+    say::line(out)
 }
 
-fn show_pool_kind(kind: PoolKind) {
+fn show_pool_kind<W: Write>(out: &mut W, kind: PoolKind) -> io::Result<()> {
     match kind {
-        PoolKind::Original => say::text(b"key without destination"),
-        PoolKind::Addressed => say::text(b"key with destination"),
+        PoolKind::Original => say::text(out, b"key without destination"),
+        PoolKind::Addressed => say::text(out, b"key with destination"),
     }
 }
 
-fn made_of_a_kind(words: &[u8], size: usize, mode: Mode, kind: PoolKind) {
-    say::text(words);
+fn made_of_a_kind<W: Write>(
+    out: &mut W,
+    words: &[u8],
+    size: usize,
+    mode: Mode,
+    kind: PoolKind,
+) -> io::Result<()> {
+    say::text(out, words)?;
     let made = Pool::with_kind(size, mode, kind);
-    show_made(made);
+    show_made(out, made)?;
     let pool = made.pool;
     let kept = pool.mode;
     let of = pool.kind;
-    say::text(b", ");
-    show_mode(kept);
-    say::text(b", ");
-    show_pool_kind(of);
-    say::line();
+    say::text(out, b", ")?;
+    show_mode(out, kept)?;
+    say::text(out, b", ")?;
+    show_pool_kind(out, of)?;
+    say::line(out)
 }
 
-fn made_of_each_kind(words: &[u8], size: usize) {
-    made_of_a_kind(words, size, Mode::AsOriginal, PoolKind::Original);
-    made_of_a_kind(words, size, Mode::AsOriginal, PoolKind::Addressed);
-    made_of_a_kind(words, size, Mode::SetBackIsSilence, PoolKind::Original);
-    made_of_a_kind(words, size, Mode::SetBackIsSilence, PoolKind::Addressed);
+fn made_of_each_kind<W: Write>(out: &mut W, words: &[u8], size: usize) -> io::Result<()> {
+    made_of_a_kind(out, words, size, Mode::AsOriginal, PoolKind::Original)?;
+    made_of_a_kind(out, words, size, Mode::AsOriginal, PoolKind::Addressed)?;
+    made_of_a_kind(out, words, size, Mode::SetBackIsSilence, PoolKind::Original)?;
+    made_of_a_kind(
+        out,
+        words,
+        size,
+        Mode::SetBackIsSilence,
+        PoolKind::Addressed,
+    )
 }
 
-pub(crate) fn made() {
-    made_as_original(b"a pool of 32: ", 32);
-    made_as_original(b"a pool of 33: ", 33);
-    made_in_a_mode(b"a pool of 32 in a mode: ", 32, Mode::AsOriginal);
-    made_in_a_mode(b"a pool of 32 in a mode: ", 32, Mode::SetBackIsSilence);
-    made_in_a_mode(b"a pool of 33 in a mode: ", 33, Mode::AsOriginal);
-    made_in_a_mode(b"a pool of 33 in a mode: ", 33, Mode::SetBackIsSilence);
-    made_of_each_kind(b"a pool of 32 of a kind: ", 32);
-    made_of_each_kind(b"a pool of 33 of a kind: ", 33);
+pub(crate) fn made<W: Write>(out: &mut W) -> io::Result<()> {
+    made_as_original(out, b"a pool of 32: ", 32)?;
+    made_as_original(out, b"a pool of 33: ", 33)?;
+    made_in_a_mode(out, b"a pool of 32 in a mode: ", 32, Mode::AsOriginal)?;
+    made_in_a_mode(out, b"a pool of 32 in a mode: ", 32, Mode::SetBackIsSilence)?;
+    made_in_a_mode(out, b"a pool of 33 in a mode: ", 33, Mode::AsOriginal)?;
+    made_in_a_mode(out, b"a pool of 33 in a mode: ", 33, Mode::SetBackIsSilence)?;
+    made_of_each_kind(out, b"a pool of 32 of a kind: ", 32)?;
+    made_of_each_kind(out, b"a pool of 33 of a kind: ", 33)
 }
 
-fn heard_by_size(words: &[u8], size: usize, arrival: Arrival) {
-    say::text(words);
+fn heard_by_size<W: Write>(
+    out: &mut W,
+    words: &[u8],
+    size: usize,
+    arrival: Arrival,
+) -> io::Result<()> {
+    say::text(out, words)?;
     let mut pool = Pool::default();
     pool.size = size;
-    show(pool, left::no_counts(), arrival);
+    show(out, pool, left::no_counts(), arrival)
 }
 
-fn heard_by_sequence_eight(words: &[u8], arrival: Arrival) {
-    say::text(words);
+fn heard_by_sequence_eight<W: Write>(
+    out: &mut W,
+    words: &[u8],
+    arrival: Arrival,
+) -> io::Result<()> {
+    say::text(out, words)?;
     let r = taken();
     let mut pool = r.pool;
     let counters = r.counters;
     pool.heads[0].sequence_id = 8;
-    show(pool, counters, arrival);
+    show(out, pool, counters, arrival)
 }
 
 // An impossible pool is refused before the frame is looked at.
-pub(crate) fn refusals() {
+pub(crate) fn refusals<W: Write>(out: &mut W) -> io::Result<()> {
     heard_by_size(
+        out,
         b"a first frame for a pool of size 32: ",
         32,
         frame(0, 35, 0, 7),
-    );
+    )?;
     heard_by_size(
+        out,
         b"a first frame for a pool of size 33: ",
         33,
         frame(0, 35, 0, 7),
-    );
+    )?;
     heard_by_size(
+        out,
         b"an unlisted PGN for a pool of size 33: ",
         33,
         unlisted_frame(),
-    );
-    heard_by_size(b"six bytes for a pool of size 33: ", 33, frame(0, 35, 0, 6));
+    )?;
+    heard_by_size(
+        out,
+        b"six bytes for a pool of size 33: ",
+        33,
+        frame(0, 35, 0, 6),
+    )?;
     heard_by_sequence_eight(
+        out,
         b"an unlisted PGN for a slot with sequence 8: ",
         unlisted_frame(),
-    );
+    )
 }

@@ -1,65 +1,73 @@
-// Words and numbers on standard output.
-use libc::STDOUT_FILENO;
+// Words and numbers, written to `out`.
+use std::io::{self, Write};
 
-pub(crate) fn text(words: &[u8]) {
-    io::write_all(STDOUT_FILENO, words);
+pub(crate) fn text<W: Write>(out: &mut W, words: &[u8]) -> io::Result<()> {
+    out.write_all(words)
 }
 
-pub(crate) fn number(n: u64) {
-    io::print_decimal(STDOUT_FILENO, n);
+pub(crate) fn number<W: Write>(out: &mut W, n: u64) -> io::Result<()> {
+    write!(out, "{n}")
 }
 
-pub(crate) fn line() {
-    text(b"\n");
+pub(crate) fn line<W: Write>(out: &mut W) -> io::Result<()> {
+    text(out, b"\n")
 }
 
 // Words, a number and the end of the line.
-pub(crate) fn counted(words: &[u8], n: u64) {
-    text(words);
-    number(n);
-    line();
+pub(crate) fn counted<W: Write>(out: &mut W, words: &[u8], n: u64) -> io::Result<()> {
+    text(out, words)?;
+    number(out, n)?;
+    line(out)
 }
 
 // A refusal's number, and what it carries.
-pub(crate) fn refused_by(n: u64) {
-    text(b"refusal ");
-    number(n);
+pub(crate) fn refused_by<W: Write>(out: &mut W, n: u64) -> io::Result<()> {
+    text(out, b"refusal ")?;
+    number(out, n)
 }
 
-fn carried(a: u64) {
-    text(b": ");
-    number(a);
+fn carried<W: Write>(out: &mut W, a: u64) -> io::Result<()> {
+    text(out, b": ")?;
+    number(out, a)
 }
 
-fn also(a: u64) {
-    text(b" ");
-    number(a);
+fn also<W: Write>(out: &mut W, a: u64) -> io::Result<()> {
+    text(out, b" ")?;
+    number(out, a)
 }
 
-pub(crate) fn refusal(n: u64) {
-    refused_by(n);
-    line();
+pub(crate) fn refusal<W: Write>(out: &mut W, n: u64) -> io::Result<()> {
+    refused_by(out, n)?;
+    line(out)
 }
 
-pub(crate) fn refusal_with(n: u64, a: u64) {
-    refused_by(n);
-    carried(a);
-    line();
+pub(crate) fn refusal_with<W: Write>(out: &mut W, n: u64, a: u64) -> io::Result<()> {
+    refused_by(out, n)?;
+    carried(out, a)?;
+    line(out)
 }
 
-pub(crate) fn refusal_with_two(n: u64, a: u64, b: u64) {
-    refused_by(n);
-    carried(a);
-    also(b);
-    line();
+pub(crate) fn refusal_with_two<W: Write>(out: &mut W, n: u64, a: u64, b: u64) -> io::Result<()> {
+    refused_by(out, n)?;
+    carried(out, a)?;
+    also(out, b)?;
+    line(out)
 }
 
-pub(crate) fn refusal_with_five(n: u64, a: u64, b: u64, c: u64, d: u64, e: u64) {
-    refused_by(n);
-    carried(a);
-    also(b);
-    also(c);
-    also(d);
-    also(e);
-    line();
+pub(crate) fn refusal_with_five<W: Write>(
+    out: &mut W,
+    n: u64,
+    a: u64,
+    b: u64,
+    c: u64,
+    d: u64,
+    e: u64,
+) -> io::Result<()> {
+    refused_by(out, n)?;
+    carried(out, a)?;
+    also(out, b)?;
+    also(out, c)?;
+    also(out, d)?;
+    also(out, e)?;
+    line(out)
 }

@@ -12,70 +12,78 @@
 use builder::{FastPacketBuilder, FrameIterator, NextKind};
 use can_id::{CanFrame, CanIdBuildError, Destination};
 use fast_packet::MAX_FAST_PACKET_PAYLOAD;
-use libc::STDOUT_FILENO;
+use std::io::{self, BufWriter, Write};
 
 // One byte more than a message can have.
 const TOO_MANY: usize = MAX_FAST_PACKET_PAYLOAD + 1;
 
 // ---- writing an answer
 
-fn say(text: &[u8]) {
-    io::write_all(STDOUT_FILENO, text);
+fn say<W: Write>(out: &mut W, text: &[u8]) -> io::Result<()> {
+    out.write_all(text)
 }
 
-fn say_number(n: usize) {
-    io::print_decimal(STDOUT_FILENO, n as u64);
+fn say_number<W: Write>(out: &mut W, n: usize) -> io::Result<()> {
+    write!(out, "{n}")
 }
 
-fn say_byte(b: u8) {
-    io::print_hex(STDOUT_FILENO, b as u64, 2);
+fn say_byte<W: Write>(out: &mut W, b: u8) -> io::Result<()> {
+    write!(out, "{b:02x}")
 }
 
-fn say_bytes(data: [u8; 8]) {
+fn say_bytes<W: Write>(out: &mut W, data: [u8; 8]) -> io::Result<()> {
     for i in 0usize..8 {
-        say_byte(data[i]);
+        say_byte(out, data[i])?;
     }
+    Ok(())
 }
 
-fn say_kind(kind: NextKind) {
+fn say_kind<W: Write>(out: &mut W, kind: NextKind) -> io::Result<()> {
     match kind {
-        NextKind::Frame => say(b"frame"),
-        NextKind::End => say(b"End"),
-        NextKind::Refused(error) => say_refusal(error),
+        NextKind::Frame => say(out, b"frame"),
+        NextKind::End => say(out, b"End"),
+        NextKind::Refused(error) => say_refusal(out, error),
     }
 }
 
-fn say_refusal(error: CanIdBuildError) {
+fn say_refusal<W: Write>(out: &mut W, error: CanIdBuildError) -> io::Result<()> {
     match error {
-        CanIdBuildError::InvalidData => say(b"refusal 2"),
-        CanIdBuildError::InvalidForBroadcast => say(b"refusal 4"),
+        CanIdBuildError::InvalidData => say(out, b"refusal 2"),
+        CanIdBuildError::InvalidForBroadcast => say(out, b"refusal 4"),
         CanIdBuildError::InvalidForFocusedMessage { pgn } => {
-            say(b"refusal 5, ");
-            say_number(pgn as usize);
+            say(out, b"refusal 5, ")?;
+            say_number(out, pgn as usize)
         }
-        CanIdBuildError::PsFocusMessageMustBeNull => say(b"refusal 6"),
-        CanIdBuildError::EmptyPayload => say(b"refusal 7"),
+        CanIdBuildError::PsFocusMessageMustBeNull => say(out, b"refusal 6"),
+        CanIdBuildError::EmptyPayload => say(out, b"refusal 7"),
     }
 }
 
-fn say_frame(frame: CanFrame) {
-    io::print_hex(STDOUT_FILENO, frame.id.0 as u64, 8);
-    say(b" ");
+fn say_frame<W: Write>(out: &mut W, frame: CanFrame) -> io::Result<()> {
+    let id = frame.id.0;
+    write!(out, "{id:08x}")?;
+    say(out, b" ")?;
     let data = frame.data;
-    say_bytes(data);
-    say(b" ");
-    say_number(frame.len);
+    say_bytes(out, data)?;
+    say(out, b" ")?;
+    say_number(out, frame.len)
 }
 
-fn say_answer(kind: NextKind, frame: CanFrame, frame_index: u8, bytes_sent: usize) {
-    say_kind(kind);
-    say(b": ");
-    say_frame(frame);
-    say(b", then index ");
-    say_number(frame_index as usize);
-    say(b", sent ");
-    say_number(bytes_sent);
-    say(b"\n");
+fn say_answer<W: Write>(
+    out: &mut W,
+    kind: NextKind,
+    frame: CanFrame,
+    frame_index: u8,
+    bytes_sent: usize,
+) -> io::Result<()> {
+    say_kind(out, kind)?;
+    say(out, b": ")?;
+    say_frame(out, frame)?;
+    say(out, b", then index ")?;
+    say_number(out, frame_index as usize)?;
+    say(out, b", sent ")?;
+    say_number(out, bytes_sent)?;
+    say(out, b"\n")
 }
 
 // Whether another answer follows that is worth writing.
@@ -98,32 +106,34 @@ fn first(bytes: &[u8], len: usize) -> &[u8] {
 }
 
 // All answers up to End, at most 40.
-fn walk(started: FrameIterator, payload: &[u8]) {
+fn walk<W: Write>(out: &mut W, started: FrameIterator, payload: &[u8]) -> io::Result<()> {
     let mut frames = started;
     for turn in 0usize..40 {
         let item = frames.next(payload);
         frames = item.iterator;
         let kind = item.kind;
         let frame = item.frame;
-        say_answer(kind, frame, frames.frame_index, frames.bytes_sent);
+        say_answer(out, kind, frame, frames.frame_index, frames.bytes_sent)?;
         if !goes_on(kind) {
-            return;
+            return Ok(());
         }
     }
+    Ok(())
 }
 
 // The message of a new builder, and the number that the caller holds then. Its payload is the first `len` bytes.
-fn message(
+fn message<W: Write>(
+    out: &mut W,
     title: &[u8],
     pgn: u32,
     destination: Destination,
     bytes: &[u8],
     len: usize,
     sequence_id: u8,
-) {
+) -> io::Result<()> {
     let payload = first(bytes, len);
-    say(title);
-    say(b"\n");
+    say(out, title)?;
+    say(out, b"\n")?;
     let made = FastPacketBuilder::new(
         pgn,
         35,
@@ -133,76 +143,101 @@ fn message(
         sequence_id,
     );
     let builder = made.builder;
-    walk(builder.build(), payload);
-    say(b"number handed back ");
-    say_number(made.sequence_id as usize);
-    say(b"\n");
+    walk(out, builder.build(), payload)?;
+    say(out, b"number handed back ")?;
+    say_number(out, made.sequence_id as usize)?;
+    say(out, b"\n")
 }
 
 // One step on numbers.
-fn at(
+fn at<W: Write>(
+    out: &mut W,
     title: &[u8],
     builder: FastPacketBuilder,
     frame_index: u8,
     bytes_sent: usize,
     bytes: &[u8],
     len: usize,
-) {
-    say(title);
-    say(b"\n");
+) -> io::Result<()> {
+    say(out, title)?;
+    say(out, b"\n")?;
     let next = builder.next_frame(frame_index, bytes_sent, first(bytes, len));
     let kind = next.kind;
     let frame = next.frame;
-    say_answer(kind, frame, next.frame_index, next.bytes_sent);
+    say_answer(out, kind, frame, next.frame_index, next.bytes_sent)
 }
 
 // The bytes 0, 1, 2 and so on.
 fn counting() -> [u8; TOO_MANY] {
     let mut bytes = [0u8; TOO_MANY];
-    let mut i: usize = 0;
-    while i < TOO_MANY {
+    for i in 0..TOO_MANY {
         bytes[i] = i as u8;
-        i += 1;
     }
     bytes
 }
 
 // ---- the values
 
-fn messages(bytes: &[u8]) {
+fn messages<W: Write>(out: &mut W, bytes: &[u8]) -> io::Result<()> {
     let nobody = Destination::Nobody;
     message(
+        out,
         b"P8: listed, number 2, 01 02 03",
         127489,
         nobody,
         &[1, 2, 3],
         3,
         2,
-    );
-    message(b"unlisted, 8 bytes", 127245, nobody, bytes, 8, 0);
-    message(b"unlisted, 9 bytes, number 9", 127245, nobody, bytes, 9, 9);
+    )?;
+    message(out, b"unlisted, 8 bytes", 127245, nobody, bytes, 8, 0)?;
     message(
+        out,
+        b"unlisted, 9 bytes, number 9",
+        127245,
+        nobody,
+        bytes,
+        9,
+        9,
+    )?;
+    message(
+        out,
         b"223 bytes, number 7",
         127489,
         nobody,
         bytes,
         MAX_FAST_PACKET_PAYLOAD,
         7,
-    );
+    )
 }
 
-fn refusals(bytes: &[u8]) {
+fn refusals<W: Write>(out: &mut W, bytes: &[u8]) -> io::Result<()> {
     let nobody = Destination::Nobody;
-    message(b"empty payload", 127489, nobody, bytes, 0, 3);
-    message(b"60928 to nobody", 60928, nobody, bytes, 8, 4);
-    message(b"127489 to 16", 127489, Destination::To(16), bytes, 9, 5);
-    message(b"60929 to 255", 60929, Destination::To(255), bytes, 8, 6);
-    message(b"PGN 0x40000", 0x4_0000, nobody, bytes, 7, 8);
-    message(b"224 bytes", 127489, nobody, bytes, TOO_MANY, 255);
+    message(out, b"empty payload", 127489, nobody, bytes, 0, 3)?;
+    message(out, b"60928 to nobody", 60928, nobody, bytes, 8, 4)?;
+    message(
+        out,
+        b"127489 to 16",
+        127489,
+        Destination::To(16),
+        bytes,
+        9,
+        5,
+    )?;
+    message(
+        out,
+        b"60929 to 255",
+        60929,
+        Destination::To(255),
+        bytes,
+        8,
+        6,
+    )?;
+    message(out, b"PGN 0x40000", 0x4_0000, nobody, bytes, 7, 8)?;
+    message(out, b"224 bytes", 127489, nobody, bytes, TOO_MANY, 255)
 }
 
 // A sequence and a priority, of which three bits are kept, and a destination.
-fn setters(bytes: &[u8]) {
+fn setters<W: Write>(out: &mut W, bytes: &[u8]) -> io::Result<()> {
     let payload = first(bytes, 20);
     let made = FastPacketBuilder::new(126208, 35, Destination::Nobody, payload, &[126208], 0);
     let builder = made.builder;
@@ -210,12 +245,12 @@ fn setters(bytes: &[u8]) {
         .with_sequence_id(13)
         .with_priority(11)
         .to_destination(16);
-    say(b"126208 to 16, priority 11, sequence 13\n");
-    walk(set.build(), payload);
+    say(out, b"126208 to 16, priority 11, sequence 13\n")?;
+    walk(out, set.build(), payload)
 }
 
 // Steps that no message comes to from its start.
-fn steps(bytes: &[u8]) {
+fn steps<W: Write>(out: &mut W, bytes: &[u8]) -> io::Result<()> {
     let fast = FastPacketBuilder {
         pgn: 127489,
         source_address: 35,
@@ -232,28 +267,39 @@ fn steps(bytes: &[u8]) {
         sequence_id: 0,
         fast: false,
     };
-    at(b"index 255 comes round", fast, 255, 6, bytes, 20);
-    at(b"index 255, no byte sent", fast, 255, 0, bytes, 20);
-    at(b"index 40, 19 bytes sent", fast, 40, 19, bytes, 20);
-    at(b"bytes sent past the length", fast, 3, 21, bytes, 20);
-    at(b"empty payload at index 5", fast, 5, 9, bytes, 0);
-    at(b"empty payload at index 0, 9 sent", fast, 0, 9, bytes, 0);
-    at(b"raw, 2 bytes sent, index 9", raw, 9, 2, bytes, 5);
-    at(b"marked not fast, 9 bytes", raw, 0, 0, bytes, 9);
+    at(out, b"index 255 comes round", fast, 255, 6, bytes, 20)?;
+    at(out, b"index 255, no byte sent", fast, 255, 0, bytes, 20)?;
+    at(out, b"index 40, 19 bytes sent", fast, 40, 19, bytes, 20)?;
+    at(out, b"bytes sent past the length", fast, 3, 21, bytes, 20)?;
+    at(out, b"empty payload at index 5", fast, 5, 9, bytes, 0)?;
     at(
+        out,
+        b"empty payload at index 0, 9 sent",
+        fast,
+        0,
+        9,
+        bytes,
+        0,
+    )?;
+    at(out, b"raw, 2 bytes sent, index 9", raw, 9, 2, bytes, 5)?;
+    at(out, b"marked not fast, 9 bytes", raw, 0, 0, bytes, 9)?;
+    at(
+        out,
         b"marked not fast, 9 bytes, 3 sent, index 4",
         raw,
         4,
         3,
         bytes,
         9,
-    );
+    )
 }
 
-fn main() {
+fn main(rt: HostRuntime) -> io::Result<()> {
+    let mut out = BufWriter::new(rt.alloc(), io::writer(&rt))?;
     let bytes = counting();
-    messages(&bytes);
-    refusals(&bytes);
-    setters(&bytes);
-    steps(&bytes);
+    messages(&mut out, &bytes)?;
+    refusals(&mut out, &bytes)?;
+    setters(&mut out, &bytes)?;
+    steps(&mut out, &bytes)?;
+    out.flush()
 }

@@ -6,6 +6,7 @@ use assembler::{Arrival, ArrivalById, Pool, Received, receive, receive_by_id};
 use builder::FastPacketBuilder;
 use can_id::{CanFrame, Destination};
 use session::{Mode, PoolKind};
+use std::io::{self, Write};
 
 const PGN: u32 = 126208;
 
@@ -63,54 +64,67 @@ fn heard_by_destination(g: Gateway, now_ms: u64, frame: CanFrame) -> Received {
 }
 
 // Whose a message is stands in its bytes: the first six came in one frame, the seventh in the next.
-fn tell_answer(r: Received) {
-    gateway::tell_kind(r);
+fn tell_answer<W: Write>(out: &mut W, r: Received) -> io::Result<()> {
+    gateway::tell_kind(out, r)?;
     if 0 < r.length {
         let payload = r.payload;
-        say::told(b": first byte ", engine::wide(payload[0]));
-        say::told(b", last ", engine::wide(payload[6]));
+        say::told(out, b": first byte ", engine::wide(payload[0]))?;
+        say::told(out, b", last ", engine::wide(payload[6]))?;
     }
+    Ok(())
 }
 
-fn show_frame(now_ms: u64, display: u8, index: u8) {
-    say::told(b"  at ", now_ms);
-    say::told(b" ms from ", GATEWAY as u64);
-    say::told(b" to ", display as u64);
-    say::told(b", message ", SEQUENCE as u64);
-    say::told(b", frame ", index as u64);
-    say::text(b": ");
+fn show_frame<W: Write>(out: &mut W, now_ms: u64, display: u8, index: u8) -> io::Result<()> {
+    say::told(out, b"  at ", now_ms)?;
+    say::told(out, b" ms from ", GATEWAY as u64)?;
+    say::told(out, b" to ", display as u64)?;
+    say::told(out, b", message ", SEQUENCE as u64)?;
+    say::told(out, b", frame ", index as u64)?;
+    say::text(out, b": ")
 }
 
 // One frame, and the two answers side by side.
-fn both_hear(b: Both, now_ms: u64, display: u8, index: u8) -> Both {
-    show_frame(now_ms, display, index);
+fn both_hear<W: Write>(
+    out: &mut W,
+    b: Both,
+    now_ms: u64,
+    display: u8,
+    index: u8,
+) -> io::Result<Both> {
+    show_frame(out, now_ms, display, index)?;
     let frame = answer_frame(display, index);
     let as_original = b.as_original;
     let otherwise = b.otherwise;
     let one = heard_as_original(as_original, now_ms, frame);
-    tell_answer(one);
-    say::text(b" | ");
+    tell_answer(out, one)?;
+    say::text(out, b" | ")?;
     let other = heard_by_destination(otherwise, now_ms, frame);
-    tell_answer(other);
-    say::text(b"\n");
-    Both {
+    tell_answer(out, other)?;
+    say::text(out, b"\n")?;
+    Ok(Both {
         as_original: after(one),
         otherwise: after(other),
-    }
+    })
 }
 
-fn say_two_displays() {
-    say::text(b"One gateway answers two displays at once, by PGN 126208 and with one number;");
-    say::text(b" each byte of an answer is its display's address\n");
-    say::text(b"  (as the original | where the key has the destination)\n");
+fn say_two_displays<W: Write>(out: &mut W) -> io::Result<()> {
+    say::text(
+        out,
+        b"One gateway answers two displays at once, by PGN 126208 and with one number;",
+    )?;
+    say::text(out, b" each byte of an answer is its display's address\n")?;
+    say::text(
+        out,
+        b"  (as the original | where the key has the destination)\n",
+    )
 }
 
-pub(crate) fn show() {
-    say_two_displays();
+pub(crate) fn show<W: Write>(out: &mut W) -> io::Result<()> {
+    say_two_displays(out)?;
     let mut b = both_started();
-    b = both_hear(b, 0, 16, 0);
-    b = both_hear(b, 10, 17, 0);
-    b = both_hear(b, 20, 16, 1);
-    b = both_hear(b, 30, 17, 1);
-    gateway::show_both_counters(b);
+    b = both_hear(out, b, 0, 16, 0)?;
+    b = both_hear(out, b, 10, 17, 0)?;
+    b = both_hear(out, b, 20, 16, 1)?;
+    b = both_hear(out, b, 30, 17, 1)?;
+    gateway::show_both_counters(out, b)
 }

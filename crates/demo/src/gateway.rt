@@ -2,6 +2,7 @@
 use crate::say;
 use assembler::{MadePool, Pool, Received};
 use session::{Counters, Kind};
+use std::io::{self, Write};
 
 #[derive(Drop)]
 pub(crate) struct Gateway {
@@ -34,26 +35,26 @@ pub(crate) fn after(r: Received) -> Gateway {
 }
 
 // The name says why a frame was not taken; beside it, the counter that went up.
-pub(crate) fn tell_kind(r: Received) {
+pub(crate) fn tell_kind<W: Write>(out: &mut W, r: Received) -> io::Result<()> {
     let kind = r.kind;
     let c = r.counters;
     match kind {
-        Kind::ImpossiblePool => say::refusal(1),
-        Kind::TooWide => say::refusal(8),
-        Kind::NotListed => say::told(b"NotListed, unknown_pgn ", c.unknown_pgn as u64),
-        Kind::Rejected => say::told(b"Rejected, rejected_frames ", c.rejected_frames as u64),
-        Kind::PoolFull => say::told(b"PoolFull, pool_exhausted ", c.pool_exhausted as u64),
-        Kind::Lost => say::told(b"Lost, lost_fragments ", c.lost_fragments as u64),
-        Kind::FragmentConsumed => say::text(b"FragmentConsumed"),
-        Kind::MessageComplete => say::text(b"MessageComplete"),
+        Kind::ImpossiblePool => say::refusal(out, 1),
+        Kind::TooWide => say::refusal(out, 8),
+        Kind::NotListed => say::told(out, b"NotListed, unknown_pgn ", c.unknown_pgn as u64),
+        Kind::Rejected => say::told(out, b"Rejected, rejected_frames ", c.rejected_frames as u64),
+        Kind::PoolFull => say::told(out, b"PoolFull, pool_exhausted ", c.pool_exhausted as u64),
+        Kind::Lost => say::told(out, b"Lost, lost_fragments ", c.lost_fragments as u64),
+        Kind::FragmentConsumed => say::text(out, b"FragmentConsumed"),
+        Kind::MessageComplete => say::text(out, b"MessageComplete"),
     }
 }
 
-pub(crate) fn tell_counters(g: Gateway) {
+pub(crate) fn tell_counters<W: Write>(out: &mut W, g: Gateway) -> io::Result<()> {
     let c = g.counters;
-    say::told(b"expired_sessions ", c.expired_sessions as u64);
-    say::told(b", pool_exhausted ", c.pool_exhausted as u64);
-    say::told(b", lost_fragments ", c.lost_fragments as u64);
+    say::told(out, b"expired_sessions ", c.expired_sessions as u64)?;
+    say::told(out, b", pool_exhausted ", c.pool_exhausted as u64)?;
+    say::told(out, b", lost_fragments ", c.lost_fragments as u64)
 }
 
 // The same bus heard by two pools: one as the original's, one made otherwise.
@@ -63,12 +64,12 @@ pub(crate) struct Both {
     pub(crate) otherwise: Gateway,
 }
 
-pub(crate) fn show_both_counters(b: Both) {
+pub(crate) fn show_both_counters<W: Write>(out: &mut W, b: Both) -> io::Result<()> {
     let as_original = b.as_original;
     let otherwise = b.otherwise;
-    say::text(b"  ");
-    tell_counters(as_original);
-    say::text(b" | ");
-    tell_counters(otherwise);
-    say::text(b"\n");
+    say::text(out, b"  ")?;
+    tell_counters(out, as_original)?;
+    say::text(out, b" | ")?;
+    tell_counters(out, otherwise)?;
+    say::text(out, b"\n")
 }

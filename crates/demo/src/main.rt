@@ -9,8 +9,12 @@ mod identifiers;
 mod reassembly;
 mod say;
 
-fn main() {
-    identifiers::show();
-    reassembly::show();
-    displays::show();
+use std::io::{self, BufWriter, Write};
+
+fn main(rt: HostRuntime) -> io::Result<()> {
+    let mut out = BufWriter::new(rt.alloc(), io::writer(&rt))?;
+    identifiers::show(&mut out)?;
+    reassembly::show(&mut out)?;
+    displays::show(&mut out)?;
+    out.flush()
 }

@@ -5,7 +5,7 @@
 ghost use Rattle.std.specs.Prelude.{◌<◌};
 
 use can_id::{CanId, CanIdParts, Destination, Read};
-use libc::{STDIN_FILENO, STDOUT_FILENO};
+use std::io::{self, BufReader, BufWriter, ErrorKind, Write};
 
 fn wide(x: u8) -> u32
     ensures { result < 256 }
@@ -33,63 +33,67 @@ fn identifier(line: [u8; 9]) -> CanId {
     CanId(high * 0x1_0000 + low)
 }
 
-fn write_digits(line: [u8; 9]) {
-    io::write_all(
-        STDOUT_FILENO,
-        &[
-            line[0], line[1], line[2], line[3], line[4], line[5], line[6], line[7],
-        ],
-    );
+fn write_digits<W: Write>(out: &mut W, line: [u8; 9]) -> io::Result<()> {
+    out.write_all(&[
+        line[0], line[1], line[2], line[3], line[4], line[5], line[6], line[7],
+    ])
 }
 
-fn write_number(n: u32) {
-    io::write_all(STDOUT_FILENO, b" ");
-    io::print_decimal(STDOUT_FILENO, n as u64);
+fn write_number<W: Write>(out: &mut W, n: u32) -> io::Result<()> {
+    write!(out, " {n}")
 }
 
-fn write_destination(destination: Destination) {
+fn write_destination<W: Write>(out: &mut W, destination: Destination) -> io::Result<()> {
     match destination {
-        Destination::Nobody => {
-            io::write_all(STDOUT_FILENO, b" -");
-        }
-        Destination::To(address) => write_number(address as u32),
+        Destination::Nobody => write!(out, " -"),
+        Destination::To(address) => write_number(out, address as u32),
     }
 }
 
-fn write_parts(parts: CanIdParts) {
-    write_number(parts.priority as u32);
-    write_number(parts.pgn);
+fn write_parts<W: Write>(out: &mut W, parts: CanIdParts) -> io::Result<()> {
+    write_number(out, parts.priority as u32)?;
+    write_number(out, parts.pgn)?;
     let destination = parts.destination;
-    write_destination(destination);
-    write_number(parts.source_address as u32);
+    write_destination(out, destination)?;
+    write_number(out, parts.source_address as u32)
 }
 
 // Every identifier of the list is below 2^29; one that is not would have no parts, and its line would differ.
-fn write_reading(read: Read) {
+fn write_reading<W: Write>(out: &mut W, read: Read) -> io::Result<()> {
     match read {
-        Read::Parts(parts) => write_parts(parts),
-        Read::TooWide => {
-            io::write_all(STDOUT_FILENO, b" too wide");
-        }
+        Read::Parts(parts) => write_parts(out, parts),
+        Read::TooWide => write!(out, " too wide"),
+    }
+}
+
+// Fills the line from the input; false where the input ends before the line does.
+fn read_line<R: io::Read>(input: &mut R, line: &mut [u8; 9]) -> io::Result<bool> {
+    match input.read_exact(line) {
+        Ok(()) => Ok(true),
+        Err(e) if e.kind() == ErrorKind::UnexpectedEof => Ok(false),
+        Err(e) => Err(e),
     }
 }
 
 // Reads one line and writes another; false at the end.
-fn judge() -> bool {
+fn judge<R: io::Read, W: Write>(input: &mut R, out: &mut W) -> io::Result<bool> {
     let mut line = [0u8; 9];
-    let got = io::read_full(STDIN_FILENO, &mut line);
-    if got < 9 {
-        return false;
+    if !read_line(input, &mut line)? {
+        return Ok(false);
     }
-    write_digits(line);
-    write_reading(identifier(line).read());
-    io::write_all(STDOUT_FILENO, b"\n");
-    true
+    write_digits(out, line)?;
+    write_reading(out, identifier(line).read())?;
+    writeln!(out)?;
+    Ok(true)
 }
 
-fn main() {
-    let mut turns = u64::MAX;
-    while turns > 0 && judge() {
-        turns -= 1;
+fn main(rt: HostRuntime) -> io::Result<()> {
+    let mut input = BufReader::new(rt.alloc(), rt.reader())?;
+    let mut out = BufWriter::new(rt.alloc(), io::writer(&rt))?;
+    for _ in 0..u64::MAX {
+        if !judge(&mut input, &mut out)? {
+            break;
+        }
     }
+    out.flush()
 }

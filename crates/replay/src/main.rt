@@ -15,10 +15,8 @@ use assembler::{Arrival, Pool, Received, process_frame_through};
 use builder::{FastPacketBuilder, Next, NextKind};
 use can_id::{CanIdBuildError, Destination};
 use fast_packet::MAX_FAST_PACKET_PAYLOAD;
-use libc::{STDIN_FILENO, STDOUT_FILENO};
 use session::{Counters, Kind, Mode};
-
-const LINE: usize = 44;
+use std::io::{self, BufReader, BufWriter, ErrorKind, Read, Write};
 
 const LONGEST: usize = 300;
 
@@ -84,78 +82,61 @@ fn digit(x: u8) -> u8 {
     if d < 10 { d + 48 } else { d + 55 }
 }
 
-fn write_byte(x: u8) {
-    io::write_all(STDOUT_FILENO, &[digit(x / 16), digit(x)]);
+fn write_byte<W: Write>(out: &mut W, x: u8) -> io::Result<()> {
+    out.write_all(&[digit(x / 16), digit(x)])
 }
 
-fn write_number(n: u64) {
-    io::write_all(STDOUT_FILENO, b" ");
-    io::print_decimal(STDOUT_FILENO, n);
+fn write_number<W: Write>(out: &mut W, n: u64) -> io::Result<()> {
+    write!(out, " {n}")
 }
 
-fn write_payload(payload: [u8; MAX_FAST_PACKET_PAYLOAD], n: usize) {
-    io::write_all(STDOUT_FILENO, b" ");
-    let mut i: usize = 0;
-    while i < MAX_FAST_PACKET_PAYLOAD {
-        if i < n {
-            write_byte(payload[i]);
-        }
-        i += 1;
+fn write_payload<W: Write>(
+    out: &mut W,
+    payload: [u8; MAX_FAST_PACKET_PAYLOAD],
+    n: usize,
+) -> io::Result<()> {
+    out.write_all(b" ")?;
+    for x in payload.iter().take(n) {
+        write_byte(out, *x)?;
     }
+    Ok(())
 }
 
-fn write_frame(data: [u8; 8]) {
-    io::write_all(STDOUT_FILENO, b" ");
-    let mut i: usize = 0;
-    while i < 8 {
-        write_byte(data[i]);
-        i += 1;
+fn write_frame<W: Write>(out: &mut W, data: [u8; 8]) -> io::Result<()> {
+    out.write_all(b" ")?;
+    for x in data {
+        write_byte(out, x)?;
     }
+    Ok(())
 }
 
 // ---- frames heard
 
-fn write_kind(kind: Kind) {
+fn write_kind<W: Write>(out: &mut W, kind: Kind) -> io::Result<()> {
     match kind {
-        Kind::ImpossiblePool => {
-            io::write_all(STDOUT_FILENO, b"ImpossiblePool");
-        }
-        Kind::TooWide => {
-            io::write_all(STDOUT_FILENO, b"TooWide");
-        }
-        Kind::NotListed => {
-            io::write_all(STDOUT_FILENO, b"NotListed");
-        }
-        Kind::Rejected => {
-            io::write_all(STDOUT_FILENO, b"Rejected");
-        }
-        Kind::PoolFull => {
-            io::write_all(STDOUT_FILENO, b"PoolFull");
-        }
-        Kind::Lost => {
-            io::write_all(STDOUT_FILENO, b"Lost");
-        }
-        Kind::FragmentConsumed => {
-            io::write_all(STDOUT_FILENO, b"FragmentConsumed");
-        }
-        Kind::MessageComplete => {
-            io::write_all(STDOUT_FILENO, b"MessageComplete");
-        }
+        Kind::ImpossiblePool => out.write_all(b"ImpossiblePool"),
+        Kind::TooWide => out.write_all(b"TooWide"),
+        Kind::NotListed => out.write_all(b"NotListed"),
+        Kind::Rejected => out.write_all(b"Rejected"),
+        Kind::PoolFull => out.write_all(b"PoolFull"),
+        Kind::Lost => out.write_all(b"Lost"),
+        Kind::FragmentConsumed => out.write_all(b"FragmentConsumed"),
+        Kind::MessageComplete => out.write_all(b"MessageComplete"),
     }
 }
 
-fn write_answer(r: Received) {
+fn write_answer<W: Write>(out: &mut W, r: Received) -> io::Result<()> {
     let kind = r.kind;
     let c = r.counters;
     let payload = r.payload;
-    write_kind(kind);
-    write_number(c.expired_sessions as u64);
-    write_number(c.pool_exhausted as u64);
-    write_number(c.rejected_frames as u64);
-    write_number(c.lost_fragments as u64);
-    write_number(c.unknown_pgn as u64);
-    write_payload(payload, r.length);
-    io::write_all(STDOUT_FILENO, b"\n");
+    write_kind(out, kind)?;
+    write_number(out, c.expired_sessions as u64)?;
+    write_number(out, c.pool_exhausted as u64)?;
+    write_number(out, c.rejected_frames as u64)?;
+    write_number(out, c.lost_fragments as u64)?;
+    write_number(out, c.unknown_pgn as u64)?;
+    write_payload(out, payload, r.length)?;
+    out.write_all(b"\n")
 }
 
 #[derive(Drop)]
@@ -232,20 +213,20 @@ fn arrival_in(line: &[u8; 44]) -> Arrival {
     }
 }
 
-fn hear(s: State, line: &[u8; 44]) -> State {
+fn hear<W: Write>(out: &mut W, s: State, line: &[u8; 44]) -> io::Result<State> {
     let pool = s.pool;
     let counters = s.counters;
     let r = process_frame_through(pool, counters, &[127489, 129029], arrival_in(line));
-    write_answer(r);
+    write_answer(out, r)?;
     let after = r.pool;
     let counted = r.counters;
     let mode = s.mode;
-    State {
+    Ok(State {
         more: true,
         mode: mode,
         pool: after,
         counters: counted,
-    }
+    })
 }
 
 // ---- frames built
@@ -268,28 +249,24 @@ fn refusal(error: CanIdBuildError) -> u64 {
     }
 }
 
-fn write_next(next: Next) {
+fn write_next<W: Write>(out: &mut W, next: Next) -> io::Result<()> {
     let kind = next.kind;
     let frame = next.frame;
     let data = frame.data;
     match kind {
-        NextKind::Frame => {
-            io::write_all(STDOUT_FILENO, b"Frame");
-        }
-        NextKind::End => {
-            io::write_all(STDOUT_FILENO, b"End");
-        }
+        NextKind::Frame => out.write_all(b"Frame")?,
+        NextKind::End => out.write_all(b"End")?,
         NextKind::Refused(error) => {
-            io::write_all(STDOUT_FILENO, b"Refused");
-            write_number(refusal(error));
+            out.write_all(b"Refused")?;
+            write_number(out, refusal(error))?;
         }
     }
-    write_number(frame.id.0 as u64);
-    write_frame(data);
-    write_number(frame.len as u64);
-    write_number(next.frame_index as u64);
-    write_number(next.bytes_sent as u64);
-    io::write_all(STDOUT_FILENO, b"\n");
+    write_number(out, frame.id.0 as u64)?;
+    write_frame(out, data)?;
+    write_number(out, frame.len as u64)?;
+    write_number(out, next.frame_index as u64)?;
+    write_number(out, next.bytes_sent as u64)?;
+    out.write_all(b"\n")
 }
 
 fn payload() -> [u8; 300]
@@ -319,7 +296,7 @@ fn asked(b: FastPacketBuilder, index: u8, sent: usize, n: usize) -> Next
     b.next_frame(index, sent, &p[..n])
 }
 
-fn build(line: &[u8; 44]) {
+fn build<W: Write>(out: &mut W, line: &[u8; 44]) -> io::Result<()> {
     let b = FastPacketBuilder {
         pgn: word(line, 1),
         source_address: byte(line, 9),
@@ -330,38 +307,50 @@ fn build(line: &[u8; 44]) {
     };
     let sent = four(line, 23) as usize;
     let n = at_most(four(line, 27));
-    write_next(asked(b, byte(line, 21), sent, n));
+    write_next(out, asked(b, byte(line, 21), sent, n))
 }
 
 // ---- the list
 
-fn turn(s: State) -> State {
-    let mut line = [0u8; 44];
-    let got = io::read_full(STDIN_FILENO, &mut line);
-    if got < LINE {
-        let mut end = s;
-        end.more = false;
-        return end;
+// Fills the line from the input; false where the input ends before the line does.
+fn read_line<R: Read>(input: &mut R, line: &mut [u8; 44]) -> io::Result<bool> {
+    match input.read_exact(line) {
+        Ok(()) => Ok(true),
+        Err(e) if e.kind() == ErrorKind::UnexpectedEof => Ok(false),
+        Err(e) => Err(e),
     }
-    if line[0] == b'B' {
-        build(&line);
-        return s;
-    }
-    if line[0] == b'M' {
-        return in_mode(s, mode_of(two(&line, 1)));
-    }
-    if line[0] == b'.' {
-        return hear(s, &line);
-    }
-    let mode = s.mode;
-    hear(fresh(mode, size_of(line[0])), &line)
 }
 
-fn main() {
-    let mut s = fresh(Mode::AsOriginal, 4);
-    let mut turns = u64::MAX;
-    while turns > 0 && s.more {
-        s = turn(s);
-        turns -= 1;
+fn turn<R: Read, W: Write>(input: &mut R, out: &mut W, s: State) -> io::Result<State> {
+    let mut line = [0u8; 44];
+    if !read_line(input, &mut line)? {
+        let mut end = s;
+        end.more = false;
+        return Ok(end);
     }
+    if line[0] == b'B' {
+        build(out, &line)?;
+        return Ok(s);
+    }
+    if line[0] == b'M' {
+        return Ok(in_mode(s, mode_of(two(&line, 1))));
+    }
+    if line[0] == b'.' {
+        return hear(out, s, &line);
+    }
+    let mode = s.mode;
+    hear(out, fresh(mode, size_of(line[0])), &line)
+}
+
+fn main(rt: HostRuntime) -> io::Result<()> {
+    let mut input = BufReader::new(rt.alloc(), rt.reader())?;
+    let mut out = BufWriter::new(rt.alloc(), io::writer(&rt))?;
+    let mut s = fresh(Mode::AsOriginal, 4);
+    for _ in 0..u64::MAX {
+        if !s.more {
+            break;
+        }
+        s = turn(&mut input, &mut out, s)?;
+    }
+    out.flush()
 }
