@@ -1,0 +1,7 @@
+-- `leave` meets its contract: each lent array as its call says. Assumes nothing.
+use borrow.Author.Rules.{rules}
+use mathlib.Core.Path.{refl}
+use Rattle.numbers.proofs.pools.leave.Goals as goal
+
+pub returns : goal.returns
+returns c = record { told = c.kind_code.ensures; kept = c.put_heads.ensures; stored = refl; counted = c.counter_numbers.ensures; delivered = c.deliver_on.ensures; measured = refl }

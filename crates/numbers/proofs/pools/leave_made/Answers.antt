@@ -1,0 +1,13 @@
+-- `leave_made` meets its contract: case by case. Assumes nothing.
+use borrow.Author.Rules.{rules}
+use mathlib.Core.Path.{refl}
+use Rattle.assembler.specs.Making.{of_made}
+use Rattle.numbers.proofs.pools.leave_made.Goals as goal
+
+pub returns-in-ImpossiblePool : goal.returns-in-ImpossiblePool
+unfolding of_made
+returns-in-ImpossiblePool c = rw c.in-ImpossiblePool.is (record { told = refl; kept = refl; stored = refl; sized = refl; moded = c.mode_number.ensures; of_kind = c.pool_kind_number.ensures })
+
+pub returns-in-Fresh : goal.returns-in-Fresh
+unfolding of_made
+returns-in-Fresh c = rw c.in-Fresh.is (record { told = refl; kept = c.fresh_heads.ensures; stored = refl; sized = refl; moded = c.mode_number.ensures; of_kind = c.pool_kind_number.ensures })

@@ -1,0 +1,16 @@
+-- `put_head` meets its contract: after k turns k numbers are laid. Assumes nothing.
+use borrow.Author.Rules.{rules}
+use Prim.Native.Nat.{◌≤◌, ◌-◌}
+use mathlib.Core.Path.{◌≡◌, refl}
+use native.Mathlib.Omega.{arith}
+use lib.ListN.{length, take}
+use lib.Seq.{sets}
+use Rattle.numbers.proofs.PoolLaws.{put_turn, put_done}
+use Rattle.numbers.specs.Pool.{head_numbers}
+use Rattle.numbers.proofs.pools.put_head.Given as goal
+
+abbrev pub invariant-loop-k : goal.invariant-loop-k
+invariant-loop-k l = (l.k ≤ head_numbers) × (length l.numbers ≡ head_numbers) × (l.n ≡ sets l.initial.n l.at (take l.k l.numbers))
+
+abbrev pub decreases-loop-k : goal.decreases-loop-k
+decreases-loop-k l = head_numbers - l.k
