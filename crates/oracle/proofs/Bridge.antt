@@ -23,7 +23,7 @@ use Rattle.oracle.specs.inner.Frames.{padding_at, first_then, later_then, messag
 use Rattle.oracle.proofs.StrictLaws.{row_passed, row_refused, row_wide}
 use Rattle.oracle.proofs.FirstWide.{AllNarrow, all_narrow, wide_found}
 use Rattle.oracle.specs.Numbers.{fault_number, fault_values, of_reassembled}
-use Rattle.oracle.specs.inner.Scan.{header_bytes, missing_of, fault_of, skipped, refused_at, taken, is_faulty, is_over, step_on, scan_frame, scan_of, start_of, Counted, added_of, row_of, bytes_laid, rows_laid, verdict_of, is_none}
+use Rattle.oracle.specs.inner.Scan.{header_bytes, missing_of, fault_of, skipped, refused_at, taken, is_faulty, is_over, step_on, scan_frame, scan_of, start_of, added_of, row_of, bytes_laid, rows_laid, verdict_of, is_none}
 use Rattle.splitter.specs.declared.Frame.{Frame}
 use Rattle.oracle.specs.declared.Scan.{Scan}
 use Rattle.oracle.specs.declared.Fault.{Fault}
@@ -524,9 +524,6 @@ module _ (fs : List Frame) (source pgn : ℕ) (l o : List ℕ) where
   strict_tells = wide_tells (first_wide 0 fs) refl
 
 -- ---- the two ways out of strict reassembly's code, whichever form its row has
-pub fresh_counts : {s : Scan} (source pgn : ℕ) → s ≡ start_of source pgn → Counted 0 s
-fresh_counts source pgn e = subst (λ (s : Scan). Counted 0 s) (sym e) (record { frames = omega arith; whole = omega arith; bytes = omega arith })
-
 module _ (fs : List Frame) (source pgn : ℕ) (l o : List ℕ) {s st : Scan} {v : Reassembled} {b : Bool}
     (es : s ≡ start_of source pgn) (et : st ≡ scan_of s fs) (ev : v ≡ verdict_of st (length l) (length o)) (eb : b ≡ is_none v) where
   told_kept : Kept (start_of source pgn) fs l o v (delivered_to l o fs source pgn)

@@ -23,7 +23,7 @@ use Rattle.oracle.specs.declared.bench_ids.Claim.TheVariants.{Awaited, Made, Mis
 use Rattle.oracle.specs.Strict.{bench_sequence, BenchMessage, OpenMessage, FrameOutcome, refused, waits, whole, collected_at, first_frame, later_frame, outcome_of, before, then_of, end_of, messages_from, messages_of, first_wide, wide_first}
 use Rattle.oracle.specs.Check.{follows, each_from, is_claimed, sent_of, transmission_of, check_tx_of, ChecksTx, hours_of, off_from}
 use Rattle.oracle.specs.Numbers.{fault_number, fault_values, of_checked}
-use Rattle.oracle.specs.inner.Scan.{skipped, taken, is_faulty, is_over, step_on, scan_frame, scan_of, start_of, Counted, added_of}
+use Rattle.oracle.specs.inner.Scan.{skipped, taken, is_faulty, is_over, step_on, scan_frame, scan_of, start_of, added_of}
 use Rattle.splitter.specs.declared.Frame.{Frame}
 use Rattle.oracle.specs.declared.Scan.{Scan}
 use Rattle.oracle.specs.declared.Tx.{Tx}
@@ -501,9 +501,6 @@ module _ (fs : List Frame) (source expected base : ℕ) where
       ∙ ap (pick (ltb 4294967295 (base + (expected - 1))) (refuses 31 [])) (width_told (first_wide 0 fs) refl))
 
 -- ---- the code's way, whichever form its row has
-pub fresh_tx : {t : Tx} (source base : ℕ) → t ≡ tx_start source base → Counted 0 t.scan
-fresh_tx source base e = subst (λ (t : Tx). Counted 0 t.scan) (sym e) (record { frames = omega arith; whole = omega arith; bytes = omega arith })
-
 pub check_told : (fs : List Frame) (source expected base : ℕ) {t u : Tx} {z : Checked} → t ≡ tx_start source base → u ≡ tx_all t fs → z ≡ checked_of u expected → ChecksTx fs source expected base z
 check_told fs source expected base et eu ez =
     ap of_checked (ez ∙ ap (λ (v : Tx). checked_of v expected) (eu ∙ ap (λ (v : Tx). tx_all v fs) et)) ∙ check_tells fs source expected base
