@@ -47,8 +47,7 @@ fn leave_batch(
 
 // 0, 1 or 27. Of each frame taken, `kinds` has 102 FragmentConsumed, 103 MessageComplete, 104 NotListed, 105 Rejected, 106 PoolFull or 107 Lost, and
 // `lengths` the message's; the messages stand end to end from the arena's start. `counts` is how many frames were taken and how many bytes of the arena.
-#[unsafe(no_mangle)]
-pub extern "C" fn hf_raw_process_frames(
+pub fn hf_raw_process_frames(
     size: usize,
     mode: u32,
     kind: u32,
@@ -65,9 +64,9 @@ pub extern "C" fn hf_raw_process_frames(
     arena: &mut [u8],
     counts: &mut [u64; 2],
 ) -> u32
-    ensures { FramesLeft size mode kind pgns.now (record { times = times.entry.now; pgns = frame_pgns.now; sources = sources.now; bytes = «data».now })
-        (record { heads = heads.entry.now; bytes = bytes.old; counters = counters.old; kinds = kinds.old; lengths = lengths.old; arena = arena.old; counts = counts.old })
-        result (record { heads = heads.exit.now; bytes = bytes.new; counters = counters.new; kinds = kinds.new; lengths = lengths.new; arena = arena.new; counts = counts.new }) }
+    ensures { FramesLeft size mode kind pgns.now (record { times = times.now; pgns = frame_pgns.now; sources = sources.now; bytes = «data».now })
+        (record { heads = heads.old; bytes = bytes.old; counters = counters.old; kinds = kinds.old; lengths = lengths.old; arena = arena.old; counts = counts.old })
+        result (record { heads = heads.new; bytes = bytes.new; counters = counters.new; kinds = kinds.new; lengths = lengths.new; arena = arena.new; counts = counts.new }) }
 {
     let p = pool_from(size, mode, kind, heads, bytes);
     let c = counters_from(counters);

@@ -9,8 +9,7 @@ use splitter::{fast_packet_rows, frame_count};
 
 // The frames are rows of identifiers, eight bytes a frame, and lengths; the shortest row decides. 0 and in values[0] the number of messages, or a
 // refusal and what it carries. The list gets sequence, start and length of each message.
-#[unsafe(no_mangle)]
-pub extern "C" fn hf_reassemble(
+pub fn hf_reassemble(
     ids: &[u32],
     bytes: &[u8],
     lens: &[usize],
@@ -28,16 +27,14 @@ pub extern "C" fn hf_reassemble(
 }
 
 // How many frames rows of these lengths hold.
-#[unsafe(no_mangle)]
-pub extern "C" fn hf_frame_count(ids: usize, bytes: usize, lens: usize) -> usize
+pub fn hf_frame_count(ids: usize, bytes: usize, lens: usize) -> usize
     ensures { result ≡ count_in ids bytes lens }
 {
     frame_count(ids, bytes, lens)
 }
 
 // 0 and the number of frames laid into the rows, or 28, 8 or 27 and 0.
-#[unsafe(no_mangle)]
-pub extern "C" fn hf_fast_packet_frames(
+pub fn hf_fast_packet_frames(
     id: u32,
     sequence: u8,
     payload: &[u8],
@@ -55,8 +52,7 @@ pub extern "C" fn hf_fast_packet_frames(
 }
 
 // 0, or a refusal and what it carries.
-#[unsafe(no_mangle)]
-pub extern "C" fn hf_check_tx(
+pub fn hf_check_tx(
     ids: &[u32],
     bytes: &[u8],
     lens: &[usize],

@@ -13,8 +13,7 @@ use numbers::{
 // ---- a builder made and set, in place
 
 // Returns the number that the caller holds from now on.
-#[unsafe(no_mangle)]
-pub extern "C" fn hf_raw_builder_new(
+pub fn hf_raw_builder_new(
     pgn: u32,
     source_address: u8,
     destination: u16,
@@ -30,24 +29,21 @@ pub extern "C" fn hf_raw_builder_new(
     lay_made(made, builder)
 }
 
-#[unsafe(no_mangle)]
-pub extern "C" fn hf_raw_builder_with_sequence_id(builder: &mut [u64; 6], sequence_id: u8)
+pub fn hf_raw_builder_with_sequence_id(builder: &mut [u64; 6], sequence_id: u8)
     ensures { builder.new ≡ sequence_set builder.old sequence_id }
 {
     let b = builder_from(builder);
     *builder = builder_numbers(b.with_sequence_id(sequence_id));
 }
 
-#[unsafe(no_mangle)]
-pub extern "C" fn hf_raw_builder_with_priority(builder: &mut [u64; 6], priority: u8)
+pub fn hf_raw_builder_with_priority(builder: &mut [u64; 6], priority: u8)
     ensures { builder.new ≡ priority_set builder.old priority }
 {
     let b = builder_from(builder);
     *builder = builder_numbers(b.with_priority(priority));
 }
 
-#[unsafe(no_mangle)]
-pub extern "C" fn hf_raw_builder_to_destination(builder: &mut [u64; 6], destination: u8)
+pub fn hf_raw_builder_to_destination(builder: &mut [u64; 6], destination: u8)
     ensures { builder.new ≡ destination_set builder.old destination }
 {
     let b = builder_from(builder);
@@ -57,8 +53,7 @@ pub extern "C" fn hf_raw_builder_to_destination(builder: &mut [u64; 6], destinat
 // ---- the next frame, at any frame index and bytes sent
 
 // 0 for a frame, 100 for End, or a refusal's number.
-#[unsafe(no_mangle)]
-pub extern "C" fn hf_raw_next_frame(
+pub fn hf_raw_next_frame(
     builder: &[u64; 6],
     frame_index: u8,
     bytes_sent: usize,
@@ -79,8 +74,7 @@ pub extern "C" fn hf_raw_next_frame(
 // ---- frame by frame
 
 // The place before the first frame.
-#[unsafe(no_mangle)]
-pub extern "C" fn hf_raw_builder_build(builder: &[u64; 6], place: &mut [u64; 2])
+pub fn hf_raw_builder_build(builder: &[u64; 6], place: &mut [u64; 2])
     ensures { place.new ≡ started_place builder.now }
 {
     let b = builder_from(builder);
@@ -103,8 +97,7 @@ fn step_in(item: Item) -> Next
 }
 
 // As `hf_raw_next_frame`; the place goes on in the lent memory.
-#[unsafe(no_mangle)]
-pub extern "C" fn hf_raw_frame_iterator_next(
+pub fn hf_raw_frame_iterator_next(
     builder: &[u64; 6],
     place: &mut [u64; 2],
     payload: &[u8],

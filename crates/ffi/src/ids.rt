@@ -6,16 +6,14 @@ use can_id::{CanId, CanIdBuilder};
 use numbers::{answered, destination_from, told_read};
 
 // 0 and priority, PGN, source and destination, 256 where there is none; or 8, and the parts as they were.
-#[unsafe(no_mangle)]
-pub extern "C" fn hf_can_id_read(id: u32, parts: &mut [u32; 4]) -> u32
+pub fn hf_can_id_read(id: u32, parts: &mut [u32; 4]) -> u32
     ensures { IdRead id parts.old result parts.new }
 {
     told_read(CanId(id).read(), parts)
 }
 
 // From these parts as they are.
-#[unsafe(no_mangle)]
-pub extern "C" fn hf_can_id_build(
+pub fn hf_can_id_build(
     priority: u8,
     pgn: u32,
     source_address: u8,
@@ -52,8 +50,7 @@ fn set_destination(b: CanIdBuilder, destination: u16) -> CanIdBuilder
 }
 
 // By the setters: a priority or a destination of 256 or more is not set.
-#[unsafe(no_mangle)]
-pub extern "C" fn hf_can_id_build_with(
+pub fn hf_can_id_build_with(
     pgn: u32,
     source_address: u8,
     priority: u16,
@@ -78,8 +75,7 @@ fn both_set(pgn: u32, source_address: u8, priority: u8, destination: u8) -> CanI
 }
 
 // By the setters' second names, both set.
-#[unsafe(no_mangle)]
-pub extern "C" fn hf_can_id_build_to(
+pub fn hf_can_id_build_to(
     pgn: u32,
     source_address: u8,
     priority: u8,

@@ -13,8 +13,7 @@ use fast_packet::MAX_FAST_PACKET_PAYLOAD;
 use numbers::{POOL_NUMBERS, counters_from, leave, leave_made, pool_asked, pool_from};
 
 // 0, or 1 and heads and bytes as they were; `size`, `mode` and `kind` are the pool's, which is as the original.
-#[unsafe(no_mangle)]
-pub extern "C" fn hf_raw_pool_new(
+pub fn hf_raw_pool_new(
     wanted: usize,
     heads: &mut [u64; POOL_NUMBERS],
     bytes: &mut [u8; POOL_BYTES],
@@ -22,15 +21,14 @@ pub extern "C" fn hf_raw_pool_new(
     mode: &mut u32,
     kind: &mut u32,
 ) -> u32
-    ensures { NewPoolLeft wanted (record { heads = heads.entry.now; bytes = bytes.old; size = size.old; mode = mode.old; kind = kind.old })
-        result (record { heads = heads.exit.now; bytes = bytes.new; size = size.new; mode = mode.new; kind = kind.new }) }
+    ensures { NewPoolLeft wanted (record { heads = heads.old; bytes = bytes.old; size = size.old; mode = mode.old; kind = kind.old })
+        result (record { heads = heads.new; bytes = bytes.new; size = size.new; mode = mode.new; kind = kind.new }) }
 {
     leave_made(Pool::new(wanted), heads, bytes, size, mode, kind)
 }
 
 // The same in the mode whose number is asked for; 1 too for a number that is no mode, and the mode is then 0.
-#[unsafe(no_mangle)]
-pub extern "C" fn hf_raw_pool_with_mode(
+pub fn hf_raw_pool_with_mode(
     wanted: usize,
     asked: u32,
     heads: &mut [u64; POOL_NUMBERS],
@@ -39,15 +37,14 @@ pub extern "C" fn hf_raw_pool_with_mode(
     mode: &mut u32,
     kind: &mut u32,
 ) -> u32
-    ensures { PoolWithModeLeft wanted asked (record { heads = heads.entry.now; bytes = bytes.old; size = size.old; mode = mode.old; kind = kind.old })
-        result (record { heads = heads.exit.now; bytes = bytes.new; size = size.new; mode = mode.new; kind = kind.new }) }
+    ensures { PoolWithModeLeft wanted asked (record { heads = heads.old; bytes = bytes.old; size = size.old; mode = mode.old; kind = kind.old })
+        result (record { heads = heads.new; bytes = bytes.new; size = size.new; mode = mode.new; kind = kind.new }) }
 {
     leave_made(pool_asked(wanted, asked, 0), heads, bytes, size, mode, kind)
 }
 
 // The same of the kind whose number is asked for; 1 too for a number that is no kind, and the kind is then 0.
-#[unsafe(no_mangle)]
-pub extern "C" fn hf_raw_pool_with_kind(
+pub fn hf_raw_pool_with_kind(
     wanted: usize,
     asked: u32,
     asked_kind: u32,
@@ -57,8 +54,8 @@ pub extern "C" fn hf_raw_pool_with_kind(
     mode: &mut u32,
     kind: &mut u32,
 ) -> u32
-    ensures { PoolWithKindLeft wanted asked asked_kind (record { heads = heads.entry.now; bytes = bytes.old; size = size.old; mode = mode.old; kind = kind.old })
-        result (record { heads = heads.exit.now; bytes = bytes.new; size = size.new; mode = mode.new; kind = kind.new }) }
+    ensures { PoolWithKindLeft wanted asked asked_kind (record { heads = heads.old; bytes = bytes.old; size = size.old; mode = mode.old; kind = kind.old })
+        result (record { heads = heads.new; bytes = bytes.new; size = size.new; mode = mode.new; kind = kind.new }) }
 {
     leave_made(
         pool_asked(wanted, asked, asked_kind),
@@ -71,16 +68,15 @@ pub extern "C" fn hf_raw_pool_with_kind(
 }
 
 // The pool of the default size, as the original; returns 0.
-#[unsafe(no_mangle)]
-pub extern "C" fn hf_raw_pool_default(
+pub fn hf_raw_pool_default(
     heads: &mut [u64; POOL_NUMBERS],
     bytes: &mut [u8; POOL_BYTES],
     size: &mut usize,
     mode: &mut u32,
     kind: &mut u32,
 ) -> u32
-    ensures { DefaultPoolLeft (record { heads = heads.entry.now; bytes = bytes.old; size = size.old; mode = mode.old; kind = kind.old })
-        result (record { heads = heads.exit.now; bytes = bytes.new; size = size.new; mode = mode.new; kind = kind.new }) }
+    ensures { DefaultPoolLeft (record { heads = heads.old; bytes = bytes.old; size = size.old; mode = mode.old; kind = kind.old })
+        result (record { heads = heads.new; bytes = bytes.new; size = size.new; mode = mode.new; kind = kind.new }) }
 {
     let pool = Pool::default();
     let made = MadePool {
@@ -91,8 +87,7 @@ pub extern "C" fn hf_raw_pool_default(
 }
 
 // Refusal 1 for an impossible pool or one of the other kind, 102 FragmentConsumed, 103 MessageComplete, 104 NotListed, 105 Rejected, 106 PoolFull or 107 Lost.
-#[unsafe(no_mangle)]
-pub extern "C" fn hf_raw_process_frame(
+pub fn hf_raw_process_frame(
     size: usize,
     mode: u32,
     kind: u32,
@@ -108,8 +103,8 @@ pub extern "C" fn hf_raw_process_frame(
     length: &mut usize,
 ) -> u32
     ensures { FrameLeft size mode kind pgns.now (record { now_ms = now_ms; pgn = pgn; source_address = source_address; «data» = «data».now })
-        (record { heads = heads.entry.now; bytes = bytes.old; counters = counters.old; payload = payload.old; length = length.old })
-        result (record { heads = heads.exit.now; bytes = bytes.new; counters = counters.new; payload = payload.new; length = length.new }) }
+        (record { heads = heads.old; bytes = bytes.old; counters = counters.old; payload = payload.old; length = length.old })
+        result (record { heads = heads.new; bytes = bytes.new; counters = counters.new; payload = payload.new; length = length.new }) }
 {
     let p = pool_from(size, mode, kind, heads, bytes);
     let c = counters_from(counters);
@@ -125,8 +120,7 @@ pub extern "C" fn hf_raw_process_frame(
 }
 
 // The same by the call that has the counters by value.
-#[unsafe(no_mangle)]
-pub extern "C" fn hf_raw_receive(
+pub fn hf_raw_receive(
     size: usize,
     mode: u32,
     kind: u32,
@@ -142,8 +136,8 @@ pub extern "C" fn hf_raw_receive(
     length: &mut usize,
 ) -> u32
     ensures { FrameLeft size mode kind pgns.now (record { now_ms = now_ms; pgn = pgn; source_address = source_address; «data» = «data».now })
-        (record { heads = heads.entry.now; bytes = bytes.old; counters = counters.old; payload = payload.old; length = length.old })
-        result (record { heads = heads.exit.now; bytes = bytes.new; counters = counters.new; payload = payload.new; length = length.new }) }
+        (record { heads = heads.old; bytes = bytes.old; counters = counters.old; payload = payload.old; length = length.old })
+        result (record { heads = heads.new; bytes = bytes.new; counters = counters.new; payload = payload.new; length = length.new }) }
 {
     let p = pool_from(size, mode, kind, heads, bytes);
     let c = counters_from(counters);
@@ -159,8 +153,7 @@ pub extern "C" fn hf_raw_receive(
 }
 
 // The same for a frame with a length.
-#[unsafe(no_mangle)]
-pub extern "C" fn hf_raw_process_frame_with_length(
+pub fn hf_raw_process_frame_with_length(
     size: usize,
     mode: u32,
     kind: u32,
@@ -177,8 +170,8 @@ pub extern "C" fn hf_raw_process_frame_with_length(
     length: &mut usize,
 ) -> u32
     ensures { FrameWithLengthLeft size mode kind pgns.now (record { arrival = record { now_ms = now_ms; pgn = pgn; source_address = source_address; «data» = «data».now }; length = frame_length })
-        (record { heads = heads.entry.now; bytes = bytes.old; counters = counters.old; payload = payload.old; length = length.old })
-        result (record { heads = heads.exit.now; bytes = bytes.new; counters = counters.new; payload = payload.new; length = length.new }) }
+        (record { heads = heads.old; bytes = bytes.old; counters = counters.old; payload = payload.old; length = length.old })
+        result (record { heads = heads.new; bytes = bytes.new; counters = counters.new; payload = payload.new; length = length.new }) }
 {
     let p = pool_from(size, mode, kind, heads, bytes);
     let c = counters_from(counters);
@@ -198,8 +191,7 @@ pub extern "C" fn hf_raw_process_frame_with_length(
 }
 
 // By the identifier, on a pool whose key has the destination: refusal 8 for one that is too wide, before all else; then as the entries above.
-#[unsafe(no_mangle)]
-pub extern "C" fn hf_raw_process_frame_by_id(
+pub fn hf_raw_process_frame_by_id(
     size: usize,
     mode: u32,
     kind: u32,
@@ -214,8 +206,8 @@ pub extern "C" fn hf_raw_process_frame_by_id(
     length: &mut usize,
 ) -> u32
     ensures { FrameByIdLeft size mode kind pgns.now (record { now_ms = now_ms; id = record { 0 = id }; «data» = «data».now })
-        (record { heads = heads.entry.now; bytes = bytes.old; counters = counters.old; payload = payload.old; length = length.old })
-        result (record { heads = heads.exit.now; bytes = bytes.new; counters = counters.new; payload = payload.new; length = length.new }) }
+        (record { heads = heads.old; bytes = bytes.old; counters = counters.old; payload = payload.old; length = length.old })
+        result (record { heads = heads.new; bytes = bytes.new; counters = counters.new; payload = payload.new; length = length.new }) }
 {
     let p = pool_from(size, mode, kind, heads, bytes);
     let c = counters_from(counters);
@@ -230,8 +222,7 @@ pub extern "C" fn hf_raw_process_frame_by_id(
 }
 
 // The same by the call that has the counters by value.
-#[unsafe(no_mangle)]
-pub extern "C" fn hf_raw_receive_by_id(
+pub fn hf_raw_receive_by_id(
     size: usize,
     mode: u32,
     kind: u32,
@@ -246,8 +237,8 @@ pub extern "C" fn hf_raw_receive_by_id(
     length: &mut usize,
 ) -> u32
     ensures { FrameByIdLeft size mode kind pgns.now (record { now_ms = now_ms; id = record { 0 = id }; «data» = «data».now })
-        (record { heads = heads.entry.now; bytes = bytes.old; counters = counters.old; payload = payload.old; length = length.old })
-        result (record { heads = heads.exit.now; bytes = bytes.new; counters = counters.new; payload = payload.new; length = length.new }) }
+        (record { heads = heads.old; bytes = bytes.old; counters = counters.old; payload = payload.old; length = length.old })
+        result (record { heads = heads.new; bytes = bytes.new; counters = counters.new; payload = payload.new; length = length.new }) }
 {
     let p = pool_from(size, mode, kind, heads, bytes);
     let c = counters_from(counters);
@@ -262,8 +253,7 @@ pub extern "C" fn hf_raw_receive_by_id(
 }
 
 // The same for a frame with a length.
-#[unsafe(no_mangle)]
-pub extern "C" fn hf_raw_process_frame_by_id_with_length(
+pub fn hf_raw_process_frame_by_id_with_length(
     size: usize,
     mode: u32,
     kind: u32,
@@ -279,8 +269,8 @@ pub extern "C" fn hf_raw_process_frame_by_id_with_length(
     length: &mut usize,
 ) -> u32
     ensures { FrameByIdWithLengthLeft size mode kind pgns.now (record { arrival = record { now_ms = now_ms; id = record { 0 = id }; «data» = «data».now }; length = frame_length })
-        (record { heads = heads.entry.now; bytes = bytes.old; counters = counters.old; payload = payload.old; length = length.old })
-        result (record { heads = heads.exit.now; bytes = bytes.new; counters = counters.new; payload = payload.new; length = length.new }) }
+        (record { heads = heads.old; bytes = bytes.old; counters = counters.old; payload = payload.old; length = length.old })
+        result (record { heads = heads.new; bytes = bytes.new; counters = counters.new; payload = payload.new; length = length.new }) }
 {
     let p = pool_from(size, mode, kind, heads, bytes);
     let c = counters_from(counters);

@@ -5,8 +5,7 @@ ghost use Rattle.fast_packet.specs.FastPacket.{filled_from};
 use fast_packet::fill_short;
 
 // In place.
-#[unsafe(no_mangle)]
-pub extern "C" fn hf_fill_short(data: &mut [u8; 8], len: usize)
+pub fn hf_fill_short(data: &mut [u8; 8], len: usize)
     ensures { «data».new ≡ filled_from len «data».old }
 {
     *data = fill_short(*data, len);

@@ -1,0 +1,64 @@
+// The bench: strict reassembly, the splitter and the transmit check, over rows of numbers.
+ghost use Rattle.std.specs.Prelude.{◌≡◌};
+ghost use Rattle.splitter.specs.Frames.{count_in};
+ghost use Rattle.ffi.specs.BenchEntries.{ReassemblesInNumbers, SplitsInNumbers, ChecksTxInNumbers};
+
+// The frames are rows of identifiers, eight bytes a frame, and lengths; the shortest row decides. 0 and in values[0] the number of messages, or a
+// refusal and what it carries. The list gets sequence, start and length of each message.
+#[unsafe(no_mangle)]
+pub extern "C" fn hf_reassemble(
+    ids: &[u32],
+    bytes: &[u8],
+    lens: &[usize],
+    source: u8,
+    pgn: u32,
+    list: &mut [usize],
+    arena: &mut [u8],
+    values: &mut [u64; 5],
+) -> u32
+    ensures { ReassemblesInNumbers ids.now bytes.now lens.now source pgn list.old arena.old
+        result list.new arena.new values.new }
+{
+    ffi::bench_entries::hf_reassemble(ids, bytes, lens, source, pgn, list, arena, values)
+}
+
+// How many frames rows of these lengths hold.
+#[unsafe(no_mangle)]
+pub extern "C" fn hf_frame_count(ids: usize, bytes: usize, lens: usize) -> usize
+    ensures { result ≡ count_in ids bytes lens }
+{
+    ffi::bench_entries::hf_frame_count(ids, bytes, lens)
+}
+
+// 0 and the number of frames laid into the rows, or 28, 8 or 27 and 0.
+#[unsafe(no_mangle)]
+pub extern "C" fn hf_fast_packet_frames(
+    id: u32,
+    sequence: u8,
+    payload: &[u8],
+    ids: &mut [u32],
+    bytes: &mut [u8],
+    lens: &mut [usize],
+    frames: &mut usize,
+) -> u32
+    ensures { SplitsInNumbers id sequence payload.now ids.old bytes.old lens.old
+        result ids.new bytes.new lens.new frames.new }
+{
+    ffi::bench_entries::hf_fast_packet_frames(id, sequence, payload, ids, bytes, lens, frames)
+}
+
+// 0, or a refusal and what it carries.
+#[unsafe(no_mangle)]
+pub extern "C" fn hf_check_tx(
+    ids: &[u32],
+    bytes: &[u8],
+    lens: &[usize],
+    source: u8,
+    expected: usize,
+    hours_base: u32,
+    values: &mut [u64; 5],
+) -> u32
+    ensures { ChecksTxInNumbers ids.now bytes.now lens.now source expected hours_base result values.new }
+{
+    ffi::bench_entries::hf_check_tx(ids, bytes, lens, source, expected, hours_base, values)
+}

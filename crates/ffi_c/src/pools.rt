@@ -1,0 +1,278 @@
+// The receive call: a pool as its size, the numbers of its mode and kind, nine numbers for each head of its slots and their bytes, the counters as five
+// numbers. A mode is 0, as the original, or 1, where a clock that was set back is silence; a kind is 0, as the original, or 1, where the key has the
+// destination; any other number is no mode and no kind, and makes the pool impossible.
+ghost use Rattle.ffi.specs.Calls.{NewPoolLeft, PoolWithModeLeft, PoolWithKindLeft, DefaultPoolLeft, FrameLeft, FrameWithLengthLeft, FrameByIdLeft, FrameByIdWithLengthLeft};
+
+use assembler::POOL_BYTES;
+use fast_packet::MAX_FAST_PACKET_PAYLOAD;
+use numbers::POOL_NUMBERS;
+
+// 0, or 1 and heads and bytes as they were; `size`, `mode` and `kind` are the pool's, which is as the original.
+#[unsafe(no_mangle)]
+pub extern "C" fn hf_raw_pool_new(
+    wanted: usize,
+    heads: &mut [u64; POOL_NUMBERS],
+    bytes: &mut [u8; POOL_BYTES],
+    size: &mut usize,
+    mode: &mut u32,
+    kind: &mut u32,
+) -> u32
+    ensures { NewPoolLeft wanted (record { heads = heads.old; bytes = bytes.old; size = size.old; mode = mode.old; kind = kind.old })
+        result (record { heads = heads.new; bytes = bytes.new; size = size.new; mode = mode.new; kind = kind.new }) }
+{
+    ffi::pools::hf_raw_pool_new(wanted, heads, bytes, size, mode, kind)
+}
+
+// The same in the mode whose number is asked for; 1 too for a number that is no mode, and the mode is then 0.
+#[unsafe(no_mangle)]
+pub extern "C" fn hf_raw_pool_with_mode(
+    wanted: usize,
+    asked: u32,
+    heads: &mut [u64; POOL_NUMBERS],
+    bytes: &mut [u8; POOL_BYTES],
+    size: &mut usize,
+    mode: &mut u32,
+    kind: &mut u32,
+) -> u32
+    ensures { PoolWithModeLeft wanted asked (record { heads = heads.old; bytes = bytes.old; size = size.old; mode = mode.old; kind = kind.old })
+        result (record { heads = heads.new; bytes = bytes.new; size = size.new; mode = mode.new; kind = kind.new }) }
+{
+    ffi::pools::hf_raw_pool_with_mode(wanted, asked, heads, bytes, size, mode, kind)
+}
+
+// The same of the kind whose number is asked for; 1 too for a number that is no kind, and the kind is then 0.
+#[unsafe(no_mangle)]
+pub extern "C" fn hf_raw_pool_with_kind(
+    wanted: usize,
+    asked: u32,
+    asked_kind: u32,
+    heads: &mut [u64; POOL_NUMBERS],
+    bytes: &mut [u8; POOL_BYTES],
+    size: &mut usize,
+    mode: &mut u32,
+    kind: &mut u32,
+) -> u32
+    ensures { PoolWithKindLeft wanted asked asked_kind (record { heads = heads.old; bytes = bytes.old; size = size.old; mode = mode.old; kind = kind.old })
+        result (record { heads = heads.new; bytes = bytes.new; size = size.new; mode = mode.new; kind = kind.new }) }
+{
+    ffi::pools::hf_raw_pool_with_kind(wanted, asked, asked_kind, heads, bytes, size, mode, kind)
+}
+
+// The pool of the default size, as the original; returns 0.
+#[unsafe(no_mangle)]
+pub extern "C" fn hf_raw_pool_default(
+    heads: &mut [u64; POOL_NUMBERS],
+    bytes: &mut [u8; POOL_BYTES],
+    size: &mut usize,
+    mode: &mut u32,
+    kind: &mut u32,
+) -> u32
+    ensures { DefaultPoolLeft (record { heads = heads.old; bytes = bytes.old; size = size.old; mode = mode.old; kind = kind.old })
+        result (record { heads = heads.new; bytes = bytes.new; size = size.new; mode = mode.new; kind = kind.new }) }
+{
+    ffi::pools::hf_raw_pool_default(heads, bytes, size, mode, kind)
+}
+
+// Refusal 1 for an impossible pool or one of the other kind, 102 FragmentConsumed, 103 MessageComplete, 104 NotListed, 105 Rejected, 106 PoolFull or 107 Lost.
+#[unsafe(no_mangle)]
+pub extern "C" fn hf_raw_process_frame(
+    size: usize,
+    mode: u32,
+    kind: u32,
+    heads: &mut [u64; POOL_NUMBERS],
+    bytes: &mut [u8; POOL_BYTES],
+    counters: &mut [u32; 5],
+    pgns: &[u32],
+    now_ms: u64,
+    pgn: u32,
+    source_address: u8,
+    data: &[u8; 8],
+    payload: &mut [u8; MAX_FAST_PACKET_PAYLOAD],
+    length: &mut usize,
+) -> u32
+    ensures { FrameLeft size mode kind pgns.now (record { now_ms = now_ms; pgn = pgn; source_address = source_address; «data» = «data».now })
+        (record { heads = heads.old; bytes = bytes.old; counters = counters.old; payload = payload.old; length = length.old })
+        result (record { heads = heads.new; bytes = bytes.new; counters = counters.new; payload = payload.new; length = length.new }) }
+{
+    ffi::pools::hf_raw_process_frame(
+        size,
+        mode,
+        kind,
+        heads,
+        bytes,
+        counters,
+        pgns,
+        now_ms,
+        pgn,
+        source_address,
+        data,
+        payload,
+        length,
+    )
+}
+
+// The same by the call that has the counters by value.
+#[unsafe(no_mangle)]
+pub extern "C" fn hf_raw_receive(
+    size: usize,
+    mode: u32,
+    kind: u32,
+    heads: &mut [u64; POOL_NUMBERS],
+    bytes: &mut [u8; POOL_BYTES],
+    counters: &mut [u32; 5],
+    pgns: &[u32],
+    now_ms: u64,
+    pgn: u32,
+    source_address: u8,
+    data: &[u8; 8],
+    payload: &mut [u8; MAX_FAST_PACKET_PAYLOAD],
+    length: &mut usize,
+) -> u32
+    ensures { FrameLeft size mode kind pgns.now (record { now_ms = now_ms; pgn = pgn; source_address = source_address; «data» = «data».now })
+        (record { heads = heads.old; bytes = bytes.old; counters = counters.old; payload = payload.old; length = length.old })
+        result (record { heads = heads.new; bytes = bytes.new; counters = counters.new; payload = payload.new; length = length.new }) }
+{
+    ffi::pools::hf_raw_receive(
+        size,
+        mode,
+        kind,
+        heads,
+        bytes,
+        counters,
+        pgns,
+        now_ms,
+        pgn,
+        source_address,
+        data,
+        payload,
+        length,
+    )
+}
+
+// The same for a frame with a length.
+#[unsafe(no_mangle)]
+pub extern "C" fn hf_raw_process_frame_with_length(
+    size: usize,
+    mode: u32,
+    kind: u32,
+    heads: &mut [u64; POOL_NUMBERS],
+    bytes: &mut [u8; POOL_BYTES],
+    counters: &mut [u32; 5],
+    pgns: &[u32],
+    now_ms: u64,
+    pgn: u32,
+    source_address: u8,
+    data: &[u8; 8],
+    frame_length: usize,
+    payload: &mut [u8; MAX_FAST_PACKET_PAYLOAD],
+    length: &mut usize,
+) -> u32
+    ensures { FrameWithLengthLeft size mode kind pgns.now (record { arrival = record { now_ms = now_ms; pgn = pgn; source_address = source_address; «data» = «data».now }; length = frame_length })
+        (record { heads = heads.old; bytes = bytes.old; counters = counters.old; payload = payload.old; length = length.old })
+        result (record { heads = heads.new; bytes = bytes.new; counters = counters.new; payload = payload.new; length = length.new }) }
+{
+    ffi::pools::hf_raw_process_frame_with_length(
+        size,
+        mode,
+        kind,
+        heads,
+        bytes,
+        counters,
+        pgns,
+        now_ms,
+        pgn,
+        source_address,
+        data,
+        frame_length,
+        payload,
+        length,
+    )
+}
+
+// By the identifier, on a pool whose key has the destination: refusal 8 for one that is too wide, before all else; then as the entries above.
+#[unsafe(no_mangle)]
+pub extern "C" fn hf_raw_process_frame_by_id(
+    size: usize,
+    mode: u32,
+    kind: u32,
+    heads: &mut [u64; POOL_NUMBERS],
+    bytes: &mut [u8; POOL_BYTES],
+    counters: &mut [u32; 5],
+    pgns: &[u32],
+    now_ms: u64,
+    id: u32,
+    data: &[u8; 8],
+    payload: &mut [u8; MAX_FAST_PACKET_PAYLOAD],
+    length: &mut usize,
+) -> u32
+    ensures { FrameByIdLeft size mode kind pgns.now (record { now_ms = now_ms; id = record { 0 = id }; «data» = «data».now })
+        (record { heads = heads.old; bytes = bytes.old; counters = counters.old; payload = payload.old; length = length.old })
+        result (record { heads = heads.new; bytes = bytes.new; counters = counters.new; payload = payload.new; length = length.new }) }
+{
+    ffi::pools::hf_raw_process_frame_by_id(
+        size, mode, kind, heads, bytes, counters, pgns, now_ms, id, data, payload, length,
+    )
+}
+
+// The same by the call that has the counters by value.
+#[unsafe(no_mangle)]
+pub extern "C" fn hf_raw_receive_by_id(
+    size: usize,
+    mode: u32,
+    kind: u32,
+    heads: &mut [u64; POOL_NUMBERS],
+    bytes: &mut [u8; POOL_BYTES],
+    counters: &mut [u32; 5],
+    pgns: &[u32],
+    now_ms: u64,
+    id: u32,
+    data: &[u8; 8],
+    payload: &mut [u8; MAX_FAST_PACKET_PAYLOAD],
+    length: &mut usize,
+) -> u32
+    ensures { FrameByIdLeft size mode kind pgns.now (record { now_ms = now_ms; id = record { 0 = id }; «data» = «data».now })
+        (record { heads = heads.old; bytes = bytes.old; counters = counters.old; payload = payload.old; length = length.old })
+        result (record { heads = heads.new; bytes = bytes.new; counters = counters.new; payload = payload.new; length = length.new }) }
+{
+    ffi::pools::hf_raw_receive_by_id(
+        size, mode, kind, heads, bytes, counters, pgns, now_ms, id, data, payload, length,
+    )
+}
+
+// The same for a frame with a length.
+#[unsafe(no_mangle)]
+pub extern "C" fn hf_raw_process_frame_by_id_with_length(
+    size: usize,
+    mode: u32,
+    kind: u32,
+    heads: &mut [u64; POOL_NUMBERS],
+    bytes: &mut [u8; POOL_BYTES],
+    counters: &mut [u32; 5],
+    pgns: &[u32],
+    now_ms: u64,
+    id: u32,
+    data: &[u8; 8],
+    frame_length: usize,
+    payload: &mut [u8; MAX_FAST_PACKET_PAYLOAD],
+    length: &mut usize,
+) -> u32
+    ensures { FrameByIdWithLengthLeft size mode kind pgns.now (record { arrival = record { now_ms = now_ms; id = record { 0 = id }; «data» = «data».now }; length = frame_length })
+        (record { heads = heads.old; bytes = bytes.old; counters = counters.old; payload = payload.old; length = length.old })
+        result (record { heads = heads.new; bytes = bytes.new; counters = counters.new; payload = payload.new; length = length.new }) }
+{
+    ffi::pools::hf_raw_process_frame_by_id_with_length(
+        size,
+        mode,
+        kind,
+        heads,
+        bytes,
+        counters,
+        pgns,
+        now_ms,
+        id,
+        data,
+        frame_length,
+        payload,
+        length,
+    )
+}
