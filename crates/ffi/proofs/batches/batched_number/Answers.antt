@@ -1,0 +1,17 @@
+-- `batched_number` meets its contract: case by case. Assumes nothing.
+use borrow.Author.Rules.{rules}
+use mathlib.Core.Path.{refl}
+use Rattle.batch.specs.Rows.{of_batched}
+use Rattle.ffi.proofs.batches.batched_number.Goals as goal
+
+pub returns-in-Done : goal.returns-in-Done
+unfolding of_batched
+returns-in-Done c = rw c.in-Done.is (λ taken. refl)
+
+pub returns-in-ImpossiblePool : goal.returns-in-ImpossiblePool
+unfolding of_batched
+returns-in-ImpossiblePool c = rw c.in-ImpossiblePool.is (λ taken. refl)
+
+pub returns-in-NoRoom : goal.returns-in-NoRoom
+unfolding of_batched
+returns-in-NoRoom c = rw c.in-NoRoom.is (λ taken. refl)

@@ -1,0 +1,11 @@
+-- `hf_reassemble` meets its contract: it passes on what its calls say. Assumes nothing.
+use borrow.Author.Rules.{rules}
+use Rattle.ffi.proofs.BenchLaws.{told_so}
+use Rattle.ffi.proofs.bench_entries.hf_reassemble.Goals as goal
+
+pub returns : goal.returns
+returns c = record {
+  answer = told_so c.reassemble_rows-r.ensures.answer c.told_reassembled.ensures;
+  list_after = c.reassemble_rows-r.ensures.list_after;
+  arena_after = c.reassemble_rows-r.ensures.arena_after;
+}

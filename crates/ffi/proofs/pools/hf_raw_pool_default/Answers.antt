@@ -1,0 +1,7 @@
+-- `hf_raw_pool_default` meets its contract: it passes on what its calls say. Assumes nothing.
+use borrow.Author.Rules.{rules}
+use Rattle.ffi.proofs.Laws.{made_by, default_by}
+use Rattle.ffi.proofs.pools.hf_raw_pool_default.Goals as goal
+
+pub returns : goal.returns
+returns c = made_by c.leave_made.ensures (default_by c.default-pool.ensures) c.default-pool.ensures
