@@ -1,8 +1,8 @@
 /* Hingefrost: NMEA 2000 Fast Packet for C and C++. Every function is total: no input is out of bounds, and the answer and all
  * lent memory are determined at every input.
  *
- * Link target/host/libhingefrost.a, which host/archive proves and makes for the machine that it runs on: on x86-64 Linux rt's own
- * archive, on Arm (aarch64) Linux the same module compiled for Arm. Of C's library it needs memcpy and memset.
+ * Link target/host/libhingefrost.a, which host/archive proves and makes for the machine that it runs on: x86-64 Linux, or Arm
+ * (aarch64) Linux. Of C's library it needs memcpy and memset.
  *
  * Answers. A function that may refuse returns HF_OK, a refusal's number (1 to 99, docs/REFUSALS.md) or one of the kinds below.
  * A refusal changes no lent memory but what the answer itself is put into (*value, *size, *mode, *kind, *length, a message's

@@ -163,7 +163,7 @@ fn the_declarations_agree() {
         for file in fs::read_dir(krate.join("src")).into_iter().flatten().map(|f| f.unwrap().path()).filter(|f| f.extension().is_some_and(|e| e == "rt")) {
             let text = code(&fs::read_to_string(file).unwrap());
             rattle_constants.add_rust(&text);
-            if krate.ends_with("ffi") {
+            if krate.ends_with("ffi_c") {
                 rattle.push(text);
             }
         }
@@ -191,10 +191,10 @@ fn the_declarations_agree() {
     for (place, found) in [("host/hingefrost.h", &c), ("host/port/src/entries.rs", &linked), ("host/port/src/piped.rs", &piped)] {
         for one in &rattle {
             let there = found.iter().find(|f| f.split('(').next() == one.split('(').next()).map_or("nothing of that name", |f| f);
-            assert!(found.contains(one), "crates/ffi has {one}\n{place} has {there}");
+            assert!(found.contains(one), "crates/ffi_c has {one}\n{place} has {there}");
         }
         for one in found {
-            assert!(rattle.contains(one), "{place} declares {one}, which crates/ffi does not");
+            assert!(rattle.contains(one), "{place} declares {one}, which crates/ffi_c does not");
         }
         assert_eq!(found.len(), rattle.len(), "{place} declares an entry twice");
     }

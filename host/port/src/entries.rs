@@ -4,16 +4,16 @@ use crate::fast_packet::MAX_FAST_PACKET_PAYLOAD;
 use crate::raw::{POOL_BYTES, POOL_HEADS};
 
 unsafe extern "C" {
-    // ---- crates/ffi/src/ids.rt
+    // ---- crates/ffi_c/src/ids.rt
     pub safe fn hf_can_id_read(id: u32, parts: &mut [u32; 4]) -> u32;
     pub safe fn hf_can_id_build(priority: u8, pgn: u32, source_address: u8, destination: u16, value: &mut u32) -> u32;
     pub safe fn hf_can_id_build_with(pgn: u32, source_address: u8, priority: u16, destination: u16, value: &mut u32) -> u32;
     pub safe fn hf_can_id_build_to(pgn: u32, source_address: u8, priority: u8, destination: u8, value: &mut u32) -> u32;
 
-    // ---- crates/ffi/src/short_frames.rt
+    // ---- crates/ffi_c/src/short_frames.rt
     pub safe fn hf_fill_short(data: &mut [u8; 8], len: usize);
 
-    // ---- crates/ffi/src/frames.rt
+    // ---- crates/ffi_c/src/frames.rt
     pub unsafe fn hf_raw_builder_new(
         pgn: u32, source_address: u8, destination: u16, payload: *const u8, payload_len: usize, pgns: *const u32, pgns_len: usize, sequence_id: u8, builder: &mut [u64; 6],
     ) -> u8;
@@ -28,7 +28,7 @@ unsafe extern "C" {
         builder: &[u64; 6], place: &mut [u64; 2], payload: *const u8, payload_len: usize, data: &mut [u8; 8], frame: &mut [u64; 3],
     ) -> u32;
 
-    // ---- crates/ffi/src/pools.rt
+    // ---- crates/ffi_c/src/pools.rt
     pub safe fn hf_raw_pool_new(wanted: usize, heads: &mut [u64; POOL_HEADS], bytes: &mut [u8; POOL_BYTES], size: &mut usize, mode: &mut u32, kind: &mut u32) -> u32;
     pub safe fn hf_raw_pool_default(heads: &mut [u64; POOL_HEADS], bytes: &mut [u8; POOL_BYTES], size: &mut usize, mode: &mut u32, kind: &mut u32) -> u32;
     pub safe fn hf_raw_pool_with_mode(
@@ -62,14 +62,14 @@ unsafe extern "C" {
         id: u32, data: &[u8; 8], frame_length: usize, payload: &mut [u8; MAX_FAST_PACKET_PAYLOAD], length: &mut usize,
     ) -> u32;
 
-    // ---- crates/ffi/src/batches.rt
+    // ---- crates/ffi_c/src/batches.rt
     pub unsafe fn hf_raw_process_frames(
         size: usize, mode: u32, kind: u32, heads: &mut [u64; POOL_HEADS], bytes: &mut [u8; POOL_BYTES], counters: &mut [u32; 5], pgns: *const u32, pgns_len: usize,
         times: *const u64, times_len: usize, frame_pgns: *const u32, frame_pgns_len: usize, sources: *const u8, sources_len: usize, data: *const u8, data_len: usize,
         kinds: *mut u8, kinds_len: usize, lengths: *mut u8, lengths_len: usize, arena: *mut u8, arena_len: usize, counts: &mut [u64; 2],
     ) -> u32;
 
-    // ---- crates/ffi/src/bench_entries.rt
+    // ---- crates/ffi_c/src/bench_entries.rt
     pub unsafe fn hf_reassemble(
         ids: *const u32, ids_len: usize, bytes: *const u8, bytes_len: usize, lens: *const usize, lens_len: usize, source: u8, pgn: u32,
         list: *mut usize, list_len: usize, arena: *mut u8, arena_len: usize, values: &mut [u64; 5],

@@ -1,5 +1,5 @@
 //! The same entries in another process: each call goes by pipes to host/driver.c's program, which links the archive. This is
-//! how rt's x86-64 archive, run by the kit's emulator, is held to the original on a machine that is not x86-64.
+//! how rt's x86-64 archive is held to the original on a machine that is not x86-64 and runs the kit all the same.
 //!
 //! A call is: the entry's number, its numbers, its slices (with a flag where they come back). The answer is what the entry
 //! returned, and the slices that come back. Everything is little-endian.
