@@ -17,6 +17,7 @@ WORD = re.compile(r'[^\s(){}.;,@"«»\x60:]+')
 NAME = r'[^\s(){}.;,@"«»:]+'
 DECLARED = re.compile(r"\s*(?:(?:abbrev|unfoldable)\s+)?(?:pub\s+)?(?:(?:abbrev|unfoldable)\s+)?(" + NAME + r")\s+:\s")
 RULESET = re.compile(r"\s*(?:pub\s+)?ruleset\s+(" + NAME + r")\s+=")
+CONSTRUCTORS = re.compile(r"\s+((?:[a-z][A-Za-z0-9_]* )+[a-z][A-Za-z0-9_]*)\s+:\s")
 MADE = re.compile(r"^(invariant|decreases)-|^Need|^loop-|^returns")
 # names that two old ones would share, and names that the script would make badly
 OWN = {"inProgress": "heads_in_progress", "keyBack": "back_key", "by-id": "by_id_rules"}
@@ -46,6 +47,9 @@ def table(root):
                 m = shape.match(line)
                 if m:
                     names.add(m[1])
+            m = CONSTRUCTORS.match(line)
+            if m:
+                names.update(m[1].split())
     rows = {n: snake(n) for n in names if re.match(r"[a-z]", n) and not MADE.match(n) and snake(n) != n}
     # a lemma that would have its function's name gets _lem
     taken = {n for n in names if n not in rows} | {new for old, new in rows.items() if "-" not in old}

@@ -35,7 +35,7 @@ use Rattle.assembler.specs.declared.Pool.{Pool}
 use Rattle.assembler.specs.declared.Received.{Received}
 use Rattle.assembler.specs.Call.{Call}
 use Rattle.assembler.specs.Slots.{Slot, Slots, fresh_slot, on_head, impossible, chosen, live, opened_slot, reset_slot, copied_slot}
-use Rattle.assembler.specs.Step.{Event, not_listed, rejected, shortMessage, poolFull, opened, stray, broken, copied, completed, opens_at, continues_at, event_of, slots_after, mark_of, Why, unlisted, badFrame, no_slot, lost, ignored, padded, message, said_of, outcome, step_if, step}
+use Rattle.assembler.specs.Step.{Event, not_listed, rejected, short_message, pool_full, opened, stray, broken, copied, completed, opens_at, continues_at, event_of, slots_after, mark_of, Why, unlisted, bad_frame, no_slot, lost, ignored, padded, message, said_of, outcome, step_if, step}
 use Rattle.assembler.proofs.Events.{first_short, first_sized, copy_at, turn_at, by_index, by_sent, by_list}
 use Rattle.assembler.specs.Making.{pool_bytes}
 use Rattle.assembler.specs.View.{slots_from, slots_of, pool_of, zeros, why_kind, reply_kind, reply_payload, reply_length, shown, receive_of}
@@ -104,7 +104,7 @@ module _ (R : Rules) (f : Heard) (p : Pool) (k : Counters) (w : Whole p) (eight 
   unfolding next_bytes
   next_seven = simp length-drop (rw eight)
 
-  does_short : (t : Bool) (g : ℕ) → size_of f ≤ 6 → Does f p k (plan_short true t R.silent f (get_or p.heads g d)) g (after shortMessage)
+  does_short : (t : Bool) (g : ℕ) → size_of f ≤ 6 → Does f p k (plan_short true t R.silent f (get_or p.heads g d)) g (after short_message)
   unfolding plan_short carried shown outcome said_of slots_after mark_of slots_of message first_bytes reply_kind reply_payload reply_length
   does_short t g h =
       let reach : size_of f ≤ length (drop 2 f.«data») = omega (arith, first_six) in
@@ -127,7 +127,7 @@ module _ (R : Rules) (f : Heard) (p : Pool) (k : Counters) (w : Whole p) (eight 
 
     does_open : (o : Option ℕ) → Inside p.size o → Does f p k (plan_open (found o) R.silent f (get_or p.heads (spot o) d)) (spot o) (after (opens_at R f slots o))
     unfolding found spot plan_open is_late opens_at is_expired is_silent
-    does_open none u = unfold mark_of said_of slots_after why_kind in does_ignored poolFull no_slot 0 refl refl
+    does_open none u = unfold mark_of said_of slots_after why_kind in does_ignored pool_full no_slot 0 refl refl
     does_open (some i) u =
         record {
           fits = record { room = omega arith; there = omega arith; whole = omega arith; short = omega arith; total = omega arith };
@@ -225,7 +225,7 @@ module _ (R : Rules) (f : Heard) (p : Pool) (k : Counters) (w : Whole p) (eight 
 
     does_sized : (b : Bool) → Does f p k (plan_sized b (found (choice true)) R.silent f (get_or p.heads (spot (choice true)) d)) (spot (choice true)) (after (first_sized b R f slots))
     unfolding plan_sized pick
-    does_sized true = unfold mark_of said_of slots_after why_kind in does_ignored rejected badFrame (spot (choice true)) refl refl
+    does_sized true = unfold mark_of said_of slots_after why_kind in does_ignored rejected bad_frame (spot (choice true)) refl refl
     does_sized false = does_first (leb (size_of f) 6) refl
 
     module _ (fine : any (on_head (impossible_head R)) slots ≡ false) where
@@ -236,7 +236,7 @@ module _ (R : Rules) (f : Heard) (p : Pool) (k : Counters) (w : Whole p) (eight 
 
       does_sent : (b : Bool) → Does f p k (plan_sent b (found (choice (eqb (index_of f) 0))) R.silent f (get_or p.heads (spot (choice (eqb (index_of f) 0))) d)) (spot (choice (eqb (index_of f) 0))) (after (by_sent b R f slots))
       unfolding plan_sent pick
-      does_sent true = unfold mark_of said_of slots_after why_kind in does_ignored rejected badFrame (spot (choice (eqb (index_of f) 0))) refl refl
+      does_sent true = unfold mark_of said_of slots_after why_kind in does_ignored rejected bad_frame (spot (choice (eqb (index_of f) 0))) refl refl
       does_sent false = does_index (eqb (index_of f) 0)
 
       does_listed : (b : Bool) → Does f p k (plan_listed b (found (choice (eqb (index_of f) 0))) R.silent f (get_or p.heads (spot (choice (eqb (index_of f) 0))) d)) (spot (choice (eqb (index_of f) 0))) (after (by_list b R f slots))

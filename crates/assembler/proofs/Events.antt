@@ -10,10 +10,10 @@ use Rattle.session.specs.Rules.{Rules}
 use Rattle.session.specs.Frames.{index_of, size_of, is_empty, bad_first}
 use Rattle.session.specs.Heads.{copied_head, all_there}
 use Rattle.assembler.specs.Slots.{Slot, chosen, live}
-use Rattle.assembler.specs.Step.{Event, not_listed, rejected, shortMessage, broken, copied, completed, opens_at, continues_at}
+use Rattle.assembler.specs.Step.{Event, not_listed, rejected, short_message, broken, copied, completed, opens_at, continues_at}
 
 abbrev pub first_short : Bool → Rules → Heard → List Slot → Event
-first_short b R f ss = pick b shortMessage (opens_at R f ss (chosen R f ss))
+first_short b R f ss = pick b short_message (opens_at R f ss (chosen R f ss))
 
 abbrev pub first_sized : Bool → Rules → Heard → List Slot → Event
 first_sized b R f ss = pick b rejected (first_short (leb (size_of f) 6) R f ss)

@@ -24,7 +24,7 @@ use Rattle.session.proofs.Cuts.{first_good, next_in_turn}
 use Rattle.session.proofs.Sound.{Sound, sound, fitting, none_at, busy_live}
 use Rattle.assembler.specs.Call.{Call, CallOk, part_fits, listed}
 use Rattle.assembler.specs.Slots.{Slot, Slots, fresh_slot, slot_at, within, on_head, impossible, chosen, live, opened_slot, reset_slot, copied_slot}
-use Rattle.assembler.specs.Step.{Event, not_listed, rejected, shortMessage, poolFull, opened, stray, broken, copied, completed, opens_at, continues_at, event_of, slots_after, outcome, step_if, step}
+use Rattle.assembler.specs.Step.{Event, not_listed, rejected, short_message, pool_full, opened, stray, broken, copied, completed, opens_at, continues_at, event_of, slots_after, outcome, step_if, step}
 use Rattle.assembler.proofs.Events.{first_short, first_sized, copy_at, turn_at, by_index, by_sent, by_list}
 use Rattle.assembler.proofs.Views.{Sized, none, more, sized_append}
 
@@ -94,8 +94,8 @@ pub after_length : (f : Heard) (ss : List Slot) (e : Event) → length (slots_af
 unfolding slots_after
 after_length f ss not_listed = refl
 after_length f ss rejected = refl
-after_length f ss shortMessage = refl
-after_length f ss poolFull = refl
+after_length f ss short_message = refl
+after_length f ss pool_full = refl
 after_length f ss (opened i late) = simp length-set
 after_length f ss stray = refl
 after_length f ss (broken i) = simp length-set

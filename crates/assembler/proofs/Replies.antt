@@ -13,13 +13,13 @@ use Rattle.session.specs.Rules.{Rules}
 use Rattle.assembler.specs.declared.Pool.{Pool}
 use Rattle.assembler.specs.Call.{Call}
 use Rattle.assembler.specs.Slots.{Slots, impossible}
-use Rattle.assembler.specs.Step.{Why, unlisted, badFrame, no_slot, lost, Said, ignored, consumed, complete, outcome, step_if, step}
+use Rattle.assembler.specs.Step.{Why, unlisted, bad_frame, no_slot, lost, Said, ignored, consumed, complete, outcome, step_if, step}
 use Rattle.assembler.specs.View.{slots_of, why_kind, reply_kind, reply_payload, reply_length, shown, reply_by, reply_of, receive_of}
 
 said_back : (s : Said) → reply_by (reply_kind (gives s)) (reply_payload (gives s)) (reply_length (gives s)) ≡ gives s
 unfolding reply_by reply_kind why_kind reply_payload reply_length
 said_back (ignored unlisted) = refl
-said_back (ignored badFrame) = refl
+said_back (ignored bad_frame) = refl
 said_back (ignored no_slot) = refl
 said_back (ignored lost) = refl
 said_back consumed = refl

@@ -23,7 +23,7 @@ use Rattle.session.specs.Heads.{head_key, has_key, is_free, is_free_of_source, i
 use Rattle.session.proofs.Cuts.{sent_part, first_sent, next_sent}
 use Rattle.assembler.specs.Call.{Call, listed}
 use Rattle.assembler.specs.Slots.{Slot, Slots, within, slot_at, on_head, impossible, chosen, live, opened_slot, copied_slot}
-use Rattle.assembler.specs.Step.{Event, rejected, shortMessage, copied, completed, opens_at, continues_at, event_of, slots_after, mark_of, said_of, outcome, step_if, step}
+use Rattle.assembler.specs.Step.{Event, rejected, short_message, copied, completed, opens_at, continues_at, event_of, slots_after, mark_of, said_of, outcome, step_if, step}
 
 module _ (now pgn source part sent : ℕ) where
   -- the frame with these eight bytes, of which the first `sent` were sent
@@ -81,7 +81,7 @@ module _ (now pgn source part sent : ℕ) where
           key_same
 
       module _ (whole : 2 + min 6 (size_of (frame e)) ≤ sent) where
-        alike_short : size_of (frame e) ≤ 6 → Alike ss shortMessage shortMessage
+        alike_short : size_of (frame e) ≤ 6 → Alike ss short_message short_message
         unfolding slots_after said_of first_bytes
         alike_short small = record { slots = refl; said = rw (size_same (omega (arith, whole)), part_same 2 (size_of (frame e)) (omega (arith, whole, small))); mark = refl }
 
@@ -94,8 +94,8 @@ module _ (now pgn source part sent : ℕ) where
         alike_open long none = record { slots = refl; said = refl; mark = refl }
         alike_open long (some i) = record { slots = rw (opened_same long (slot_at ss i)); said = refl; mark = refl }
 
-        alike_good : Alike ss (pick (leb (size_of (frame d)) 6) shortMessage (opens_at R (frame d) ss (chosen R (frame d) ss)))
-            (pick (leb (size_of (frame e)) 6) shortMessage (opens_at R (frame e) ss (chosen R (frame e) ss)))
+        alike_good : Alike ss (pick (leb (size_of (frame d)) 6) short_message (opens_at R (frame d) ss (chosen R (frame d) ss)))
+            (pick (leb (size_of (frame e)) 6) short_message (opens_at R (frame e) ss (chosen R (frame e) ss)))
         alike_good =
             rw (size_same (omega (arith, whole)), chosen_same)
             (pick_both (Alike ss) (leb (size_of (frame e)) 6) (λ short. alike_short (leb-true (size_of (frame e)) 6 short)) (λ long. alike_open (leb-false (size_of (frame e)) 6 long) (chosen R (frame e) ss)))
@@ -133,8 +133,8 @@ module _ (now pgn source part sent : ℕ) where
 
       -- ---- by the tests that a listed frame with a byte goes through
       alike_listed : Alike ss
-          (pick (eqb (index_of (frame d)) 0) (pick (bad_first (frame d)) rejected (pick (leb (size_of (frame d)) 6) shortMessage (opens_at R (frame d) ss (chosen R (frame d) ss)))) (continues_at (frame d) ss (live R (frame d) ss)))
-          (pick (eqb (index_of (frame e)) 0) (pick (bad_first (frame e)) rejected (pick (leb (size_of (frame e)) 6) shortMessage (opens_at R (frame e) ss (chosen R (frame e) ss)))) (continues_at (frame e) ss (live R (frame e) ss)))
+          (pick (eqb (index_of (frame d)) 0) (pick (bad_first (frame d)) rejected (pick (leb (size_of (frame d)) 6) short_message (opens_at R (frame d) ss (chosen R (frame d) ss)))) (continues_at (frame d) ss (live R (frame d) ss)))
+          (pick (eqb (index_of (frame e)) 0) (pick (bad_first (frame e)) rejected (pick (leb (size_of (frame e)) 6) short_message (opens_at R (frame e) ss (chosen R (frame e) ss)))) (continues_at (frame e) ss (live R (frame e) ss)))
       alike_listed =
           rw (index_same, bad_same, live_same)
           (pick_both (Alike ss) (eqb (index_of (frame e)) 0)

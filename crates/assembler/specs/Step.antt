@@ -22,7 +22,7 @@ pub data Event : Type 0 where
   not_listed : Event
   -- step 3: announced 0 or over 223, or cut short, or no byte at all; a message of 1 to 6 bytes; no slot to take; slot i opened, and whether the message it
   -- held is late
-  rejected shortMessage poolFull : Event
+  rejected short_message pool_full : Event
   opened : ℕ → Bool → Event
   -- step 4: no live slot with this key; slot i reset, by a frame out of turn or cut short; a fragment copied to slot i; and all is there
   stray : Event
@@ -30,7 +30,7 @@ pub data Event : Type 0 where
 
 -- step 3: "take .."; "else Ignored, pool_exhausted. A slot taken while in progress and silent over 500 counts in expired_sessions."
 unfoldable pub opens_at : Rules → Heard → List Slot → Option ℕ → Event
-opens_at R f ss none = poolFull
+opens_at R f ss none = pool_full
 opens_at R f ss (some i) = opened i (is_expired R f (slot_at ss i).head)
 
 -- step 4: "None: a stray .. Index not last index + 1: the slot is reset .. Otherwise copy ..; MessageComplete with reset when all is there, else
@@ -51,7 +51,7 @@ event_of R ss c =
     (pick (is_empty c.heard) rejected
     (pick (eqb (index_of c.heard) 0)
     (pick (bad_first c.heard) rejected
-    (pick (leb (size_of c.heard) 6) shortMessage
+    (pick (leb (size_of c.heard) 6) short_message
     (opens_at R c.heard ss (chosen R c.heard ss))))
     (continues_at c.heard ss (live R c.heard ss))))
     not_listed
@@ -61,8 +61,8 @@ event_of R ss c =
 unfoldable pub slots_after : Heard → List Slot → Event → List Slot
 slots_after f ss not_listed = ss
 slots_after f ss rejected = ss
-slots_after f ss shortMessage = ss
-slots_after f ss poolFull = ss
+slots_after f ss short_message = ss
+slots_after f ss pool_full = ss
 slots_after f ss (opened i late) = set ss i (opened_slot f (slot_at ss i))
 slots_after f ss stray = ss
 slots_after f ss (broken i) = set ss i (reset_slot (slot_at ss i))
@@ -74,8 +74,8 @@ slots_after f ss (completed i) = set ss i (reset_slot (copied_slot f (slot_at ss
 unfoldable pub mark_of : Event → Mark
 mark_of not_listed = Unknown
 mark_of rejected = Rejected
-mark_of shortMessage = Nothing
-mark_of poolFull = Exhausted
+mark_of short_message = Nothing
+mark_of pool_full = Exhausted
 mark_of (opened i late) = expired_mark late
 mark_of stray = Lost
 mark_of (broken i) = Lost
@@ -86,7 +86,7 @@ mark_of (completed i) = Nothing
 
 -- why a frame is Ignored; document 02, No. 2: "answers tell NotListed, Rejected, PoolFull and Lost apart where it now says Ignored"
 pub data Why : Type 0 where
-  unlisted badFrame no_slot lost : Why
+  unlisted bad_frame no_slot lost : Why
 
 pub data Said : Type 0 where
   ignored : Why → Said
@@ -109,9 +109,9 @@ message bytes = complete (padded bytes) (length bytes)
 -- the answer follows from the event; Lost is the stray and the frame that breaks its session
 unfoldable pub said_of : Heard → List Slot → Event → Said
 said_of f ss not_listed = ignored unlisted
-said_of f ss rejected = ignored badFrame
-said_of f ss shortMessage = message (take (size_of f) (first_bytes f))
-said_of f ss poolFull = ignored no_slot
+said_of f ss rejected = ignored bad_frame
+said_of f ss short_message = message (take (size_of f) (first_bytes f))
+said_of f ss pool_full = ignored no_slot
 said_of f ss (opened i late) = consumed
 said_of f ss stray = ignored lost
 said_of f ss (broken i) = ignored lost

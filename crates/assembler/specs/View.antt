@@ -15,7 +15,7 @@ use Rattle.assembler.specs.declared.Pool.{Pool}
 use Rattle.assembler.specs.declared.Received.{Received}
 use Rattle.assembler.specs.Call.{Call}
 use Rattle.assembler.specs.Slots.{Slot, Slots}
-use Rattle.assembler.specs.Step.{Why, unlisted, badFrame, no_slot, lost, Said, ignored, consumed, complete, Reply, Outcome, step}
+use Rattle.assembler.specs.Step.{Why, unlisted, bad_frame, no_slot, lost, Said, ignored, consumed, complete, Reply, Outcome, step}
 
 -- ---- the pool as slots
 
@@ -47,7 +47,7 @@ zeros = replicate max_payload 0
 -- the names of document 02, No. 2
 unfoldable pub why_kind : Why → Kind
 why_kind unlisted = NotListed
-why_kind badFrame = Rejected
+why_kind bad_frame = Rejected
 why_kind no_slot = PoolFull
 why_kind lost = Lost
 
@@ -78,7 +78,7 @@ unfoldable pub reply_by : Kind → List ℕ → ℕ → Reply
 reply_by ImpossiblePool payload length = refuses 1 []
 reply_by TooWide payload length = refuses 8 []
 reply_by NotListed payload length = gives (ignored unlisted)
-reply_by Rejected payload length = gives (ignored badFrame)
+reply_by Rejected payload length = gives (ignored bad_frame)
 reply_by PoolFull payload length = gives (ignored no_slot)
 reply_by Lost payload length = gives (ignored lost)
 reply_by FragmentConsumed payload length = gives consumed

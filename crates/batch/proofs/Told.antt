@@ -16,7 +16,7 @@ use Rattle.session.proofs.SearchLaws.{same_limit}
 use Rattle.assembler.specs.declared.Pool.{Pool}
 use Rattle.assembler.specs.declared.Received.{Received}
 use Rattle.assembler.specs.Slots.{impossible}
-use Rattle.assembler.specs.Step.{Why, unlisted, badFrame, no_slot, lost, Said, ignored, consumed, complete, outcome, step_if, step}
+use Rattle.assembler.specs.Step.{Why, unlisted, bad_frame, no_slot, lost, Said, ignored, consumed, complete, outcome, step_if, step}
 use Rattle.assembler.specs.View.{slots_of, why_kind, reply_kind, shown, receive_of}
 use Rattle.assembler.proofs.Views.{Whole}
 use Rattle.assembler.proofs.Carries.{carried, Does, receives, slot_long}
@@ -33,7 +33,7 @@ OfFrame n = (102 ≤ n) × (n ≤ 107)
 said_kind_lem : (s : Said) → OfFrame (kind_number (reply_kind (gives s)))
 unfolding kind_number why_kind reply_kind
 said_kind_lem (ignored unlisted) = (omega arith, omega arith)
-said_kind_lem (ignored badFrame) = (omega arith, omega arith)
+said_kind_lem (ignored bad_frame) = (omega arith, omega arith)
 said_kind_lem (ignored no_slot) = (omega arith, omega arith)
 said_kind_lem (ignored lost) = (omega arith, omega arith)
 said_kind_lem consumed = (omega arith, omega arith)

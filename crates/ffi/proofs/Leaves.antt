@@ -29,7 +29,7 @@ use Rattle.session.specs.declared.Counters.{Counters}
 use Rattle.assembler.specs.Call.{Call}
 use Rattle.assembler.specs.Making.{pool_bytes, size_made, pool_made, fresh_pool_in}
 use Rattle.assembler.specs.Slots.{within, impossible}
-use Rattle.assembler.specs.Step.{unlisted, badFrame, no_slot, lost, Said, ignored, consumed, complete, said_of, event_of, step, step_if, outcome}
+use Rattle.assembler.specs.Step.{unlisted, bad_frame, no_slot, lost, Said, ignored, consumed, complete, said_of, event_of, step, step_if, outcome}
 use Rattle.assembler.specs.View.{slots_of, pool_of, zeros, why_kind, reply_kind, reply_payload, reply_length, shown, receive_of}
 use Rattle.assembler.specs.declared.Pool.{Pool}
 use Rattle.assembler.specs.declared.Arrival.{Arrival}
@@ -126,7 +126,7 @@ refusal wide p k = record { kind = pick wide TooWide ImpossiblePool; payload = z
 given : (s : Said) → kind_number (reply_kind (gives s)) < 100 → ⊥
 unfolding reply_kind why_kind kind_number
 given (ignored unlisted) h = omega arith
-given (ignored badFrame) h = omega arith
+given (ignored bad_frame) h = omega arith
 given (ignored no_slot) h = omega arith
 given (ignored lost) h = omega arith
 given consumed h = omega arith

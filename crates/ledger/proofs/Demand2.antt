@@ -26,7 +26,7 @@ use Rattle.assembler.specs.declared.Processed.{Processed}
 use Rattle.assembler.specs.declared.Received.{Received}
 use Rattle.assembler.specs.Call.{Call, listed}
 use Rattle.assembler.specs.Slots.{Slot, Slots, within, slot_at, impossible, chosen, live}
-use Rattle.assembler.specs.Step.{Event, not_listed, rejected, shortMessage, poolFull, opened, stray, broken, copied, completed, Outcome, opens_at, continues_at, event_of, message, said_of, outcome, step_if, step}
+use Rattle.assembler.specs.Step.{Event, not_listed, rejected, short_message, pool_full, opened, stray, broken, copied, completed, Outcome, opens_at, continues_at, event_of, message, said_of, outcome, step_if, step}
 use Rattle.assembler.specs.View.{slots_of, pool_of, shown, receive_of}
 use Rattle.assembler.specs.Arrivals.{heard_of, cut_to, heard_with_length}
 use Rattle.assembler.specs.Promises.{at_original, ReceivesHeard, ProcessesHeard, Receives, ReceivesWithLength, Processes, ProcessesWithLength}
@@ -40,8 +40,8 @@ said_as : (f : Heard) (ss : List Slot) (e : Event) → as_ignored (said_of f ss 
 unfolding as_ignored said_of answer_of message whole
 said_as f ss not_listed = refl
 said_as f ss rejected = refl
-said_as f ss shortMessage = refl
-said_as f ss poolFull = refl
+said_as f ss short_message = refl
+said_as f ss pool_full = refl
 said_as f ss (opened i late) = refl
 said_as f ss stray = refl
 said_as f ss (broken i) = refl
@@ -73,7 +73,7 @@ module _ (R : Rules) (ss : List Slot) (c : Call) where
   event_as e = go (listed c) (is_empty c.heard) (eqb (index_of c.heard) 0) e
     where
       X : Event
-      X = pick (leb (size_of c.heard) 6) shortMessage (opens_at R c.heard ss (chosen R c.heard ss))
+      X = pick (leb (size_of c.heard) 6) short_message (opens_at R c.heard ss (chosen R c.heard ss))
 
       go : (l n i : Bool) → (l && pick n true (pick i (not (bad_size c.heard) && cut_first c.heard) (cut_at c.heard ss (live R c.heard ss)))) ≡ false
           → pick l (pick n rejected (pick i (pick (bad_size c.heard || cut_first c.heard) rejected X) (continues_at c.heard ss (live R c.heard ss)))) not_listed

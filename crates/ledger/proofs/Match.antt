@@ -140,7 +140,7 @@ module _ (R : Rules) where
         subst (λ (o : Option ℕ). Match c ss (given (taken_by R c ps) (nothing_moved NoSlot ps) (opens_in R n ps c)) (opens_at R c.heard ss o)) (chosen_same c h)
         (match_open low high all (taken_by R c ps) (within_taken R c ps))
 
-    match_short : size_of c.heard ≤ 6 → 2 + size_of c.heard ≤ c.heard.length → Match c ss (record { deed = AtOnce; message = some (new_message n c); places = ps }) act.shortMessage
+    match_short : size_of c.heard ≤ 6 → 2 + size_of c.heard ≤ c.heard.length → Match c ss (record { deed = AtOnce; message = some (new_message n c); places = ps }) act.short_message
     unfolding slots_after said_of act.mark_of mark_of saying is_one_of any deed_number pick delivery announced new_message own_bytes frames_bytes
     match_short small all =
         record {

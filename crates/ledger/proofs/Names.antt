@@ -26,7 +26,7 @@ use Rattle.assembler.specs.declared.Processed.{Processed}
 use Rattle.assembler.specs.declared.Received.{Received}
 use Rattle.assembler.specs.Call.{Call}
 use Rattle.assembler.specs.Slots.{Slot, Slots, within, impossible}
-use Rattle.assembler.specs.Step.{Event, not_listed, rejected, shortMessage, poolFull, opened, stray, broken, copied, completed, event_of, mark_of, message, said_of, outcome, step_if, step}
+use Rattle.assembler.specs.Step.{Event, not_listed, rejected, short_message, pool_full, opened, stray, broken, copied, completed, event_of, mark_of, message, said_of, outcome, step_if, step}
 use Rattle.assembler.specs.View.{slots_of, why_kind, reply_kind, shown, receive_of}
 use Rattle.assembler.specs.Promises.{rules_of, answer_to, ReceivesHeard, ProcessesHeard}
 use Rattle.assembler.proofs.Entries.{answer_steps, answer_refused}
@@ -41,8 +41,8 @@ module _ (f : Heard) (ss : List Slot) (k : Counters) where
   unfolding said_of message reply_kind why_kind mark_of raised expired_mark raised_by kind_number pick
   event_alike not_listed = record { unknown = refl; rejected = refl; exhausted = refl; lost = refl; expired = λ n. refl }
   event_alike rejected = record { unknown = refl; rejected = refl; exhausted = refl; lost = refl; expired = λ n. refl }
-  event_alike shortMessage = record { unknown = refl; rejected = refl; exhausted = refl; lost = refl; expired = λ n. refl }
-  event_alike poolFull = record { unknown = refl; rejected = refl; exhausted = refl; lost = refl; expired = λ n. refl }
+  event_alike short_message = record { unknown = refl; rejected = refl; exhausted = refl; lost = refl; expired = λ n. refl }
+  event_alike pool_full = record { unknown = refl; rejected = refl; exhausted = refl; lost = refl; expired = λ n. refl }
   event_alike (opened i true) = record { unknown = refl; rejected = refl; exhausted = refl; lost = refl; expired = λ n. absurd (n refl) }
   event_alike (opened i false) = record { unknown = refl; rejected = refl; exhausted = refl; lost = refl; expired = λ n. refl }
   event_alike stray = record { unknown = refl; rejected = refl; exhausted = refl; lost = refl; expired = λ n. refl }

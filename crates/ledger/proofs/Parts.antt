@@ -16,7 +16,7 @@ use Rattle.session.specs.Counting.{raised, expired_mark}
 use Rattle.assembler.specs.declared.Pool.{Pool}
 use Rattle.assembler.specs.Call.{Call}
 use Rattle.assembler.specs.Slots.{Slot, Slots, within, slot_at, impossible, opened_slot, reset_slot, copied_slot}
-use Rattle.assembler.specs.Step.{Event, not_listed, rejected, shortMessage, poolFull, opened, stray, broken, copied, completed, event_of, slots_after, mark_of, Said, unlisted, badFrame, no_slot, lost, ignored, consumed, message, said_of, Outcome, outcome, step_if, step}
+use Rattle.assembler.specs.Step.{Event, not_listed, rejected, short_message, pool_full, opened, stray, broken, copied, completed, event_of, slots_after, mark_of, Said, unlisted, bad_frame, no_slot, lost, ignored, consumed, message, said_of, Outcome, outcome, step_if, step}
 use Rattle.assembler.specs.View.{slots_of, shown, receive_of}
 use Rattle.ledger.specs.Assemblers.{Receive}
 
@@ -45,8 +45,8 @@ right = record { opening = opened_slot; copying = copied_slot; at_once = untouch
 unfoldable pub slots_by : Parts → Heard → List Slot → Event → List Slot
 slots_by q f ss not_listed = ss
 slots_by q f ss rejected = ss
-slots_by q f ss shortMessage = q.at_once ss
-slots_by q f ss poolFull = ss
+slots_by q f ss short_message = q.at_once ss
+slots_by q f ss pool_full = ss
 slots_by q f ss (opened i late) = set ss i (q.opening f (slot_at ss i))
 slots_by q f ss stray = ss
 slots_by q f ss (broken i) = set ss i (q.breaking (slot_at ss i))
@@ -56,8 +56,8 @@ slots_by q f ss (completed i) = set ss i (q.ending (q.copying f (slot_at ss i)))
 unfoldable pub mark_by : Parts → Event → Mark
 mark_by q not_listed = Unknown
 mark_by q rejected = Rejected
-mark_by q shortMessage = Nothing
-mark_by q poolFull = Exhausted
+mark_by q short_message = Nothing
+mark_by q pool_full = Exhausted
 mark_by q (opened i late) = expired_mark late
 mark_by q stray = q.straying
 mark_by q (broken i) = Lost
@@ -66,9 +66,9 @@ mark_by q (completed i) = Nothing
 
 unfoldable pub said_by : Parts → Heard → List Slot → Event → Said
 said_by q f ss not_listed = ignored unlisted
-said_by q f ss rejected = ignored badFrame
-said_by q f ss shortMessage = message (take (size_of f) (first_bytes f))
-said_by q f ss poolFull = ignored no_slot
+said_by q f ss rejected = ignored bad_frame
+said_by q f ss short_message = message (take (size_of f) (first_bytes f))
+said_by q f ss pool_full = ignored no_slot
 said_by q f ss (opened i late) = consumed
 said_by q f ss stray = ignored lost
 said_by q f ss (broken i) = ignored lost
@@ -96,8 +96,8 @@ outcome_right : (f : Heard) (e : Event) (p : Slots) (k : Counters) → outcome_b
 unfolding outcome_by outcome right slots_by slots_after mark_by mark_of said_by said_of whole_of untouched
 outcome_right f not_listed p k = refl
 outcome_right f rejected p k = refl
-outcome_right f shortMessage p k = refl
-outcome_right f poolFull p k = refl
+outcome_right f short_message p k = refl
+outcome_right f pool_full p k = refl
 outcome_right f (opened i late) p k = refl
 outcome_right f stray p k = refl
 outcome_right f (broken i) p k = refl

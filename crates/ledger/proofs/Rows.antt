@@ -25,7 +25,7 @@ use Rattle.assembler.specs.declared.Pool.{Pool}
 use Rattle.assembler.specs.declared.Received.{Received}
 use Rattle.assembler.specs.Call.{Call, CallOk}
 use Rattle.assembler.specs.Slots.{Slot, Slots, impossible}
-use Rattle.assembler.specs.Step.{Event, not_listed, rejected, shortMessage, poolFull, opened, stray, broken, copied, completed, Why, ignored, consumed, Reply, padded, message, said_of, outcome, step_if, step}
+use Rattle.assembler.specs.Step.{Event, not_listed, rejected, short_message, pool_full, opened, stray, broken, copied, completed, Why, ignored, consumed, Reply, padded, message, said_of, outcome, step_if, step}
 use Rattle.assembler.specs.View.{slots_of, zeros, reply_kind, reply_payload, reply_length, shown, receive_of}
 use Rattle.assembler.specs.Promises.{rules_of}
 use Rattle.batch.specs.declared.Batch.{Batch}
@@ -80,8 +80,8 @@ readable_said : (f : Heard) (ss : List Slot) (e : Event) → Readable (gives (sa
 unfolding said_of
 readable_said f ss not_listed = readable_ignored _
 readable_said f ss rejected = readable_ignored _
-readable_said f ss shortMessage = readable_message _
-readable_said f ss poolFull = readable_ignored _
+readable_said f ss short_message = readable_message _
+readable_said f ss pool_full = readable_ignored _
 readable_said f ss (opened i late) = readable_consumed
 readable_said f ss stray = readable_ignored _
 readable_said f ss (broken i) = readable_ignored _

@@ -17,7 +17,7 @@ use Rattle.assembler.specs.declared.Pool.{Pool}
 use Rattle.assembler.specs.declared.Received.{Received}
 use Rattle.assembler.specs.Call.{Call, listed}
 use Rattle.assembler.specs.Slots.{Slot, Slots, within, slot_at, impossible, chosen, live, copied_slot}
-use Rattle.assembler.specs.Step.{Event, not_listed, rejected, shortMessage, poolFull, opened, stray, broken, copied, completed, opens_at, slots_after, mark_of, Said, padded}
+use Rattle.assembler.specs.Step.{Event, not_listed, rejected, short_message, pool_full, opened, stray, broken, copied, completed, opens_at, slots_after, mark_of, Said, padded}
 use Rattle.assembler.specs.Step as now
 use Rattle.assembler.specs.View.{slots_of, pool_of, reply_of}
 
@@ -37,7 +37,7 @@ original_event R ss c =
     pick (listed c)
     (pick (eqb (index_of c.heard) 0)
     (pick (bad_size c.heard) rejected
-    (pick (leb (size_of c.heard) 6) shortMessage
+    (pick (leb (size_of c.heard) 6) short_message
     (opens_at R c.heard ss (chosen R c.heard ss))))
     (continued_at c.heard ss (live R c.heard ss)))
     not_listed
@@ -58,8 +58,8 @@ whole bytes = MessageComplete (padded bytes) (length bytes)
 unfoldable pub answer_of : Heard → List Slot → Event → Answered
 answer_of f ss not_listed = Ignored
 answer_of f ss rejected = Ignored
-answer_of f ss shortMessage = whole (take (size_of f) (first_bytes f))
-answer_of f ss poolFull = Ignored
+answer_of f ss short_message = whole (take (size_of f) (first_bytes f))
+answer_of f ss pool_full = Ignored
 answer_of f ss (opened i late) = FragmentConsumed
 answer_of f ss stray = Ignored
 answer_of f ss (broken i) = Ignored
