@@ -12,3 +12,4 @@ pub mod AtEight
 pub mod Unsent
 pub mod OneWalk
 pub mod OldKind
+pub mod MakingLaws

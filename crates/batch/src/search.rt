@@ -12,6 +12,7 @@ use session::{
 };
 
 // What the single call's walk sees. The batch asks it once, whether the pool is possible.
+#[tactic(auto, using(crate::proofs::Sought::none_looked_at))]
 pub(crate) fn walk(
     kind: PoolKind,
     mode: Mode,

@@ -7,15 +7,11 @@ use Rattle.assembler.proofs.Copies.{length_unmap}
 use Rattle.session.proofs.Walks.{Walk, crowded, walk_start, walk_turn, walk_done}
 use Rattle.batch.proofs.search.walk.Goals as goal
 
-pub returns-then-size-gt-POOL_LIMIT : goal.returns-then-size-gt-POOL_LIMIT
-returns-then-size-gt-POOL_LIMIT c = let a = c.args in
-    walk_done _ _ _ _ _ 0 (crowded c.if-size-gt-POOL_LIMIT.true c.nothing_found.ensures refl) (omega arith)
-
 pub loop-i-init : goal.loop-i-init
 unfolding pick
 loop-i-init c = let a = c.args in
     let long : length a.heads ≡ pool_limit = search (rules, length_unmap) in
-    let low : a.size ≤ pool_limit = c.if-size-gt-POOL_LIMIT.false in
+    let low : a.size ≤ pool_limit = omega arith in
     let small = le-ltb pool_limit a.size low in
     let walk : Walk (rules_by a.kind a.mode) a.heard a.size a.heads c.nothing_found-s.result a.size =
     walk_start (rules_by a.kind a.mode) a.heard a.size a.heads long _ _ (c.nothing_found-s.ensures ∙ ap nothing_found (sym small)) (rw small) in
