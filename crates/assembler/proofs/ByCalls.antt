@@ -1,21 +1,17 @@
 -- The pools that the calls make are possible, so refusal 1 never comes from one of them. Assumes nothing.
-use Prim.Native.Nat.{ℕ, zero, suc, ◌≤◌, ◌<◌, min}
+use Prim.Native.Nat.{ℕ, zero, suc, ◌≤◌}
 use mathlib.Core.Path.{◌≡◌, refl, sym, ap, subst, ◌∙◌}
 use mathlib.Core.Bool.{Bool, true, false}
-use mathlib.Core.Option.{none}
-use mathlib.Core.List.{List, [], ◌∷◌}
-use lib.ListN.{length, get_or, take, drop, replicate}
+use mathlib.Core.List.{List, []}
+use lib.ListN.{take, drop, replicate}
 use lib.Dec.{ltb}
 use native.Mathlib.Omega.{arith}
 use borrow.Author.Tests.{ltb-false, le-ltb}
 use Rattle.base.specs.Answer.{Answer, gives, refuses}
 use Rattle.base.specs.Pick.{pick}
-use Rattle.base.specs.Lists.{any, fill}
-use Rattle.base.proofs.Fills.{length_fill}
-use Rattle.fast_packet.specs.FastPacket.{filled_from}
+use Rattle.base.specs.Lists.{any}
 use Rattle.session.specs.declared.Counters.{Counters}
 use Rattle.session.specs.declared.Heard.{Heard}
-use Rattle.session.specs.declared.Head.{Head}
 use Rattle.session.specs.declared.Mode.{Mode}
 use Rattle.session.specs.declared.Mode.TheVariants.{AsOriginal}
 use Rattle.session.specs.declared.PoolKind.{PoolKind}
@@ -25,13 +21,11 @@ use Rattle.session.specs.Heads.{fresh_head, impossible_head}
 use Rattle.assembler.specs.declared.Pool.{Pool}
 use Rattle.assembler.specs.declared.Processed.{Processed}
 use Rattle.assembler.specs.declared.Received.{Received}
-use Rattle.assembler.specs.declared.ArrivalWithLength.{ArrivalWithLength}
 use Rattle.assembler.specs.Call.{CallOk, part_fits}
 use Rattle.assembler.specs.Slots.{within, on_head, impossible}
 use Rattle.assembler.specs.Step.{event_of, said_of, outcome, step_if, step}
 use Rattle.assembler.specs.Making.{pool_bytes, fresh_pool_in, fresh_pool, size_made, pool_made}
 use Rattle.assembler.specs.View.{slots_from, slots_of, pool_of, shown, reply_of, receive_of}
-use Rattle.assembler.specs.Arrivals.{heard_of, cut_to, heard_with_length}
 use Rattle.assembler.specs.Promises.{rules_of, answer_to}
 use Rattle.assembler.specs.Possible.{FrameOk, hears, refused, ByCalls, made, by_default, received, processed}
 use Rattle.assembler.proofs.Replies.{replied}

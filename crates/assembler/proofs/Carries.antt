@@ -1,16 +1,16 @@
 -- The plan, carried out on the pool, is the step. It holds for any rules whose limit is the code's. Assumes nothing.
-use Prim.Native.Nat.{ℕ, ◌+◌, ◌*◌, ◌-◌, ◌≤◌, ◌<◌, min}
+use Prim.Native.Nat.{ℕ, ◌+◌, ◌*◌, ◌≤◌, ◌<◌}
 use mathlib.Core.Path.{◌≡◌, refl, sym, ap, subst, ◌∙◌}
 use mathlib.Core.Bool.{Bool, true, false, ◌||◌}
 use mathlib.Core.Option.{Option, none, some}
-use mathlib.Core.List.{List, [], ◌++◌}
+use mathlib.Core.List.{List, []}
 use lib.ListN.{length, get_or, take, drop, set, replicate, length-drop}
 use lib.Seq.{paste, length-paste, length-take-le, set-get_or, get_or-take}
 use lib.Dec.{eqb, ltb, leb}
 use native.Mathlib.Omega.{arith}
 use native.Mathlib.Nat.{zero-add, add-zero}
 use borrow.Author.Tests.{ltb-false, leb-true}
-use Rattle.base.specs.Answer.{gives, refuses}
+use Rattle.base.specs.Answer.{refuses}
 use Rattle.base.specs.Pick.{pick}
 use Rattle.base.specs.Lists.{first_at, any}
 use Rattle.base.proofs.First.{first_passes}
@@ -20,25 +20,23 @@ use Rattle.session.specs.declared.Head.{Head}
 use Rattle.session.specs.declared.Found.{Found}
 use Rattle.session.specs.declared.Plan.{Plan}
 use Rattle.session.specs.declared.Counters.{Counters}
-use Rattle.session.specs.declared.Mark.{Mark}
 use Rattle.session.specs.declared.Kind.TheVariants.{ImpossiblePool}
 use Rattle.session.specs.declared.Mark.TheVariants.{Nothing}
 use Rattle.session.specs.Rules.{Rules, pool_limit}
 use Rattle.session.specs.Frames.{index_of, size_of, first_bytes, next_bytes, is_empty, bad_first}
 use Rattle.session.specs.Heads.{impossible_head, has_key, is_free, is_free_of_source, has_live_key, is_silent, is_expired, is_next, opened_head, reset_head, wanted, copied_head, all_there}
-use Rattle.session.specs.Counting.{raised, expired_mark}
+use Rattle.session.specs.Counting.{raised}
 use Rattle.session.specs.inner.Search.{nothing_found, seen, seen_if, found_in, first_of, place_of, within_limit}
 use Rattle.session.specs.inner.Plan.{is_late, idle, plan_open, plan_short, plan_sized, plan_first, plan_copy, plan_turn, plan_next, plan_index, plan_sent, plan_listed, plan_of}
 use Rattle.session.proofs.Seen.{found, place, spot, Inside, placed_found, placed_spot, inside_first, inside_or, first_of_lem, seen_bad, seen_key, seen_live, seen_own, seen_free}
 use Rattle.session.proofs.Sound.{Sound, sound, none_at, busy_live}
 use Rattle.assembler.specs.declared.Pool.{Pool}
 use Rattle.assembler.specs.declared.Received.{Received}
-use Rattle.assembler.specs.Call.{Call}
-use Rattle.assembler.specs.Slots.{Slot, Slots, fresh_slot, on_head, impossible, chosen, live, opened_slot, reset_slot, copied_slot}
-use Rattle.assembler.specs.Step.{Event, not_listed, rejected, short_message, pool_full, opened, stray, broken, copied, completed, opens_at, continues_at, event_of, slots_after, mark_of, Why, unlisted, bad_frame, no_slot, lost, ignored, padded, message, said_of, outcome, step_if, step}
+use Rattle.assembler.specs.Slots.{Slot, fresh_slot, on_head, impossible, chosen, live, opened_slot, reset_slot, copied_slot}
+use Rattle.assembler.specs.Step.{Event, not_listed, rejected, short_message, pool_full, stray, opens_at, continues_at, event_of, slots_after, mark_of, Why, unlisted, bad_frame, no_slot, lost, ignored, padded, message, said_of, outcome, step_if, step}
 use Rattle.assembler.proofs.Events.{first_short, first_sized, copy_at, turn_at, by_index, by_sent, by_list}
 use Rattle.assembler.specs.Making.{pool_bytes}
-use Rattle.assembler.specs.View.{slots_from, slots_of, pool_of, zeros, why_kind, reply_kind, reply_payload, reply_length, shown, receive_of}
+use Rattle.assembler.specs.View.{slots_from, slots_of, zeros, why_kind, reply_kind, reply_payload, reply_length, shown, receive_of}
 use Rattle.assembler.proofs.Copies.{copy_none, paste_over}
 use Rattle.assembler.proofs.Views.{Whole, slots_long, slot_at_lem, view_back, view_same, view_set, read_back, first_view, any_view}
 

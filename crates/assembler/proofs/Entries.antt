@@ -1,6 +1,6 @@
 -- What comes by an entry: a frame, or refusal 8 or 1; and a frame that comes by the entry of a pool's own kind has a part that its PGN allows. Assumes nothing.
 use Prim.Native.Nat.{ℕ, zero, suc, ◌+◌, ◌<◌, min}
-use mathlib.Core.Path.{◌≡◌, refl, sym, ap, subst, ◌∙◌}
+use mathlib.Core.Path.{◌≡◌, refl, sym, ap, ◌∙◌}
 use mathlib.Core.Bool.{Bool, true, false, not, ◌&&◌, true≢false}
 use mathlib.Core.List.{List, [], ◌∷◌}
 use lib.ListN.{length, get_or, take}
@@ -18,7 +18,7 @@ use Rattle.can_id.specs.Layout.{pgn_pf, reserved_of, data_page_of, pf_of, ps_of,
 use Rattle.can_id.specs.Read.{parts_of, read_of}
 use Rattle.session.specs.declared.Counters.{Counters}
 use Rattle.session.specs.declared.Heard.{Heard}
-use Rattle.session.specs.declared.Kind.TheVariants.{ImpossiblePool, TooWide}
+use Rattle.session.specs.declared.Kind.TheVariants.{ImpossiblePool}
 use Rattle.session.specs.declared.PoolKind.{PoolKind}
 use Rattle.session.specs.declared.PoolKind.TheVariants.{Original, Addressed}
 use Rattle.session.specs.Rules.{part_allowed, rules_by}
@@ -29,8 +29,7 @@ use Rattle.assembler.specs.declared.Pool.{Pool}
 use Rattle.assembler.specs.declared.Received.{Received}
 use Rattle.assembler.specs.inner.Forms.{refused_as}
 use Rattle.assembler.specs.Arrivals.{cut_to, part_of, heard_from, heard_by_id, all_cut_to, heard_by_id_with_length}
-use Rattle.assembler.specs.Step.{step}
-use Rattle.assembler.specs.View.{slots_of, zeros, reply_kind, reply_payload, reply_length, shown, reply_by, reply_of, receive_of}
+use Rattle.assembler.specs.View.{zeros, reply_kind, reply_payload, reply_length, shown, reply_by, reply_of, receive_of}
 use Rattle.assembler.specs.Promises.{rules_of, same_kind, entered, at_original, at_addressed, result_of, result_on, answer_to}
 use Rattle.assembler.specs.Possible.{FrameOk, hears, refused}
 use Rattle.assembler.proofs.Replies.{replied}

@@ -8,8 +8,8 @@ use lib.Dec.{eqb, ltb}
 use borrow.Author.Tests.{eqb-true, not-false}
 use Rattle.base.specs.Answer.{gives, refuses}
 use Rattle.base.specs.Pick.{pick}
-use Rattle.base.specs.Lists.{here, or_else, first_at, any}
-use Rattle.base.proofs.Bools.{or_left, or_right, and_left}
+use Rattle.base.specs.Lists.{first_at, any}
+use Rattle.base.proofs.Bools.{or_left, or_right}
 use Rattle.can_id.specs.Layout.{pgn_pf}
 use Rattle.session.specs.declared.Counters.{Counters}
 use Rattle.session.specs.declared.Head.{Head}
@@ -25,7 +25,7 @@ use Rattle.assembler.specs.declared.Pool.{Pool}
 use Rattle.assembler.specs.declared.Received.{Received}
 use Rattle.assembler.specs.Call.{Call, CallOk, part_fits}
 use Rattle.assembler.specs.Slots.{Slot, Slots, within, slot_at, on_head, impossible, chosen, live}
-use Rattle.assembler.specs.Step.{opens_at, event_of, outcome, step_if, step}
+use Rattle.assembler.specs.Step.{opens_at, event_of, step_if, step}
 use Rattle.assembler.specs.View.{slots_of, shown, receive_of}
 use Rattle.assembler.specs.Promises.{rules_of, same_kind, entered, at_original, answer_to, ReceivesHeard}
 use Rattle.assembler.specs.OldKind.{has_part, is_focused, any_head, OldKind}

@@ -26,7 +26,6 @@ use Rattle.assembler.specs.declared.Processed.{Processed}
 use Rattle.assembler.specs.declared.Received.{Received}
 use Rattle.assembler.specs.Making.{size_made, pool_made, of_made, MakesPoolOf}
 use Rattle.assembler.specs.Arrivals.{heard_from, heard_by_id, all_cut_to, heard_by_id_with_length}
-use Rattle.assembler.specs.Step.{Reply}
 use Rattle.assembler.specs.View.{why_kind, reply_kind, reply_payload, reply_length, reply_by, reply_of}
 use Rattle.assembler.specs.Promises.{entered, Result, Answers, answer_to, ReceivesHeard, ProcessesHeard, ReceivesById, ReceivesByIdWithLength}
 use Rattle.assembler.specs.inner.Forms.{processed_of, refused_as}

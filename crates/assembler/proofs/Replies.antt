@@ -13,7 +13,7 @@ use Rattle.session.specs.Rules.{Rules}
 use Rattle.assembler.specs.declared.Pool.{Pool}
 use Rattle.assembler.specs.Call.{Call}
 use Rattle.assembler.specs.Slots.{Slots, impossible}
-use Rattle.assembler.specs.Step.{Why, unlisted, bad_frame, no_slot, lost, Said, ignored, consumed, complete, outcome, step_if, step}
+use Rattle.assembler.specs.Step.{unlisted, bad_frame, no_slot, lost, Said, ignored, consumed, complete, outcome, step_if, step}
 use Rattle.assembler.specs.View.{slots_of, why_kind, reply_kind, reply_payload, reply_length, shown, reply_by, reply_of, receive_of}
 
 said_back : (s : Said) → reply_by (reply_kind (gives s)) (reply_payload (gives s)) (reply_length (gives s)) ≡ gives s

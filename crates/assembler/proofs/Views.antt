@@ -1,9 +1,9 @@
 -- The pool as slots and back: each slot is where the code looks for it, and a store within a slot is a store in the flat bytes. Assumes nothing.
-use Prim.Native.Nat.{ℕ, zero, suc, ◌+◌, ◌*◌, ◌-◌, ◌≤◌, ◌<◌}
-use mathlib.Core.Path.{◌≡◌, refl, sym, ap, subst, ◌∙◌}
-use mathlib.Core.Bool.{Bool, true, false, ◌||◌}
+use Prim.Native.Nat.{ℕ, zero, suc, ◌+◌, ◌*◌, ◌≤◌, ◌<◌}
+use mathlib.Core.Path.{◌≡◌, refl, sym, ap, ◌∙◌}
+use mathlib.Core.Bool.{Bool, ◌||◌}
 use mathlib.Core.List.{List, [], ◌∷◌, ◌++◌, map, append_assoc}
-use lib.ListN.{length, get_or, take, drop, set, take-append-drop, length-drop, length-take}
+use lib.ListN.{length, get_or, take, drop, set, take-append-drop, length-drop}
 use lib.Seq.{paste, length-paste, take-take, take-add, drop-drop, drop-append-le, take-append-le, drop_at, take_at, length-take-le, take-set-lt, drop-set-lt}
 use native.Mathlib.Omega.{arith}
 use Rattle.base.specs.Lists.{here, first_at, any}

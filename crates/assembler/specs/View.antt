@@ -13,9 +13,8 @@ use Rattle.session.specs.declared.PoolKind.{PoolKind}
 use Rattle.session.specs.Rules.{Rules}
 use Rattle.assembler.specs.declared.Pool.{Pool}
 use Rattle.assembler.specs.declared.Received.{Received}
-use Rattle.assembler.specs.Call.{Call}
 use Rattle.assembler.specs.Slots.{Slot, Slots}
-use Rattle.assembler.specs.Step.{Why, unlisted, bad_frame, no_slot, lost, Said, ignored, consumed, complete, Reply, Outcome, step}
+use Rattle.assembler.specs.Step.{Why, unlisted, bad_frame, no_slot, lost, ignored, consumed, complete, Reply, Outcome, step}
 
 -- ---- the pool as slots
 

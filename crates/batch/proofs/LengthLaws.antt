@@ -1,5 +1,5 @@
 -- The cases of the tests on lengths, as the code meets them. Assumes nothing.
-use Rattle.std.proofs.Common.{◌≡◌, ℕ, ◌+◌, ◌-◌, ◌*◌, ◌/◌, ◌<◌, ◌≤◌, Bool, true, ltb, sym, refl, ◌∙◌, arith, le-ltb, lt-ltb}
+use Rattle.std.proofs.Common.{◌≡◌, ℕ, ◌+◌, ◌-◌, ◌*◌, ◌/◌, ◌<◌, ◌≤◌, true, ltb, sym, ◌∙◌, arith, le-ltb, lt-ltb}
 use Rattle.base.proofs.Cases.{less?}
 use Rattle.batch.specs.Lengths.{too_short}
 use Rattle.batch.specs.inner.Room.{no_room}

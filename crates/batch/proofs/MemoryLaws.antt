@@ -1,8 +1,7 @@
 -- The two cases of the memory, as the code meets them and as a caller meets them. Assumes nothing.
-use Rattle.std.proofs.Common.{◌≡◌, ℕ, ◌%◌, Bool, false, List, get_or, set, refl, eq-eqb, ne_eqb}
+use Rattle.std.proofs.Common.{◌≡◌, ℕ, ◌%◌, Bool, List, get_or, eq-eqb, ne_eqb}
 use Rattle.base.specs.Pick.{pick}
-use Rattle.fast_packet.specs.FastPacket.{listed_in}
-use Rattle.batch.specs.inner.Looked.{Looked, recalled, learnt, looked_of}
+use Rattle.batch.specs.inner.Looked.{recalled, learnt, looked_of}
 
 module _ (list ps : List ℕ) (bs : List Bool) (pgn : ℕ) where
   pub looked_known : get_or ps (pgn % 64) 0 ≡ pgn → recalled ps bs (pgn % 64) ≡ looked_of list ps bs pgn

@@ -1,5 +1,5 @@
 -- What the walks over the rows come to is what one walk with three candidates chooses among the heads that they show, and the live head. Assumes nothing.
-use Rattle.std.proofs.Common.{◌≡◌, ℕ, ◌≤◌, List, length, get_or, take, ◌∙◌, arith, length-take-le}
+use Rattle.std.proofs.Common.{◌≡◌, ℕ, ◌≤◌, List, length, take, ◌∙◌, arith, length-take-le}
 use Rattle.base.specs.OneWalk.{never, one_walk}
 use Rattle.session.specs.declared.Head.{Head}
 use Rattle.session.specs.declared.Heard.{Heard}

@@ -1,6 +1,6 @@
 -- One frame, from what the code has found out about it: after each of its four ways the run has gone on by one, the pool is possible and the rows
 -- beside the heads show them. Assumes nothing.
-use Rattle.std.proofs.Common.{◌≡◌, ℕ, ◌+◌, ◌*◌, ◌<◌, ◌≤◌, Bool, true, false, ltb, List, length, get_or, drop, set, sym, refl, ap, arith}
+use Rattle.std.proofs.Common.{◌≡◌, ℕ, ◌+◌, ◌*◌, ◌<◌, ◌≤◌, Bool, true, false, ltb, List, length, get_or, drop, set, ap, arith}
 use lib.Seq.{paste}
 use Rattle.base.specs.Answer.{gives}
 use Rattle.fast_packet.specs.FastPacket.{listed_in}
@@ -21,7 +21,7 @@ use Rattle.assembler.specs.Call.{part_fits}
 use Rattle.assembler.specs.Slots.{impossible}
 use Rattle.assembler.specs.View.{slots_of, receive_of}
 use Rattle.assembler.proofs.Carries.{Fits, Does}
-use Rattle.batch.specs.Rows.{Rows, frame_in_rows, BatchLeft, leaves, run_of}
+use Rattle.batch.specs.Rows.{Rows, frame_in_rows, leaves, run_of}
 use Rattle.batch.specs.inner.Mirror.{InRange, Keyed, Shows, Mirrors, frame_key, sought}
 use Rattle.batch.specs.inner.Ways.{short_in, miss_kind, miss_mark, runs_on}
 use Rattle.batch.proofs.WayLaws.{run_plan}

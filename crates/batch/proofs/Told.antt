@@ -16,7 +16,7 @@ use Rattle.session.proofs.SearchLaws.{same_limit}
 use Rattle.assembler.specs.declared.Pool.{Pool}
 use Rattle.assembler.specs.declared.Received.{Received}
 use Rattle.assembler.specs.Slots.{impossible}
-use Rattle.assembler.specs.Step.{Why, unlisted, bad_frame, no_slot, lost, Said, ignored, consumed, complete, outcome, step_if, step}
+use Rattle.assembler.specs.Step.{unlisted, bad_frame, no_slot, lost, Said, ignored, consumed, complete, outcome, step_if, step}
 use Rattle.assembler.specs.View.{slots_of, why_kind, reply_kind, shown, receive_of}
 use Rattle.assembler.proofs.Views.{Whole}
 use Rattle.assembler.proofs.Carries.{carried, Does, receives, slot_long}

@@ -1,5 +1,5 @@
 -- The frame in each of the three cases, from what the calls gave. Assumes nothing.
-use Rattle.std.proofs.Common.{◌≡◌, ℕ, ◌+◌, ◌-◌, ◌%◌, min, Bool, true, false, List, length, refl, ◌∙◌, arith, eq-eqb, ne_eqb}
+use Rattle.std.proofs.Common.{◌≡◌, ℕ, ◌+◌, ◌-◌, ◌%◌, min, Bool, true, false, List, length, ◌∙◌, arith, eq-eqb, ne_eqb}
 use Rattle.base.specs.Pick.{pick}
 use Rattle.builder.specs.FrameBytes.{header_of, index_after}
 use Rattle.builder.specs.inner.Laid.{laid_of}

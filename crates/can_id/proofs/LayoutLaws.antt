@@ -1,11 +1,11 @@
 -- The PGN of an identifier on both sides of PF 240: reserved bit, data page, PF and PS stand side by side. Assumes nothing.
 use Prim.Native.Nat.{ℕ, ◌+◌, ◌*◌, ◌/◌, ◌%◌, ◌<◌, ◌≤◌}
-use mathlib.Core.Path.{◌≡◌, sym, ◌∙◌}
+use mathlib.Core.Path.{◌≡◌, ◌∙◌}
 use native.Mathlib.Nat.{div-add-mod', div-div-eq-div-mul}
 use native.Mathlib.Omega.{arith}
 use borrow.Author.Tests.{lt-ltb, le-ltb}
 use Rattle.base.specs.Pick.{pick}
-use Rattle.can_id.specs.Layout.{reserved_of, data_page_of, pf_of, ps_of, pgn_from, pgn_of}
+use Rattle.can_id.specs.Layout.{reserved_of, data_page_of, pf_of, ps_of, pgn_of}
 
 -- the quotient by `a` has the quotient by `a * b` above its last digit
 pub digit : (x a b : ℕ) → x / (a * b) * b + x / a % b ≡ x / a

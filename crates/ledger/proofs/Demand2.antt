@@ -6,7 +6,6 @@ use mathlib.Core.Path.{◌≡◌, refl, ap, ◌∙◌}
 use mathlib.Core.Bool.{Bool, true, false, not, ◌&&◌, ◌||◌, true≢false}
 use mathlib.Core.List.{List}
 use lib.Dec.{eqb, leb}
-use Rattle.base.specs.Answer.{gives, refuses}
 use Rattle.base.specs.Pick.{pick}
 use Rattle.base.proofs.Bools.{and_false}
 use Rattle.session.specs.declared.Counters.{Counters}

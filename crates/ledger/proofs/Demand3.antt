@@ -30,7 +30,7 @@ use Rattle.assembler.proofs.Promised.{received_by, processed_by}
 use Rattle.assembler.proofs.ByCalls.{same_rules}
 use Rattle.ledger.specs.Ledger.{ledger_of}
 use Rattle.ledger.specs.Demand3.{Closes}
-use Rattle.ledger.specs.Runs.{Empty, State, start, sources_of, seen_in, call, saying_of, calls_heard, said_to, after_call, after_entry, after_lent, Called, received, received_with_length, processed, processed_with_length, received_by_id, received_by_id_with_length, processed_by_id, processed_by_id_with_length, batched, Ran, stop, on}
+use Rattle.ledger.specs.Runs.{Empty, State, start, sources_of, seen_in, saying_of, calls_heard, said_to, after_call, after_entry, after_lent, Called, received, received_with_length, processed, processed_with_length, received_by_id, received_by_id_with_length, processed_by_id, processed_by_id_with_length, batched, Ran, stop, on}
 use Rattle.ledger.specs.Assemblers.{Demand3, AllOk, none, more, receives, seen_after, stepped}
 use Rattle.ledger.proofs.Run.{begun, follows, never_impossible, agreed}
 use Rattle.ledger.proofs.Admission.{admitted}

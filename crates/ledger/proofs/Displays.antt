@@ -21,8 +21,8 @@ use Rattle.assembler.specs.Arrivals.{heard_of, part_of, heard_from, heard_by_id}
 use Rattle.assembler.specs.Promises.{same_kind, entered, at_original, at_addressed, result_of, result_on, answer_to, rules_of}
 use Rattle.assembler.proofs.Entries.{frame, known_entered, known_by_id}
 use Rattle.assembler.proofs.Promised.{promised}
-use Rattle.ledger.specs.Ledger.{Saying, Ledger, briefly, ledger_of, did, Delivered, Opening, Restarting, Stray}
-use Rattle.ledger.specs.Runs.{State, start, sources_of, calls_heard, said_to, after_entry, Called, received, received_by_id, Ran, stop, on}
+use Rattle.ledger.specs.Ledger.{Saying, briefly, ledger_of, did, Delivered, Opening, Restarting, Stray}
+use Rattle.ledger.specs.Runs.{State, start, calls_heard, said_to, after_entry, Called, received, received_by_id, Ran, stop, on}
 use Rattle.ledger.proofs.EveryFate.{ran, told}
 
 abbrev list : List ℕ

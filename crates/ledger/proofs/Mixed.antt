@@ -4,7 +4,7 @@
 use mathlib.Core.List.{List, [], ◌∷◌, ◌++◌}
 use mathlib.Core.Path.{◌≡◌, refl, ◌∙◌}
 use Prim.Native.Nat.{ℕ, zero, suc, ◌<◌}
-use lib.ListN.{length, get_or, replicate}
+use lib.ListN.{get_or, replicate}
 use lib.Dec.{lit<}
 use Rattle.base.specs.Answer.{gives}
 use Rattle.base.specs.Lists.{fill}

@@ -4,7 +4,7 @@ use mathlib.Core.List.{List, [], ◌∷◌, ◌++◌, map}
 use mathlib.Core.Logic.{◌≢◌}
 use mathlib.Core.Option.{Option, none, some}
 use mathlib.Core.Path.{◌≡◌, refl, sym, ap, subst, ◌∙◌}
-use Prim.Native.Nat.{ℕ, ◌+◌, ◌-◌, ◌<◌}
+use Prim.Native.Nat.{ℕ, ◌-◌, ◌<◌}
 use lib.ListN.{length, get_or, take, drop, length-take, length-map, length-append, take-append-drop, get_or-append, get_or-map}
 use lib.Seq.{get_or-set_same, get_or-set_other, get_or-take}
 use lib.Dec.{eqb, leb}
@@ -26,7 +26,7 @@ use Rattle.session.specs.Heads.{fresh_head, has_key, is_silent, is_free, is_free
 use Rattle.session.specs.Counting.{expired_mark}
 use Rattle.assembler.specs.declared.Pool.{Pool}
 use Rattle.assembler.specs.Call.{Call, listed}
-use Rattle.assembler.specs.Slots.{Slot, fresh_slot, within, slot_at, on_head, impossible, chosen, live, opened_slot}
+use Rattle.assembler.specs.Slots.{Slot, fresh_slot, slot_at, on_head, impossible, chosen, live, opened_slot}
 use Rattle.assembler.specs.Step.{Event, opened, opens_at, continues_at, event_of, slots_after, mark_of, said_of, outcome, step_if, step}
 use Rattle.assembler.specs.View.{slots_from, slots_of, head_of, pool_of, reply_kind, reply_payload, reply_length, shown, receive_of}
 use Rattle.assembler.specs.Promises.{rules_of}

@@ -1,7 +1,7 @@
 -- Heads that fit their fields, laid over any numbers, are read back as they are, and so is their pool. Assumes nothing.
 use Prim.Native.Nat.{ℕ, zero, suc, ◌+◌, ◌*◌, ◌%◌, ◌<◌, ◌≤◌}
 use mathlib.Core.Bool.{Bool, true, false}
-use mathlib.Core.List.{List, [], ◌∷◌}
+use mathlib.Core.List.{List}
 use mathlib.Core.Path.{◌≡◌, refl, sym, ap, subst, ◌∙◌}
 use lib.ListN.{get_or, length, take}
 use lib.Seq.{sets, length-sets, take-suc, take_all}

@@ -1,10 +1,5 @@
 -- `fill_short` meets its contract: after k turns the first k bytes are those of the filled frame. Assumes nothing.
-use Prim.Native.Nat.{◌≤◌, ◌-◌, min}
-use mathlib.Core.Path.{◌≡◌}
 use borrow.Author.Rules.{rules}
-use lib.ListN.{length, take}
-use native.Mathlib.Omega.{arith}
-use Rattle.base.proofs.Fills.{pasted}
 use Rattle.fast_packet.proofs.Laws.{cutting}
 use Rattle.fast_packet.proofs.fill_short.Goals as goal
 

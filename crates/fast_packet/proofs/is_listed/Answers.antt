@@ -1,10 +1,6 @@
 -- `is_listed` meets its contract: hit says whether the PGN is among those passed. Assumes nothing.
 use borrow.Author.Rules.{rules}
-use Prim.Native.Nat.{◌≤◌, ◌-◌}
-use mathlib.Core.Path.{◌≡◌}
-use lib.ListN.{length, take}
 use native.Mathlib.Omega.{arith}
-use Rattle.fast_packet.specs.FastPacket.{listed_in}
 use Rattle.fast_packet.proofs.Laws.{listed_none, listed_turn, listed_done}
 use Rattle.fast_packet.proofs.is_listed.Goals as goal
 

@@ -1,10 +1,6 @@
 -- `lay_rows` meets its contract: after i turns what is left to lay is what was to be laid, less i frames. Assumes nothing.
-use Rattle.std.proofs.Common.{◌≡◌, ◌-◌, ◌≤◌, length, rules}
-use lib.Seq.{sets}
-use Rattle.splitter.specs.Frames.{count_in}
-use Rattle.splitter.specs.Split.{ids_of, bytes_all, lens_of}
-use Rattle.splitter.specs.inner.Job.{job_frames}
-use Rattle.splitter.proofs.SplitLaws.{ids_left, bytes_left, lens_left, bytes_turn, laying_frames}
+use Rattle.std.proofs.Common.{rules}
+use Rattle.splitter.proofs.SplitLaws.{bytes_turn, laying_frames}
 use Rattle.splitter.proofs.lay_rows.Goals as goal
 
 pub loop-i-init : goal.loop-i-init

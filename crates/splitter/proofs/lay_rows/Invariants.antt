@@ -1,10 +1,10 @@
 -- `lay_rows` meets its contract: after i turns what is left to lay is what was to be laid, less i frames. Assumes nothing.
-use Rattle.std.proofs.Common.{◌≡◌, ◌-◌, ◌≤◌, length, rules}
+use Rattle.std.proofs.Common.{◌≡◌, ◌-◌, ◌≤◌, length}
 use lib.Seq.{sets}
 use Rattle.splitter.specs.Frames.{count_in}
 use Rattle.splitter.specs.Split.{ids_of, bytes_all, lens_of}
 use Rattle.splitter.specs.inner.Job.{job_frames}
-use Rattle.splitter.proofs.SplitLaws.{ids_left, bytes_left, lens_left, bytes_turn, laying_frames}
+use Rattle.splitter.proofs.SplitLaws.{ids_left, bytes_left, lens_left}
 use Rattle.splitter.proofs.lay_rows.Given as goal
 
 abbrev pub invariant-loop-i : goal.invariant-loop-i

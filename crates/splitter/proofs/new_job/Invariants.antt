@@ -1,6 +1,5 @@
 -- `new_job` meets its contract: after i turns the first i bytes are the payload's. Assumes nothing.
-use Rattle.std.proofs.Common.{◌≡◌, ◌-◌, ◌≤◌, length, take, rules}
-use Rattle.splitter.proofs.SplitLaws.{copy_turn, copy_done}
+use Rattle.std.proofs.Common.{◌≡◌, ◌-◌, ◌≤◌, length, take}
 use Rattle.splitter.proofs.new_job.Given as goal
 
 abbrev pub invariant-loop-i : goal.invariant-loop-i

@@ -1,6 +1,5 @@
 -- `put_frame` meets its contract: after k turns the first k bytes are laid. Assumes nothing.
-use Rattle.std.proofs.Common.{◌≡◌, ◌+◌, ◌-◌, ◌≤◌, length, rules}
-use Rattle.base.proofs.Laying.{laid}
+use Rattle.std.proofs.Common.{rules}
 use Rattle.splitter.proofs.FrameLaws.{laying_frame}
 use Rattle.splitter.proofs.put_frame.Goals as goal
 

@@ -1,7 +1,6 @@
 -- `put_frame` meets its contract: after k turns the first k bytes are laid. Assumes nothing.
-use Rattle.std.proofs.Common.{◌≡◌, ◌+◌, ◌-◌, ◌≤◌, length, rules}
+use Rattle.std.proofs.Common.{◌≡◌, ◌+◌, ◌-◌, ◌≤◌, length}
 use Rattle.base.proofs.Laying.{laid}
-use Rattle.splitter.proofs.FrameLaws.{laying_frame}
 use Rattle.splitter.proofs.put_frame.Given as goal
 
 abbrev pub invariant-loop-k : goal.invariant-loop-k

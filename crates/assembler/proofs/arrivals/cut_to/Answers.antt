@@ -1,5 +1,4 @@
 -- `arrivals::cut_to` meets its contract: the parts are the definition's. Assumes nothing.
-use borrow.Author.Rules.{rules}
 use Rattle.assembler.specs.Arrivals.{cut_to}
 use Rattle.assembler.proofs.arrivals.cut_to.Goals as goal
 

@@ -1,5 +1,4 @@
 -- `arrivals::heard_with_length` meets its contract: a frame cut to its length. Assumes nothing.
-use borrow.Author.Rules.{rules}
 use Rattle.assembler.specs.Arrivals.{heard_with_length}
 use Rattle.assembler.proofs.arrivals.heard_with_length.Goals as goal
 

@@ -1,11 +1,7 @@
 -- `bytes::deliver` meets its contract: after i turns the payload starts with i bytes of the slot. Assumes nothing.
 use borrow.Author.Rules.{rules}
-use Prim.Native.Nat.{◌≤◌, ◌-◌}
-use mathlib.Core.Path.{◌≡◌, refl, ◌∙◌}
-use lib.ListN.{length, drop, length-set}
-use lib.Seq.{paste}
+use mathlib.Core.Path.{◌≡◌, refl}
 use native.Mathlib.Omega.{arith}
-use Rattle.assembler.specs.Making.{pool_bytes}
 use Rattle.assembler.proofs.Copies.{front_turn}
 use Rattle.assembler.proofs.bytes.deliver.Goals as goal
 

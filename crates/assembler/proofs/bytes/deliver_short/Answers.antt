@@ -1,9 +1,6 @@
 -- `bytes::deliver_short` meets its contract: after i turns the payload starts with i bytes of the frame. Assumes nothing.
 use borrow.Author.Rules.{rules}
-use Prim.Native.Nat.{◌≤◌, ◌-◌}
-use mathlib.Core.Path.{◌≡◌, refl, ◌∙◌}
-use lib.ListN.{length, drop, length-set}
-use lib.Seq.{paste}
+use mathlib.Core.Path.{◌≡◌, refl}
 use native.Mathlib.Omega.{arith}
 use Rattle.assembler.proofs.Copies.{front_turn}
 use Rattle.assembler.proofs.bytes.deliver_short.Goals as goal

@@ -1,11 +1,8 @@
 -- `bytes::deliver_short` meets its contract: after i turns the payload starts with i bytes of the frame. Assumes nothing.
-use borrow.Author.Rules.{rules}
 use Prim.Native.Nat.{◌≤◌, ◌-◌}
-use mathlib.Core.Path.{◌≡◌, refl, ◌∙◌}
-use lib.ListN.{length, drop, length-set}
+use mathlib.Core.Path.{◌≡◌}
+use lib.ListN.{length, drop}
 use lib.Seq.{paste}
-use native.Mathlib.Omega.{arith}
-use Rattle.assembler.proofs.Copies.{front_turn}
 use Rattle.assembler.proofs.bytes.deliver_short.Given as goal
 
 abbrev pub invariant-loop-i : goal.invariant-loop-i

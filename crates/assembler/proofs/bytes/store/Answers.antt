@@ -1,11 +1,7 @@
 -- `bytes::store` meets its contract: after i turns the bytes are a copy of i of the frame's. Assumes nothing.
 use borrow.Author.Rules.{rules}
-use Prim.Native.Nat.{◌≤◌, ◌-◌}
-use mathlib.Core.Path.{◌≡◌, refl, ◌∙◌}
-use lib.ListN.{length, drop, length-set}
-use lib.Seq.{paste}
+use mathlib.Core.Path.{◌≡◌}
 use native.Mathlib.Omega.{arith}
-use Rattle.assembler.specs.Making.{pool_bytes}
 use Rattle.assembler.proofs.Copies.{copy_none, copy_turn}
 use Rattle.assembler.proofs.bytes.store.Goals as goal
 

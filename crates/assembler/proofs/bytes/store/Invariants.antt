@@ -1,12 +1,9 @@
 -- `bytes::store` meets its contract: after i turns the bytes are a copy of i of the frame's. Assumes nothing.
-use borrow.Author.Rules.{rules}
 use Prim.Native.Nat.{◌≤◌, ◌-◌}
-use mathlib.Core.Path.{◌≡◌, refl, ◌∙◌}
-use lib.ListN.{length, drop, length-set}
+use mathlib.Core.Path.{◌≡◌}
+use lib.ListN.{length, drop}
 use lib.Seq.{paste}
-use native.Mathlib.Omega.{arith}
 use Rattle.assembler.specs.Making.{pool_bytes}
-use Rattle.assembler.proofs.Copies.{copy_none, copy_turn}
 use Rattle.assembler.proofs.bytes.store.Given as goal
 
 abbrev pub invariant-loop-i : goal.invariant-loop-i

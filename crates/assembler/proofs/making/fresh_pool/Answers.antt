@@ -1,5 +1,4 @@
 -- `fresh_pool` meets its contract. Assumes nothing.
-use borrow.Author.Rules.{rules}
 use Rattle.assembler.specs.Making.{fresh_pool_in}
 use Rattle.assembler.proofs.making.fresh_pool.Goals as goal
 

@@ -1,5 +1,4 @@
 -- `receiving::receive` meets its contract: the frame is turned into what the steps hear, and the call promises what its equation says. Assumes nothing.
-use borrow.Author.Rules.{rules}
 use mathlib.Core.Path.{ap}
 use Rattle.base.specs.Answer.{gives}
 use Rattle.assembler.proofs.Entries.{frame}

@@ -1,10 +1,8 @@
 -- `receiving::receive_heard` meets its contract: the walk sees what the searches find, and the last lines carry out the plan, which is the step. Assumes nothing.
 use borrow.Author.Rules.{rules}
-use Prim.Native.Nat.{◌≤◌}
-use mathlib.Core.Path.{◌≡◌, refl}
-use lib.ListN.{length}
+use mathlib.Core.Path.{refl}
 use native.Mathlib.Omega.{arith}
-use Rattle.session.specs.Rules.{rules_by, pool_limit}
+use Rattle.session.specs.Rules.{rules_by}
 use Rattle.assembler.specs.Promises.{rules_of}
 use Rattle.assembler.proofs.Copies.{length_unmap}
 use Rattle.assembler.proofs.Views.{Whole}

@@ -1,5 +1,4 @@
 -- `batching::is_other` meets its contract: a case for each kind. Assumes nothing.
-use Rattle.std.proofs.Common.{rules}
 use Rattle.assembler.specs.Promises.{same_kind}
 use Rattle.batch.proofs.batching.is_other.Goals as goal
 

@@ -1,5 +1,4 @@
 -- `batching::is_refused` meets its contract. Assumes nothing.
-use Rattle.std.proofs.Common.{refl, rules}
 use Rattle.batch.specs.inner.Ways.{is_refused}
 use Rattle.batch.proofs.batching.is_refused.Goals as goal
 

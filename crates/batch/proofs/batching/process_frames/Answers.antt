@@ -1,10 +1,9 @@
 -- `batching::process_frames` meets its contract: after i frames the code's state is the run's, and each frame more is a step of it. Assumes nothing.
-use Rattle.std.proofs.Common.{◌-◌, length, sym, refl, ◌∙◌, arith, rules}
+use Rattle.std.proofs.Common.{sym, refl, ◌∙◌, arith, rules}
 use Rattle.session.specs.Rules.{rules_by}
 use Rattle.session.proofs.SearchLaws.{same_limit}
 use Rattle.assembler.proofs.Copies.{length_unmap}
 use Rattle.assembler.proofs.Views.{Whole}
-use Rattle.batch.specs.inner.Memory.{Remembers}
 use Rattle.batch.specs.inner.Ways.{blank_heard}
 use Rattle.batch.proofs.RowLaws.{has_room, head_place, number_place, nearer, still_long}
 use Rattle.batch.proofs.WayLaws.{run_missing}
@@ -12,7 +11,7 @@ use Rattle.batch.proofs.Mirrors.{remembers_none, looked_right}
 use Rattle.batch.proofs.Runs.{begins, ends, gives_refused, gives_run, possible, own_kind, fits_all}
 use Rattle.batch.proofs.Promised.{batched, batch_refused}
 use Rattle.batch.proofs.Sought.{small_of}
-use Rattle.batch.proofs.Steps.{Stands, step_missed, stop_short, step_short, runs_fit, step_running, plan_fits, stop_by, step_by}
+use Rattle.batch.proofs.Steps.{step_missed, stop_short, step_short, runs_fit, step_running, plan_fits, stop_by, step_by}
 use Rattle.batch.proofs.batching.process_frames.Goals as goal
 
 pub returns-then-is_refused : goal.returns-then-is_refused

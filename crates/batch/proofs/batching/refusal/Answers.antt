@@ -1,5 +1,5 @@
 -- `batching::refusal` meets its contract: the pool is looked at before the rows. Assumes nothing.
-use Rattle.std.proofs.Common.{◌≡◌, ℕ, Bool, ◌||◌, List, rules}
+use Rattle.std.proofs.Common.{◌≡◌, ℕ, Bool, ◌||◌, List}
 use Rattle.session.specs.declared.Found.{Found}
 use Rattle.session.specs.declared.Head.{Head}
 use Rattle.session.specs.declared.Heard.{Heard}

@@ -1,5 +1,5 @@
 -- `bytes::carry` meets its contract: the copies one after the other. Assumes nothing.
-use Rattle.std.proofs.Common.{◌≡◌, ◌+◌, ◌*◌, length, drop, refl, ap, ◌∙◌, arith, length-drop, rules}
+use Rattle.std.proofs.Common.{◌≡◌, ◌+◌, ◌*◌, length, drop, ap, ◌∙◌, arith, length-drop, rules}
 use lib.Seq.{length-paste}
 use Rattle.batch.proofs.bytes.carry.Goals as goal
 

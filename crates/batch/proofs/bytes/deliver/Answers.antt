@@ -1,7 +1,5 @@
 -- `bytes::deliver` meets its contract. Assumes nothing.
-use Rattle.std.proofs.Common.{◌≡◌, ◌-◌, ◌≤◌, length, drop, refl, arith, length-set, rules}
-use lib.Seq.{paste}
-use Rattle.assembler.specs.Making.{pool_bytes}
+use Rattle.std.proofs.Common.{◌≡◌, refl, arith, length-set, rules}
 use Rattle.assembler.proofs.Copies.{copy_none, copy_turn}
 use Rattle.batch.proofs.bytes.deliver.Goals as goal
 

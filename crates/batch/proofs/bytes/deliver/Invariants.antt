@@ -1,8 +1,7 @@
 -- `bytes::deliver` meets its contract. Assumes nothing.
-use Rattle.std.proofs.Common.{◌≡◌, ◌-◌, ◌≤◌, length, drop, refl, arith, length-set, rules}
+use Rattle.std.proofs.Common.{◌≡◌, ◌-◌, ◌≤◌, length, drop}
 use lib.Seq.{paste}
 use Rattle.assembler.specs.Making.{pool_bytes}
-use Rattle.assembler.proofs.Copies.{copy_none, copy_turn}
 use Rattle.batch.proofs.bytes.deliver.Given as goal
 
 abbrev pub invariant-loop-i : goal.invariant-loop-i

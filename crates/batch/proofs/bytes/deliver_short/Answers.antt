@@ -1,6 +1,5 @@
 -- `bytes::deliver_short` meets its contract. Assumes nothing.
-use Rattle.std.proofs.Common.{◌≡◌, ◌-◌, ◌≤◌, length, drop, refl, arith, length-set, rules}
-use lib.Seq.{paste}
+use Rattle.std.proofs.Common.{◌≡◌, refl, arith, length-set, rules}
 use Rattle.assembler.proofs.Copies.{copy_none, copy_turn}
 use Rattle.batch.proofs.bytes.deliver_short.Goals as goal
 

@@ -1,7 +1,6 @@
 -- `bytes::deliver_short` meets its contract. Assumes nothing.
-use Rattle.std.proofs.Common.{◌≡◌, ◌-◌, ◌≤◌, length, drop, refl, arith, length-set, rules}
+use Rattle.std.proofs.Common.{◌≡◌, ◌-◌, ◌≤◌, length, drop}
 use lib.Seq.{paste}
-use Rattle.assembler.proofs.Copies.{copy_none, copy_turn}
 use Rattle.batch.proofs.bytes.deliver_short.Given as goal
 
 abbrev pub invariant-loop-i : goal.invariant-loop-i

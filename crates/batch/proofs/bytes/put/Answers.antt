@@ -1,7 +1,5 @@
 -- `bytes::put` meets its contract: after i turns the bytes are a copy of i of the frame's. Assumes nothing.
-use Rattle.std.proofs.Common.{◌≡◌, ◌-◌, ◌≤◌, length, drop, refl, arith, rules}
-use lib.Seq.{paste}
-use Rattle.assembler.specs.Making.{pool_bytes}
+use Rattle.std.proofs.Common.{◌≡◌, arith, rules}
 use Rattle.assembler.proofs.Copies.{copy_none, copy_turn}
 use Rattle.batch.proofs.bytes.put.Goals as goal
 

@@ -1,8 +1,7 @@
 -- `bytes::put` meets its contract: after i turns the bytes are a copy of i of the frame's. Assumes nothing.
-use Rattle.std.proofs.Common.{◌≡◌, ◌-◌, ◌≤◌, length, drop, refl, arith, rules}
+use Rattle.std.proofs.Common.{◌≡◌, ◌-◌, ◌≤◌, length, drop}
 use lib.Seq.{paste}
 use Rattle.assembler.specs.Making.{pool_bytes}
-use Rattle.assembler.proofs.Copies.{copy_none, copy_turn}
 use Rattle.batch.proofs.bytes.put.Given as goal
 
 abbrev pub invariant-loop-i : goal.invariant-loop-i

@@ -1,5 +1,5 @@
 -- `bytes::store` meets its contract. Assumes nothing.
-use Rattle.std.proofs.Common.{◌∙◌, rules}
+use Rattle.std.proofs.Common.{◌∙◌}
 use Rattle.batch.proofs.bytes.store.Goals as goal
 
 pub returns-then-from-eq-NEXT_DATA : goal.returns-then-from-eq-NEXT_DATA

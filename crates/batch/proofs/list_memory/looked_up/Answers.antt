@@ -1,6 +1,5 @@
 -- `looked_up` meets its contract: what stands in the PGN's place, or what the list says, put there. Assumes nothing.
-use Rattle.std.proofs.Common.{◌≡◌, ◌%◌, refl, ◌∙◌, rules}
-use Rattle.batch.specs.inner.Looked.{Looked, recalled, learnt}
+use Rattle.batch.specs.inner.Looked.{recalled, learnt}
 use Rattle.batch.proofs.MemoryLaws.{looked_known, looked_new}
 use Rattle.batch.proofs.list_memory.looked_up.Goals as goal
 

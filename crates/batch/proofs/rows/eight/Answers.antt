@@ -1,6 +1,5 @@
 -- `rows::eight` meets its contract. Assumes nothing.
-use Rattle.std.proofs.Common.{◌≡◌, ◌-◌, ◌≤◌, drop, replicate, refl, append-nil, arith, rules}
-use lib.Seq.{paste}
+use Rattle.std.proofs.Common.{◌≡◌, replicate, refl, append-nil, arith, rules}
 use Rattle.assembler.proofs.Copies.{front_turn}
 use Rattle.batch.proofs.rows.eight.Goals as goal
 

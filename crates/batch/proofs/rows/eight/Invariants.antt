@@ -1,7 +1,6 @@
 -- `rows::eight` meets its contract. Assumes nothing.
-use Rattle.std.proofs.Common.{◌≡◌, ◌-◌, ◌≤◌, drop, replicate, refl, append-nil, arith, rules}
+use Rattle.std.proofs.Common.{◌≡◌, ◌-◌, ◌≤◌, drop, replicate}
 use lib.Seq.{paste}
-use Rattle.assembler.proofs.Copies.{front_turn}
 use Rattle.batch.proofs.rows.eight.Given as goal
 
 abbrev pub invariant-loop-i : goal.invariant-loop-i

@@ -1,5 +1,4 @@
 -- `rows::frame_at` meets its contract. Assumes nothing.
-use Rattle.std.proofs.Common.{◌≡◌, refl, rules}
 use Rattle.batch.specs.Rows.{frame_in_rows}
 use Rattle.batch.proofs.rows.frame_at.Goals as goal
 

@@ -1,5 +1,4 @@
 -- `rows::number_of` meets its contract. Assumes nothing.
-use Rattle.std.proofs.Common.{refl, rules}
 use Rattle.session.specs.Kinds.{kind_number}
 use Rattle.batch.proofs.rows.number_of.Goals as goal
 

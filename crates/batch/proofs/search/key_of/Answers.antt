@@ -1,5 +1,4 @@
 -- `search::key_of` meets its contract. Assumes nothing.
-use Rattle.std.proofs.Common.{rules}
 use Rattle.batch.proofs.SearchLaws.{key_busy, key_idle}
 use Rattle.batch.proofs.search.key_of.Goals as goal
 

@@ -1,5 +1,5 @@
 -- `search::key_of_frame` meets its contract. Assumes nothing.
-use Rattle.std.proofs.Common.{refl, ◌∙◌, rules}
+use Rattle.std.proofs.Common.{◌∙◌}
 use Rattle.session.specs.Frames.{sequence_of}
 use Rattle.batch.specs.inner.Mirror.{frame_key}
 use Rattle.batch.proofs.search.key_of_frame.Goals as goal

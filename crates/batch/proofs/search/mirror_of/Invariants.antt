@@ -1,9 +1,7 @@
 -- `search::mirror_of` meets its contract: after i turns the rows show i heads. Assumes nothing.
-use Rattle.std.proofs.Common.{◌≡◌, ◌-◌, ◌≤◌, length, refl, arith, rules}
+use Rattle.std.proofs.Common.{◌≡◌, ◌-◌, ◌≤◌, length}
 use Rattle.session.specs.Rules.{pool_limit}
-use Rattle.assembler.proofs.Copies.{length_unmap}
 use Rattle.batch.specs.inner.Mirror.{Mirrors}
-use Rattle.batch.proofs.Mirrors.{mirrors_none, mirrors_turn}
 use Rattle.batch.proofs.search.mirror_of.Given as goal
 
 abbrev pub invariant-loop-i : goal.invariant-loop-i

@@ -1,5 +1,5 @@
 -- `search::pack` meets its contract: the part is capped, so that the sum fits. Assumes nothing.
-use Rattle.std.proofs.Common.{arith, rules}
+use Rattle.std.proofs.Common.{rules}
 use Rattle.batch.specs.inner.Mirror.{packed}
 use Rattle.batch.proofs.search.pack.Statement.{statement}
 use Rattle.batch.proofs.search.pack.Tie as tie

@@ -1,10 +1,10 @@
 -- `search::walk` meets its contract: what is seen from place i on. Assumes nothing.
-use Rattle.std.proofs.Common.{◌≡◌, ◌≤◌, length, sym, refl, ap, ◌∙◌, arith, rules, le-ltb}
+use Rattle.std.proofs.Common.{◌≡◌, ◌≤◌, length, sym, ap, ◌∙◌, arith, rules, le-ltb}
 use Rattle.base.specs.Pick.{pick}
 use Rattle.session.specs.Rules.{rules_by, pool_limit}
 use Rattle.session.specs.inner.Search.{nothing_found}
 use Rattle.assembler.proofs.Copies.{length_unmap}
-use Rattle.session.proofs.Walks.{Walk, crowded, walk_start, walk_turn, walk_done}
+use Rattle.session.proofs.Walks.{Walk, walk_start, walk_turn, walk_done}
 use Rattle.batch.proofs.search.walk.Goals as goal
 
 pub loop-i-init : goal.loop-i-init

@@ -1,10 +1,8 @@
 -- `walks::first_live` meets its contract: no place up to i is live with the key. Assumes nothing.
 use mathlib.Core.Bool.{not}
 use mathlib.Core.Path.{ap}
-use Rattle.std.proofs.Common.{◌≡◌, ◌-◌, ◌≤◌, length, arith, rules}
-use Rattle.session.specs.Rules.{pool_limit}
-use Rattle.batch.specs.inner.Mirror.{live_at, live_in}
-use Rattle.batch.specs.inner.Walks.{Past}
+use Rattle.std.proofs.Common.{arith}
+use Rattle.batch.specs.inner.Mirror.{live_in}
 use Rattle.batch.proofs.WalkLaws.{live_other, live_here, live_gone, past_none, past_turn, all_found, all_missed}
 use Rattle.batch.proofs.walks.first_live.Goals as goal
 

@@ -1,9 +1,8 @@
 -- `walks::first_stop` meets its contract: no place up to s has the key or is open. Assumes nothing.
-use Rattle.std.proofs.Common.{◌≡◌, ◌-◌, ◌≤◌, length, sym, refl, ◌∙◌, arith, rules}
+use Rattle.std.proofs.Common.{◌≡◌, ◌-◌, ◌≤◌, length}
 use Rattle.session.specs.Rules.{pool_limit}
 use Rattle.batch.specs.inner.Mirror.{key_at, open_at}
-use Rattle.batch.specs.inner.Walks.{Past, keyed, other}
-use Rattle.batch.proofs.WalkLaws.{key_here, key_gone, past_none, past_turn, past_all}
+use Rattle.batch.specs.inner.Walks.{Past}
 use Rattle.batch.proofs.walks.first_stop.Given as goal
 
 abbrev pub invariant-loop-s : goal.invariant-loop-s

@@ -1,5 +1,5 @@
 -- `walks::heard_within` meets its contract: each arm is its mode's case. Assumes nothing.
-use Rattle.std.proofs.Common.{arith, rules}
+use Rattle.std.proofs.Common.{arith}
 use Rattle.batch.specs.inner.Walks.{heard_within}
 use Rattle.batch.proofs.walks.heard_within.Goals as goal
 

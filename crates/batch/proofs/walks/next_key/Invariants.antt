@@ -1,9 +1,8 @@
 -- `walks::next_key` meets its contract: no place up to s has the key. Assumes nothing.
-use Rattle.std.proofs.Common.{◌≡◌, ◌-◌, ◌≤◌, length, arith, rules}
+use Rattle.std.proofs.Common.{◌≡◌, ◌-◌, ◌≤◌, length}
 use Rattle.session.specs.Rules.{pool_limit}
 use Rattle.batch.specs.inner.Mirror.{key_at}
 use Rattle.batch.specs.inner.Walks.{Past}
-use Rattle.batch.proofs.WalkLaws.{key_here, key_gone, past_turn, first_found, first_missed}
 use Rattle.batch.proofs.walks.next_key.Given as goal
 
 abbrev pub invariant-loop-s : goal.invariant-loop-s

@@ -1,9 +1,8 @@
 -- `walks::own_stop` meets its contract: no place up to s has the key, and none before it is open and of the source. Assumes nothing.
-use Rattle.std.proofs.Common.{◌≡◌, ◌+◌, ◌-◌, ◌<◌, ◌≤◌, length, sym, refl, ◌∙◌, arith, rules}
+use Rattle.std.proofs.Common.{◌≡◌, ◌+◌, ◌-◌, ◌<◌, ◌≤◌, length}
 use Rattle.session.specs.Rules.{pool_limit}
-use Rattle.batch.specs.inner.Mirror.{key_at, open_at, own_at}
-use Rattle.batch.specs.inner.Walks.{Past, keyed, other}
-use Rattle.batch.proofs.WalkLaws.{key_here, key_gone, own_fails, past_none, past_turn, past_join, past_leap, past_all}
+use Rattle.batch.specs.inner.Mirror.{key_at, own_at}
+use Rattle.batch.specs.inner.Walks.{Past}
 use Rattle.batch.proofs.walks.own_stop.Given as goal
 
 abbrev pub invariant-loop-mode : goal.invariant-loop-mode

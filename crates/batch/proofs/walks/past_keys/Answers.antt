@@ -1,8 +1,5 @@
 -- `walks::past_keys` meets its contract: no place up to s has the key. Assumes nothing.
-use Rattle.std.proofs.Common.{◌≡◌, ◌-◌, ◌≤◌, length, sym, ◌∙◌, arith, rules}
-use Rattle.session.specs.Rules.{pool_limit}
-use Rattle.batch.specs.inner.Mirror.{key_at}
-use Rattle.batch.specs.inner.Walks.{Past}
+use Rattle.std.proofs.Common.{sym, ◌∙◌, arith}
 use Rattle.batch.proofs.WalkLaws.{past_none, past_four}
 use Rattle.batch.proofs.walks.past_keys.Goals as goal
 

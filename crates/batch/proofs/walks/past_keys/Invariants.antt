@@ -1,9 +1,8 @@
 -- `walks::past_keys` meets its contract: no place up to s has the key. Assumes nothing.
-use Rattle.std.proofs.Common.{◌≡◌, ◌-◌, ◌≤◌, length, sym, ◌∙◌, arith, rules}
+use Rattle.std.proofs.Common.{◌≡◌, ◌-◌, ◌≤◌, length}
 use Rattle.session.specs.Rules.{pool_limit}
 use Rattle.batch.specs.inner.Mirror.{key_at}
 use Rattle.batch.specs.inner.Walks.{Past}
-use Rattle.batch.proofs.WalkLaws.{past_none, past_four}
 use Rattle.batch.proofs.walks.past_keys.Given as goal
 
 abbrev pub invariant-loop-s : goal.invariant-loop-s

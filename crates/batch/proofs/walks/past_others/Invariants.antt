@@ -1,10 +1,8 @@
 -- `walks::past_others` meets its contract: no place up to s has the key or is of the source. Assumes nothing.
-use Rattle.std.proofs.Common.{◌≡◌, ◌-◌, ◌≤◌, length, sym, ◌∙◌, arith, rules}
-use Rattle.base.proofs.Bools.{or_left, or_right}
+use Rattle.std.proofs.Common.{◌≡◌, ◌-◌, ◌≤◌, length}
 use Rattle.session.specs.Rules.{pool_limit}
 use Rattle.batch.specs.inner.Mirror.{key_at}
 use Rattle.batch.specs.inner.Walks.{owner_at, Past}
-use Rattle.batch.proofs.WalkLaws.{past_none, past_four}
 use Rattle.batch.proofs.walks.past_others.Given as goal
 
 abbrev pub invariant-loop-s : goal.invariant-loop-s

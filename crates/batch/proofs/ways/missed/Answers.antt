@@ -1,7 +1,6 @@
 -- `ways::missed` meets its contract: the facts on each way out are those of the law of that case. Assumes nothing.
 use mathlib.Core.Bool.{not}
 use mathlib.Core.Path.{ap}
-use Rattle.std.proofs.Common.{rules}
 use Rattle.batch.proofs.WayLaws.{miss_unlisted, miss_next, miss_none, miss_over, miss_full}
 use Rattle.batch.proofs.ways.missed.Goals as goal
 

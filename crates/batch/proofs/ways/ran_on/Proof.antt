@@ -1,5 +1,5 @@
 -- `ways::ran_on` meets its contract: seven bytes are the lesser of seven and what is missing. Assumes nothing.
-use Rattle.std.proofs.Common.{◌≡◌, ◌-◌, min, refl, arith, rules}
+use Rattle.std.proofs.Common.{◌≡◌, ◌-◌, min, arith, rules}
 use Rattle.session.specs.Frames.{index_of}
 use Rattle.session.specs.Heads.{wanted, copied_head}
 use Rattle.batch.proofs.ways.ran_on.Statement.{statement}

@@ -1,7 +1,6 @@
 -- `ways::short_in` meets its contract: each way out is a case of the definition. Assumes nothing.
 use mathlib.Core.Bool.{not}
 use mathlib.Core.Path.{ap}
-use Rattle.std.proofs.Common.{rules}
 use Rattle.batch.proofs.WayLaws.{short_unlisted, short_next, short_here, short_over}
 use Rattle.batch.proofs.ways.short_in.Goals as goal
 

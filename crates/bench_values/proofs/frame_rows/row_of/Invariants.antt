@@ -1,6 +1,5 @@
 -- `frame_rows::row_of` is safe and ends. Assumes nothing.
 use Prim.Native.Nat.{◌-◌}
-use borrow.Author.Rules.{rules}
 use Rattle.bench_values.proofs.frame_rows.row_of.Given as goal
 
 abbrev pub invariant-loop-i : goal.invariant-loop-i

@@ -1,5 +1,4 @@
 -- `FastPacketBuilder::framed` meets its contract: each way out has a law of its own. Assumes nothing.
-use Rattle.std.proofs.Common.{rules}
 use Rattle.builder.proofs.NextLaws.{framed_refused, framed_sent}
 use Rattle.builder.proofs.FastPacketBuilder.framed.Goals as goal
 

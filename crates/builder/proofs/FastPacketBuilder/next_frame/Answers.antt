@@ -1,5 +1,4 @@
 -- `FastPacketBuilder::next_frame` meets its contract: each way out has a law of its own. Assumes nothing.
-use Rattle.std.proofs.Common.{rules}
 use Rattle.builder.proofs.NextLaws.{next_empty, next_end, next_framed, next_refused}
 use Rattle.builder.proofs.FastPacketBuilder.next_frame.Goals as goal
 

@@ -1,5 +1,4 @@
 -- `FrameIterator::next` meets its contract: it is the step on numbers. Assumes nothing.
-use Rattle.std.proofs.Common.{rules}
 use Rattle.builder.proofs.FrameIterator.next.Goals as goal
 
 pub returns : goal.returns

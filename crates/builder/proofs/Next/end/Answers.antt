@@ -1,5 +1,4 @@
 -- `Next::end` meets its contract. Assumes nothing.
-use Rattle.std.proofs.Common.{refl, rules}
 use Rattle.builder.proofs.Next.end.Goals as goal
 
 pub returns : goal.returns

@@ -1,5 +1,4 @@
 -- `Next::refused` meets its contract. Assumes nothing.
-use Rattle.std.proofs.Common.{refl, rules}
 use Rattle.builder.proofs.Next.refused.Goals as goal
 
 pub returns : goal.returns

@@ -1,5 +1,4 @@
 -- `lay_frame` meets its contract: each of the three frames by a law of its own. Assumes nothing.
-use Rattle.std.proofs.Common.{rules}
 use Rattle.builder.proofs.LaidLaws.{laid_raw, laid_first, laid_later}
 use Rattle.builder.proofs.frame_bytes.lay_frame.Goals as goal
 

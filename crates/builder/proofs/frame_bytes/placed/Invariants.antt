@@ -1,6 +1,6 @@
 -- `placed` meets its contract: after i turns i bytes of the payload stand where they belong. Assumes nothing.
-use Rattle.std.proofs.Common.{◌≡◌, ◌-◌, ◌≤◌, length, rules}
-use Rattle.builder.proofs.Copies.{copied, copying}
+use Rattle.std.proofs.Common.{◌≡◌, ◌-◌, ◌≤◌, length}
+use Rattle.builder.proofs.Copies.{copied}
 use Rattle.builder.proofs.frame_bytes.placed.Given as goal
 
 abbrev pub invariant-loop-i : goal.invariant-loop-i

@@ -1,5 +1,4 @@
 -- `CanIdBuilder::build` meets its contract: parts that are too large are refused, and the rest goes by the destination, test by test. Assumes nothing.
-use borrow.Author.Rules.{rules}
 use mathlib.Core.Path.{refl, ap}
 use Rattle.base.proofs.Cases.{when_lt, when_ge, when_eq, when_ne}
 use Rattle.base.specs.Answer.{gives}

@@ -1,5 +1,4 @@
 -- `batched_number` meets its contract: case by case. Assumes nothing.
-use borrow.Author.Rules.{rules}
 use mathlib.Core.Path.{refl}
 use Rattle.batch.specs.Rows.{of_batched}
 use Rattle.ffi.proofs.batches.batched_number.Goals as goal

@@ -1,5 +1,4 @@
 -- `hf_raw_process_frames` meets its contract: it passes on what its calls say. Assumes nothing.
-use borrow.Author.Rules.{rules}
 use Rattle.ffi.proofs.Laws.{batch_left}
 use Rattle.ffi.proofs.batches.hf_raw_process_frames.Goals as goal
 

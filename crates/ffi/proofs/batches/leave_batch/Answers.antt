@@ -1,5 +1,4 @@
 -- `leave_batch` meets its contract: each lent array as its call says. Assumes nothing.
-use borrow.Author.Rules.{rules}
 use mathlib.Core.Path.{refl}
 use Rattle.ffi.proofs.batches.leave_batch.Goals as goal
 

@@ -1,5 +1,4 @@
 -- `hf_check_tx` meets its contract: it passes on what its calls say. Assumes nothing.
-use borrow.Author.Rules.{rules}
 use Rattle.ffi.proofs.BenchLaws.{told_so}
 use Rattle.ffi.proofs.bench_entries.hf_check_tx.Goals as goal
 

@@ -1,5 +1,4 @@
 -- `hf_fast_packet_frames` meets its contract: it passes on what its calls say. Assumes nothing.
-use borrow.Author.Rules.{rules}
 use mathlib.Core.Path.{ap, ◌∙◌}
 use Rattle.base.specs.Answer.{code_of}
 use Rattle.numbers.specs.Numbers.{value_of}

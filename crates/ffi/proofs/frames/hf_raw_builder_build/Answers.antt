@@ -1,5 +1,4 @@
 -- `hf_raw_builder_build` meets its contract: it passes on what its calls say. Assumes nothing.
-use borrow.Author.Rules.{rules}
 use Rattle.ffi.proofs.Laws.{started_at}
 use Rattle.ffi.proofs.frames.hf_raw_builder_build.Goals as goal
 

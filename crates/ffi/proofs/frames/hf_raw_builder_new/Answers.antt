@@ -1,5 +1,4 @@
 -- `hf_raw_builder_new` meets its contract: it passes on what its calls say. Assumes nothing.
-use borrow.Author.Rules.{rules}
 use Rattle.ffi.proofs.Laws.{made_with}
 use Rattle.ffi.proofs.frames.hf_raw_builder_new.Goals as goal
 

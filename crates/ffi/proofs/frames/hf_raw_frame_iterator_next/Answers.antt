@@ -1,5 +1,4 @@
 -- `hf_raw_frame_iterator_next` meets its contract: it passes on what its calls say. Assumes nothing.
-use borrow.Author.Rules.{rules}
 use Rattle.ffi.proofs.Laws.{turn_left}
 use Rattle.ffi.proofs.frames.hf_raw_frame_iterator_next.Goals as goal
 

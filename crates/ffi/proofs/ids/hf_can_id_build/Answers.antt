@@ -1,5 +1,4 @@
 -- `hf_can_id_build` meets its contract: it passes on what its calls say. Assumes nothing.
-use borrow.Author.Rules.{rules}
 use Rattle.ffi.proofs.Laws.{answered_by, parts_by}
 use Rattle.ffi.proofs.ids.hf_can_id_build.Goals as goal
 

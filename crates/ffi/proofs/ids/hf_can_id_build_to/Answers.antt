@@ -1,5 +1,4 @@
 -- `hf_can_id_build_to` meets its contract: it passes on what its calls say. Assumes nothing.
-use borrow.Author.Rules.{rules}
 use mathlib.Core.Path.{ap, ◌∙◌}
 use Rattle.can_id.specs.Build.{build_of}
 use Rattle.ffi.proofs.Laws.{answered_by}

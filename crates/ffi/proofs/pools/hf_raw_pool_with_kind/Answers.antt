@@ -1,5 +1,4 @@
 -- `hf_raw_pool_with_kind` meets its contract: it passes on what its calls say. Assumes nothing.
-use borrow.Author.Rules.{rules}
 use Rattle.ffi.proofs.Laws.{made_by}
 use Rattle.ffi.proofs.pools.hf_raw_pool_with_kind.Goals as goal
 

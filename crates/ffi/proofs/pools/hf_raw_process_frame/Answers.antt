@@ -1,5 +1,4 @@
 -- `hf_raw_process_frame` meets its contract: it passes on what its calls say. Assumes nothing.
-use borrow.Author.Rules.{rules}
 use Rattle.ffi.proofs.Laws.{left_by, received_by}
 use Rattle.ffi.proofs.pools.hf_raw_process_frame.Goals as goal
 

@@ -1,5 +1,4 @@
 -- `hf_raw_receive_by_id` meets its contract: it passes on what its calls say. Assumes nothing.
-use borrow.Author.Rules.{rules}
 use Rattle.ffi.proofs.Laws.{left_by, received_by_id_by}
 use Rattle.ffi.proofs.pools.hf_raw_receive_by_id.Goals as goal
 

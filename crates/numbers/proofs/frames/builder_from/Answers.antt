@@ -1,5 +1,4 @@
 -- `builder_from` meets its contract: field by field. Assumes nothing.
-use borrow.Author.Rules.{rules}
 use mathlib.Core.Path.{refl}
 use Rattle.numbers.proofs.FrameLaws.{builder_by}
 use Rattle.numbers.proofs.frames.builder_from.Goals as goal

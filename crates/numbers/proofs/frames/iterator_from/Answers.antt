@@ -1,5 +1,4 @@
 -- `iterator_from` meets its contract: field by field. Assumes nothing.
-use borrow.Author.Rules.{rules}
 use mathlib.Core.Path.{refl}
 use Rattle.numbers.proofs.FrameLaws.{iterator_by}
 use Rattle.numbers.proofs.frames.iterator_from.Goals as goal

@@ -1,5 +1,4 @@
 -- `lay_made` meets its contract: it passes on what its calls say. Assumes nothing.
-use borrow.Author.Rules.{rules}
 use mathlib.Core.Path.{refl}
 use Rattle.numbers.proofs.frames.lay_made.Goals as goal
 

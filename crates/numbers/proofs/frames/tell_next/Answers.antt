@@ -1,5 +1,4 @@
 -- `tell_next` meets its contract: each number as its call says. Assumes nothing.
-use borrow.Author.Rules.{rules}
 use mathlib.Core.Path.{refl}
 use Rattle.numbers.proofs.frames.tell_next.Goals as goal
 

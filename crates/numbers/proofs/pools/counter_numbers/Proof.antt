@@ -1,5 +1,4 @@
 -- `counter_numbers` meets its contract: field by field. Assumes nothing.
-use borrow.Author.Rules.{rules}
 use mathlib.Core.Path.{refl}
 use Rattle.numbers.specs.Pool.{counter_numbers}
 use Rattle.numbers.proofs.pools.counter_numbers.Statement.{statement}

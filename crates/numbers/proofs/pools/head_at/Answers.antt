@@ -1,5 +1,4 @@
 -- `head_at` meets its contract: each field as its call says. Assumes nothing.
-use borrow.Author.Rules.{rules}
 use Rattle.numbers.proofs.PoolLaws.{head_by}
 use Rattle.numbers.proofs.pools.head_at.Goals as goal
 

@@ -1,5 +1,4 @@
 -- `head_over` meets its contract: number by number, as its calls say. Assumes nothing.
-use borrow.Author.Rules.{rules}
 use Rattle.numbers.proofs.PoolLaws.{over_by}
 use Rattle.numbers.proofs.pools.head_over.Goals as goal
 

@@ -1,11 +1,8 @@
 -- `heads_from` meets its contract: k heads are read. Assumes nothing.
 use borrow.Author.Rules.{rules}
-use Prim.Native.Nat.{◌≤◌, ◌-◌}
-use mathlib.Core.Path.{◌≡◌, refl}
-use lib.ListN.{length, take, length-set}
+use mathlib.Core.Path.{refl}
+use lib.ListN.{length-set}
 use native.Mathlib.Omega.{arith}
-use Rattle.session.specs.Rules.{pool_limit}
-use Rattle.session.specs.declared.Head.{Head}
 use Rattle.numbers.specs.Pool.{heads_to}
 use Rattle.numbers.proofs.PoolLaws.{read_turn, read_done}
 use Rattle.numbers.proofs.pools.heads_from.Goals as goal

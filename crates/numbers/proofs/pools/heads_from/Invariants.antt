@@ -1,13 +1,9 @@
 -- `heads_from` meets its contract: k heads are read. Assumes nothing.
-use borrow.Author.Rules.{rules}
 use Prim.Native.Nat.{◌≤◌, ◌-◌}
-use mathlib.Core.Path.{◌≡◌, refl}
-use lib.ListN.{length, take, length-set}
-use native.Mathlib.Omega.{arith}
+use mathlib.Core.Path.{◌≡◌}
+use lib.ListN.{length, take}
 use Rattle.session.specs.Rules.{pool_limit}
-use Rattle.session.specs.declared.Head.{Head}
 use Rattle.numbers.specs.Pool.{heads_to}
-use Rattle.numbers.proofs.PoolLaws.{read_turn, read_done}
 use Rattle.numbers.proofs.pools.heads_from.Given as goal
 
 abbrev pub invariant-loop-k : goal.invariant-loop-k

@@ -1,5 +1,4 @@
 -- `leave` meets its contract: each lent array as its call says. Assumes nothing.
-use borrow.Author.Rules.{rules}
 use mathlib.Core.Path.{refl}
 use Rattle.numbers.proofs.pools.leave.Goals as goal
 

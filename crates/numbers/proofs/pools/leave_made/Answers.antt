@@ -1,5 +1,4 @@
 -- `leave_made` meets its contract: case by case. Assumes nothing.
-use borrow.Author.Rules.{rules}
 use mathlib.Core.Path.{refl}
 use Rattle.assembler.specs.Making.{of_made}
 use Rattle.numbers.proofs.pools.leave_made.Goals as goal

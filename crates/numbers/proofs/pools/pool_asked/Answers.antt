@@ -1,5 +1,4 @@
 -- `pool_asked` meets its contract: it passes on what its calls say. Assumes nothing.
-use borrow.Author.Rules.{rules}
 use Rattle.numbers.proofs.PoolLaws.{asked_by}
 use Rattle.numbers.proofs.pools.pool_asked.Goals as goal
 

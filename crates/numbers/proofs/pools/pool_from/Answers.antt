@@ -1,5 +1,4 @@
 -- `pool_from` meets its contract: it passes on what its calls say. Assumes nothing.
-use borrow.Author.Rules.{rules}
 use Rattle.numbers.proofs.PoolLaws.{pool_by}
 use Rattle.numbers.proofs.pools.pool_from.Goals as goal
 

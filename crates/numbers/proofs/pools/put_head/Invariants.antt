@@ -1,11 +1,8 @@
 -- `put_head` meets its contract: after k turns k numbers are laid. Assumes nothing.
-use borrow.Author.Rules.{rules}
 use Prim.Native.Nat.{◌≤◌, ◌-◌}
-use mathlib.Core.Path.{◌≡◌, refl}
-use native.Mathlib.Omega.{arith}
+use mathlib.Core.Path.{◌≡◌}
 use lib.ListN.{length, take}
 use lib.Seq.{sets}
-use Rattle.numbers.proofs.PoolLaws.{put_turn, put_done}
 use Rattle.numbers.specs.Pool.{head_numbers}
 use Rattle.numbers.proofs.pools.put_head.Given as goal
 

@@ -1,6 +1,4 @@
 -- `counting::count` meets its contract. Assumes nothing.
-use borrow.Author.Rules.{rules}
-use mathlib.Core.Path.{refl}
 use Rattle.session.specs.Counting.{raised}
 use Rattle.session.proofs.counting.count.Goals as goal
 

@@ -1,5 +1,4 @@
 -- `counting::raise_one` meets its contract. Assumes nothing.
-use borrow.Author.Rules.{rules}
 use native.Mathlib.Omega.{arith}
 use Rattle.session.specs.Counting.{raise, most}
 use Rattle.session.proofs.counting.raise_one.Goals as goal

@@ -1,5 +1,4 @@
 -- `heads::fresh_head` meets its contract. Assumes nothing.
-use borrow.Author.Rules.{rules}
 use mathlib.Core.Path.{refl}
 use Rattle.session.specs.Heads.{fresh_head}
 use Rattle.session.proofs.heads.fresh_head.Statement.{statement}

@@ -1,5 +1,4 @@
 -- `heads::is_silent` meets its contract: each arm is its mode's case. Assumes nothing.
-use borrow.Author.Rules.{rules}
 use Rattle.session.specs.Rules.{silence, silent_by}
 use Rattle.session.proofs.heads.is_silent.Goals as goal
 

@@ -1,5 +1,4 @@
 -- `looks::is_allowed` meets its contract: each arm is its kind's case. Assumes nothing.
-use borrow.Author.Rules.{rules}
 use borrow.Author.Tests.{lt-ltb, le-ltb}
 use Rattle.base.specs.Pick.{pick}
 use Rattle.session.specs.Rules.{part_allowed}

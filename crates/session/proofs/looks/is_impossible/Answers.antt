@@ -1,6 +1,4 @@
 -- `looks::is_impossible` meets its contract. Assumes nothing.
-use borrow.Author.Rules.{rules}
-use mathlib.Core.Path.{refl}
 use Rattle.session.specs.Rules.{rules_by}
 use Rattle.session.specs.Heads.{impossible_head}
 use Rattle.session.proofs.looks.is_impossible.Goals as goal

@@ -1,5 +1,4 @@
 -- `looks::look` meets its contract: what the seven calls gave is put together by one law. Assumes nothing.
-use borrow.Author.Rules.{rules}
 use Rattle.session.proofs.SearchLaws.{look_is}
 use Rattle.session.proofs.looks.look.Goals as goal
 

@@ -1,6 +1,4 @@
 -- `heads::copied_head` meets its contract. Assumes nothing.
-use borrow.Author.Rules.{rules}
-use mathlib.Core.Path.{refl}
 use native.Mathlib.Omega.{arith}
 use Rattle.session.specs.Heads.{wanted, copied_head}
 use Rattle.session.proofs.moved.copied_head.Goals as goal

@@ -1,5 +1,4 @@
 -- `moved::opened_head` meets its contract. Assumes nothing.
-use mathlib.Core.Path.{refl}
 use Rattle.session.specs.Heads.{opened_head}
 use Rattle.session.proofs.moved.opened_head.Goals as goal
 

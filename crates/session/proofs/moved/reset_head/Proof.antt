@@ -1,5 +1,4 @@
 -- `heads::reset_head` meets its contract. Assumes nothing.
-use borrow.Author.Rules.{rules}
 use mathlib.Core.Path.{refl}
 use Rattle.session.specs.Heads.{reset_head}
 use Rattle.session.proofs.moved.reset_head.Statement.{statement}

@@ -1,6 +1,5 @@
 -- `heads::wanted_by` meets its contract. Assumes nothing.
 use borrow.Author.Rules.{rules}
-use mathlib.Core.Path.{refl}
 use Rattle.session.specs.Heads.{wanted}
 use Rattle.session.proofs.moved.wanted_by.Statement.{statement}
 use Rattle.session.proofs.moved.wanted_by.Tie as tie

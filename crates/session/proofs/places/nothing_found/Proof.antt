@@ -1,5 +1,4 @@
 -- `places::nothing_found` meets its contract. Assumes nothing.
-use borrow.Author.Rules.{rules}
 use mathlib.Core.Path.{refl}
 use Rattle.session.specs.inner.Search.{nothing_found}
 use Rattle.session.proofs.places.nothing_found.Statement.{statement}

@@ -1,5 +1,4 @@
 -- `plans::stay` meets its contract. Assumes nothing.
-use borrow.Author.Rules.{rules}
 use mathlib.Core.Path.{refl}
 use Rattle.session.specs.inner.Plan.{idle}
 use Rattle.session.proofs.plans.stay.Statement.{statement}

@@ -1,5 +1,5 @@
 -- `byte` meets its contract: the facts on each way out pick the law of that case. Assumes nothing.
-use Rattle.std.proofs.Common.{arith, rules}
+use Rattle.std.proofs.Common.{arith}
 use Rattle.splitter.proofs.ByteLaws.{byte_in, byte_past}
 use Rattle.splitter.proofs.split_frame.byte.Goals as goal
 

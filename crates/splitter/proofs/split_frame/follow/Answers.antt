@@ -1,6 +1,6 @@
 -- `follow` meets its contract: after the turns up to k the bytes before place k are laid. Assumes nothing.
-use Rattle.std.proofs.Common.{◌≡◌, ◌+◌, ◌-◌, ◌≤◌, length, take, drop, arith, rules}
-use Rattle.base.proofs.Fills.{pasted, fill_none}
+use Rattle.std.proofs.Common.{arith, rules}
+use Rattle.base.proofs.Fills.{fill_none}
 use Rattle.splitter.proofs.ByteLaws.{follow_turn, follow_done}
 use Rattle.splitter.proofs.split_frame.follow.Goals as goal
 

@@ -1,7 +1,6 @@
 -- `follow` meets its contract: after the turns up to k the bytes before place k are laid. Assumes nothing.
-use Rattle.std.proofs.Common.{◌≡◌, ◌+◌, ◌-◌, ◌≤◌, length, take, drop, arith, rules}
-use Rattle.base.proofs.Fills.{pasted, fill_none}
-use Rattle.splitter.proofs.ByteLaws.{follow_turn, follow_done}
+use Rattle.std.proofs.Common.{◌≡◌, ◌+◌, ◌-◌, ◌≤◌, length, take, drop}
+use Rattle.base.proofs.Fills.{pasted}
 use Rattle.splitter.proofs.split_frame.follow.Given as goal
 
 abbrev pub invariant-loop-k : goal.invariant-loop-k
