@@ -18,6 +18,8 @@ use fast_packet::MAX_FAST_PACKET_PAYLOAD;
 use session::{Counters, Kind, Mode};
 use std::io::{self, BufReader, BufWriter, ErrorKind, Read, Write};
 
+const LINE: usize = 44;
+
 const LONGEST: usize = 300;
 
 // ---- reading
@@ -313,7 +315,7 @@ fn build<W: Write>(out: &mut W, line: &[u8; 44]) -> io::Result<()> {
 // ---- the list
 
 // Fills the line from the input; false where the input ends before the line does.
-fn read_line<R: Read>(input: &mut R, line: &mut [u8; 44]) -> io::Result<bool> {
+fn read_line<R: Read>(input: &mut R, line: &mut [u8; LINE]) -> io::Result<bool> {
     match input.read_exact(line) {
         Ok(()) => Ok(true),
         Err(e) if e.kind() == ErrorKind::UnexpectedEof => Ok(false),
@@ -322,7 +324,7 @@ fn read_line<R: Read>(input: &mut R, line: &mut [u8; 44]) -> io::Result<bool> {
 }
 
 fn turn<R: Read, W: Write>(input: &mut R, out: &mut W, s: State) -> io::Result<State> {
-    let mut line = [0u8; 44];
+    let mut line = [0u8; LINE];
     if !read_line(input, &mut line)? {
         let mut end = s;
         end.more = false;
