@@ -23,7 +23,7 @@ fn eight(data: &[u8], at: usize) -> [u8; 8]
 
 pub(crate) fn frame_at(times: &[u64], pgns: &[u32], sources: &[u8], data: &[u8], i: usize) -> Heard
     requires { (i < length times.now) × (i < length pgns.now) × (i < length sources.now) × (i * 8 + 8 ≤ length «data».now) }
-    ensures { result ≡ frame_in_rows (record { times = times.entry.now; pgns = pgns.now; sources = sources.now; bytes = «data».now }) i }
+    ensures { result ≡ frame_in_rows (record { times = times.now; pgns = pgns.now; sources = sources.now; bytes = «data».now }) i }
 {
     let bytes = eight(data, i * 8);
     Heard {

@@ -16,7 +16,7 @@ use Rattle.base.proofs.Totals.{total_set}
 use Rattle.base.proofs.First.{Test, test, passes, fails}
 use Rattle.book.specs.Book.{Message, new_message, grown, Place, idle, holds, held_in, Deed, Restarting, Reclaiming, Delivered, Broken, deed_number, is_one_of, opens, ends, opening_at, Told, Entry, Ledger, Machine}
 use Rattle.book.specs.Book.{numbered, written, tell, blank, as_number, how_many, did, openings, is_some, held, is_message, was_opened, fates_of}
-use Rattle.book.proofs.Moves.{Quiet, is_unlisted, is_badly, is_refused_lem, is_stray, Move, stays, at_once, opened, grows, delivers, breaks, Moves}
+use Rattle.book.proofs.Moves.{Quiet, is_unlisted, is_badly, is_refused, is_stray, Move, stays, at_once, opened, grows, delivers, breaks, Moves}
 
 -- ---- weights
 
@@ -65,7 +65,7 @@ module _ {F : Type 0} (w : ℕ → ℕ) (n : ℕ) where
   unfolding weight_ended weight_opened only_if opens ends is_one_of any deed_number
   flow_quiet ps is_unlisted = refl
   flow_quiet ps is_badly = refl
-  flow_quiet ps is_refused_lem = refl
+  flow_quiet ps is_refused = refl
   flow_quiet ps is_stray = refl
 
   flow : (late : Message F → Bool) (ps : List (Place F)) (c : F) (t : Told F) → Move late n ps c t → Flow ps t
@@ -99,7 +99,7 @@ module _ {F : Type 0} where
   unfolding weight_ended only_if ends is_one_of any deed_number weight four_ends as_number one
   four late n ps c t (stays is_unlisted) = refl
   four late n ps c t (stays is_badly) = refl
-  four late n ps c t (stays is_refused_lem) = refl
+  four late n ps c t (stays is_refused) = refl
   four late n ps c t (stays is_stray) = refl
   four late n ps c t at_once = refl
   four late n ps c t (opened i u) = four_opening late (get_or ps i (idle 0))

@@ -34,7 +34,7 @@ within_first t l d = go (hit (first_at t l))
 pub data Quiet : Deed → Type 0 where
   is_unlisted : Quiet Unlisted
   is_badly : Quiet BadFrame
-  is_refused_lem : Quiet NoSlot
+  is_refused : Quiet NoSlot
   is_stray : Quiet Stray
 
 pub data Move {F : Type 0} (late : Message F → Bool) (n : ℕ) (ps : List (Place F)) (c : F) : Told F → Type 0 where

@@ -17,7 +17,7 @@ use Rattle.base.proofs.Totals.{total_two}
 use Rattle.base.proofs.First.{Test, test, passes, fails}
 use Rattle.book.specs.Book.{Message, new_message, grown, Place, idle, holds, held_in, Deed, AtOnce, Restarting, Reclaiming, Copied, Delivered, Broken, deed_number, is_one_of, begins, copies, opening_at, Told, Entry, Ledger, Machine}
 use Rattle.book.specs.Book.{numbered, written, tell, tells, blank, as_number, is_message, belongs, frames_of, Owned, OwnBook}
-use Rattle.book.proofs.Moves.{Quiet, is_unlisted, is_badly, is_refused_lem, is_stray, Move, stays, at_once, opened, grows, delivers, breaks, Moves}
+use Rattle.book.proofs.Moves.{Quiet, is_unlisted, is_badly, is_refused, is_stray, Move, stays, at_once, opened, grows, delivers, breaks, Moves}
 use Rattle.book.proofs.Balance.{is, weight, weight_held, all_held, Balanced, balanced_blank, balanced_tell}
 
 -- ---- what a new entry adds to the frames of message k
@@ -39,7 +39,7 @@ module _ {F : Type 0} where
   unfolding entry_of belongs begins copies is_one_of any deed_number pick
   silent_quiet k n c is_unlisted = refl
   silent_quiet k n c is_badly = refl
-  silent_quiet k n c is_refused_lem = refl
+  silent_quiet k n c is_refused = refl
   silent_quiet k n c is_stray = refl
 
   silent_broken : (k n : ℕ) (c : F) (m : Message F) → belongs k (entry_of n c Broken (some m)) ≡ false

@@ -44,8 +44,8 @@ whole to = record { kind = MessageComplete; payload = padded (to ∷ to ∷ to �
 
 -- ---- by the identifier
 
-unfoldable pub by_id_rules : ℕ → ℕ → List ℕ → ArrivalById
-by_id_rules at id bytes = record { now_ms = at; id = record { 0 = id }; «data» = bytes }
+unfoldable pub by_id : ℕ → ℕ → List ℕ → ArrivalById
+by_id at id bytes = record { now_ms = at; id = record { 0 = id }; «data» = bytes }
 
 unfoldable pub next : State → ArrivalById → State
 next z a = after_entry (at_addressed z.pool (heard_by_id a)) z (answer_to list (at_addressed z.pool (heard_by_id a)) z.pool z.counters)
@@ -65,12 +65,12 @@ called_old : (z : State) (a : Arrival) → EightBytes a.«data» → Called z (c
 unfolding next_old
 called_old z a ok = received list a ok (promised list (at_original z.pool (heard_of a)) z.pool z.counters (known_entered Original z.pool (frame _)) refl)
 
-ok_first : (at id to : ℕ) → EightBytes (by_id_rules at id (first_bytes to)).«data»
-unfolding by_id_rules first_bytes
+ok_first : (at id to : ℕ) → EightBytes (by_id at id (first_bytes to)).«data»
+unfolding by_id first_bytes
 ok_first at id to = record { eight = refl; byte = lit< tt }
 
-ok_last : (at id to : ℕ) → EightBytes (by_id_rules at id (last_bytes to)).«data»
-unfolding by_id_rules last_bytes
+ok_last : (at id to : ℕ) → EightBytes (by_id at id (last_bytes to)).«data»
+unfolding by_id last_bytes
 ok_last at id to = record { eight = refl; byte = lit< tt }
 
 ok_old : (at to : ℕ) → EightBytes (by_pgn at (last_bytes to)).«data»
@@ -84,32 +84,32 @@ module _ (mode : Mode) where
   begun = start (fresh_pool_in Addressed mode 2)
 
   unfoldable pub first16 : State
-  first16 = next begun (by_id_rules 0 (identifier 16) (first_bytes 16))
+  first16 = next begun (by_id 0 (identifier 16) (first_bytes 16))
 
   unfoldable pub too_wide : State
-  too_wide = next first16 (by_id_rules 5 0x2ded_1023 (last_bytes 16))
+  too_wide = next first16 (by_id 5 0x2ded_1023 (last_bytes 16))
 
   unfoldable pub first17 : State
-  first17 = next too_wide (by_id_rules 10 (identifier 17) (first_bytes 17))
+  first17 = next too_wide (by_id 10 (identifier 17) (first_bytes 17))
 
   unfoldable pub other_entry : State
   other_entry = next_old first17 (by_pgn 15 (last_bytes 16))
 
   unfoldable pub last16 : State
-  last16 = next other_entry (by_id_rules 20 (identifier 16) (last_bytes 16))
+  last16 = next other_entry (by_id 20 (identifier 16) (last_bytes 16))
 
   unfoldable pub last17 : State
-  last17 = next last16 (by_id_rules 30 (identifier 17) (last_bytes 17))
+  last17 = next last16 (by_id 30 (identifier 17) (last_bytes 17))
 
   -- the frames that they heard
   unfoldable pub heard : List Call
   heard =
-      calls_heard list (at_addressed begun.pool (heard_by_id (by_id_rules 0 (identifier 16) (first_bytes 16))))
-      ++ (calls_heard list (at_addressed first16.pool (heard_by_id (by_id_rules 5 0x2ded_1023 (last_bytes 16))))
-      ++ (calls_heard list (at_addressed too_wide.pool (heard_by_id (by_id_rules 10 (identifier 17) (first_bytes 17))))
+      calls_heard list (at_addressed begun.pool (heard_by_id (by_id 0 (identifier 16) (first_bytes 16))))
+      ++ (calls_heard list (at_addressed first16.pool (heard_by_id (by_id 5 0x2ded_1023 (last_bytes 16))))
+      ++ (calls_heard list (at_addressed too_wide.pool (heard_by_id (by_id 10 (identifier 17) (first_bytes 17))))
       ++ (calls_heard list (at_original first17.pool (heard_of (by_pgn 15 (last_bytes 16))))
-      ++ (calls_heard list (at_addressed other_entry.pool (heard_by_id (by_id_rules 20 (identifier 16) (last_bytes 16))))
-      ++ (calls_heard list (at_addressed last16.pool (heard_by_id (by_id_rules 30 (identifier 17) (last_bytes 17)))) ++ [])))))
+      ++ (calls_heard list (at_addressed other_entry.pool (heard_by_id (by_id 20 (identifier 16) (last_bytes 16))))
+      ++ (calls_heard list (at_addressed last16.pool (heard_by_id (by_id 30 (identifier 17) (last_bytes 17)))) ++ [])))))
 
   pub two_displays : Ran begun heard last17
   unfolding heard first16 too_wide first17 other_entry last16 last17
@@ -132,7 +132,7 @@ pub record Displays (mode : Mode) : Type 0 where
   pub delivered : did Delivered (ledger_of (rules_by Addressed mode) (0 ∷ 0 ∷ []) (heard mode)) ≡ 2
 
 pub displays : (mode : Mode) → Displays mode
-unfolding told rules_of pgn_of destination_of read_of part_of heard_from heard_by_id heard_of same_kind entered result_of result_on answer_to calls_heard said_to after_entry identifier first_bytes last_bytes whole by_id_rules by_pgn next next_old begun first16 too_wide first17 other_entry last16 last17 heard
+unfolding told rules_of pgn_of destination_of read_of part_of heard_from heard_by_id heard_of same_kind entered result_of result_on answer_to calls_heard said_to after_entry identifier first_bytes last_bytes whole by_id by_pgn next next_old begun first16 too_wide first17 other_entry last16 last17 heard
 displays AsOriginal = record { said = refl; wide_moves_nothing = refl; other_moves_nothing = refl; opened = refl; delivered = refl }
 displays SetBackIsSilence = record { said = refl; wide_moves_nothing = refl; other_moves_nothing = refl; opened = refl; delivered = refl }
 

@@ -8,7 +8,7 @@ use lib.ListN.{length, get_or}
 use lib.Dec.{eqb, leb}
 use Rattle.base.specs.Lists.{first_at}
 use Rattle.base.proofs.Cases.{pick_all}
-use Rattle.book.proofs.Moves.{Within, within_or, within_first, is_unlisted, is_badly, is_refused_lem, is_stray, Move, stays, at_once, opened, grows, delivers, breaks, Moves}
+use Rattle.book.proofs.Moves.{Within, within_or, within_first, is_unlisted, is_badly, is_refused, is_stray, Move, stays, at_once, opened, grows, delivers, breaks, Moves}
 use Rattle.session.specs.Rules.{Rules}
 use Rattle.session.specs.Frames.{index_of, size_of, is_empty, bad_first}
 use Rattle.assembler.specs.Call.{Call, listed}
@@ -23,7 +23,7 @@ within_taken R c ps =
 module _ (R : Rules) (n : ℕ) (ps : List Place) (c : Call) where
   move_open : (o : Option ℕ) → Within (length ps) o → Move (late R c) n ps c (given o (nothing_moved NoSlot ps) (opens_in R n ps c))
   unfolding given nothing_moved opens_in
-  move_open none u = stays is_refused_lem
+  move_open none u = stays is_refused
   move_open (some i) u = opened i u
 
   move_own : (i : ℕ) (m : Message) → i < length ps → get_or ps i (idle 0) ≡ holds m → Move (late R c) n ps c (continues_in ps c i m)

@@ -263,8 +263,8 @@ pub fn leave(
     length: &mut usize,
 ) -> u32
     ensures { CallLeft r
-        (record { heads = heads.entry.now; bytes = bytes.old; counters = counters.old; payload = payload.old; length = length.old })
-        result (record { heads = heads.exit.now; bytes = bytes.new; counters = counters.new; payload = payload.new; length = length.new }) }
+        (record { heads = heads.old; bytes = bytes.old; counters = counters.old; payload = payload.old; length = length.old })
+        result (record { heads = heads.new; bytes = bytes.new; counters = counters.new; payload = payload.new; length = length.new }) }
 {
     let pool = r.pool;
     let h = pool.heads;
@@ -308,8 +308,8 @@ pub fn leave_made(
     mode: &mut u32,
     kind: &mut u32,
 ) -> u32
-    ensures { MadePoolLeft made (record { heads = heads.entry.now; bytes = bytes.old; size = size.old; mode = mode.old; kind = kind.old })
-        result (record { heads = heads.exit.now; bytes = bytes.new; size = size.new; mode = mode.new; kind = kind.new }) }
+    ensures { MadePoolLeft made (record { heads = heads.old; bytes = bytes.old; size = size.old; mode = mode.old; kind = kind.old })
+        result (record { heads = heads.new; bytes = bytes.new; size = size.new; mode = mode.new; kind = kind.new }) }
 {
     let pool = made.pool;
     *size = pool.size;

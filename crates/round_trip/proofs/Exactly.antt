@@ -1,7 +1,7 @@
 -- What strict reassembly takes, all of its tests together: the splitter's frames, none of the row too wide, and room for what they say.
 --     gives_back       every such row
 --     accepts          and no other
---     split-accepted   so what the splitter gives is read back as that one message
+--     split_accepted   so what the splitter gives is read back as that one message
 -- Assumes nothing.
 use Prim.Native.Nat.{ℕ, ◌≤◌, ◌<◌, ◌/◌}
 use mathlib.Core.Bool.{false}

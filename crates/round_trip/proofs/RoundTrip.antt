@@ -1,6 +1,6 @@
 -- What the splitter lays out, strict reassembly reads back.
 --     returned     a row whose frames of one source and PGN are the splitter's frames of some messages gives those messages
---     read-back    the splitter's frames of one payload of 1 to 223 bytes, with any identifier and a sequence up to 7, give that one message
+--     read_back    the splitter's frames of one payload of 1 to 223 bytes, with any identifier and a sequence up to 7, give that one message
 --     delivered    and it is delivered where the identifier is below 2^29 and the list and the arena have room
 -- Assumes nothing.
 use Prim.Native.Nat.{ℕ, zero, suc, ◌+◌, ◌-◌, ◌*◌, ◌/◌, ◌%◌, ◌<◌, ◌≤◌}

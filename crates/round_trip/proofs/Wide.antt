@@ -1,8 +1,8 @@
 -- 29 is given with n exactly where n is the first frame whose identifier is 2^29 or more; where none is, both bench calls answer as document 01 has it.
---     first-wide, is-first, none-wide, is_none    the definition's search is that place
---     reassembly-29, reassembly-only              strict reassembly: whatever else the row holds, and whatever is lent
---     check-29, check-only                        the transmit check, after 30 and 31
---     reassembly-still, check-still               without such a frame
+--     first_wide_lem, is_first, none_wide, is_none    the definition's search is that place
+--     reassembly_29, reassembly_only              strict reassembly: whatever else the row holds, and whatever is lent
+--     check_29, check_only                        the transmit check, after 30 and 31
+--     reassembly_still, check_still               without such a frame
 -- Assumes nothing.
 use Prim.Native.Nat.{ℕ, zero, suc, ◌+◌, ◌-◌, ◌<◌, ◌≤◌}
 use mathlib.Core.List.{List, [], ◌∷◌}

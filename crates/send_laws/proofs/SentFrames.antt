@@ -1,5 +1,5 @@
 -- The identifier of every frame that a builder gives, at any index and after any bytes sent, is read as what the builder was asked for.
---     frame-read     priority modulo 8, PGN, source and destination; so it is never too wide
+--     frame_read     priority modulo 8, PGN, source and destination; so it is never too wide
 -- Assumes nothing.
 use Prim.Native.Nat.{ℕ, ◌<◌}
 use mathlib.Core.List.{List}

@@ -2,7 +2,7 @@
 --     fn through(pool: A, counters: C, list: &[R], x: X) -> O { let mut c = counters; let a = lent(pool, &mut c, list, x); joined(a, c) }
 -- with any names, and `lent` a function that `Raises.antt` proves.
 --     body      its MIR: locals 0 the result, 1 pool, 2 counters, 3 list, 4 x, 5 c, 6 a, 7 the reference, 8 the copy of c that is joined
---     through   its theorem: what the core gives, where `lent` says `told_of` and `keptOf` of it and `joined` is their inverse, so a promise that it keeps is kept
+--     through   its theorem: what the core gives, where `lent` says `told_of` and `kept_of` of it and `joined` is their inverse, so a promise that it keeps is kept
 -- `laws` is that what a `&R` holds can be had twice and for a shorter time (the logic's `RowLaws`), which Rattle shows of each type: the list is passed on while it is still held.
 -- Assumes nothing.
 use mathlib.Core.Path.{◌≡◌, refl, ◌∙◌, ap}
@@ -56,7 +56,7 @@ module _ (A C X O B : Plain) (R : RattleType) (k_lent k_joined : Callee) where
       return))))
 
   module _ (laws : RowLaws R) (P₁ : In 2 lent_ps) (Q₁ : Out 2 lent_ps (result B)) (P₂ : In 0 both) (Q₂ : Out 0 both (result O))
-      (core_of : (ty A).Denot → (ty C).Denot → List R.Denot → (ty X).Denot → (ty O).Denot) (keptOf : (ty O).Denot → (ty C).Denot) (told_of : (ty O).Denot → (ty B).Denot) (joinedOf : (ty B).Denot → (ty C).Denot → (ty O).Denot)
+      (core_of : (ty A).Denot → (ty C).Denot → List R.Denot → (ty X).Denot → (ty O).Denot) (kept_of : (ty O).Denot → (ty C).Denot) (told_of : (ty O).Denot → (ty B).Denot) (joined_of : (ty B).Denot → (ty C).Denot → (ty O).Denot)
       (w : World) (γ : Rt.Env) (known_lent : walk.Knows 2 lent_ps (result B) P₁ Q₁ w γ k_lent) (known_joined : walk.Knows 0 both (result O) P₂ Q₂ w γ k_joined) where
     abbrev derives : walk.Walks 1 ps (result O) xs 1 body w γ
     derives κs qs bs =
@@ -85,14 +85,14 @@ module _ (A C X O B : Plain) (R : RattleType) (k_lent k_joined : Callee) where
         returns tt
 
     -- the answer and the record of one outcome, joined, are that outcome
-    rejoins : (back : (o : (ty O).Denot) → joinedOf (told_of o) (keptOf o) ≡ o) (o z : (ty O).Denot) (p : (ty B).Denot) (c : (ty C).Denot) → z ≡ joinedOf p c → p ≡ told_of o → c ≡ keptOf o → z ≡ o
-    rejoins back o z p c made told kept = made ∙ ap (λ (q : (ty B).Denot). joinedOf q c) told ∙ ap (joinedOf (told_of o)) kept ∙ back o
+    rejoins : (back : (o : (ty O).Denot) → joined_of (told_of o) (kept_of o) ≡ o) (o z : (ty O).Denot) (p : (ty B).Denot) (c : (ty C).Denot) → z ≡ joined_of p c → p ≡ told_of o → c ≡ kept_of o → z ≡ o
+    rejoins back o z p c made told kept = made ∙ ap (λ (q : (ty B).Denot). joined_of q c) told ∙ ap (joined_of (told_of o)) kept ∙ back o
 
     module _ (asked₁ : (κs : Lfts 2) (a : Dens κs lent_ps) → P₁ κs a)
         (says₁ : (κs : Lfts 2) (a : Dens κs lent_ps) (z : (ty B).Denot) (e : AtExit (ended_of 2 lent_ps (result B)) κs) → Q₁ κs a z e
-        → (z ≡ told_of (core_of a.0 a.1.0.now a.1.1.0.now a.1.1.1.0)) × (e.1.0.now ≡ keptOf (core_of a.0 a.1.0.now a.1.1.0.now a.1.1.1.0)))
-        (asked₂ : (a : Dens tt both) → P₂ tt a) (says₂ : (a : Dens tt both) (z : (ty O).Denot) (e : AtExit (ended_of 0 both (result O)) tt) → Q₂ tt a z e → z ≡ joinedOf a.0 a.1.0)
-        (back : (o : (ty O).Denot) → joinedOf (told_of o) (keptOf o) ≡ o)
+        → (z ≡ told_of (core_of a.0 a.1.0.now a.1.1.0.now a.1.1.1.0)) × (e.1.0.now ≡ kept_of (core_of a.0 a.1.0.now a.1.1.0.now a.1.1.1.0)))
+        (asked₂ : (a : Dens tt both) → P₂ tt a) (says₂ : (a : Dens tt both) (z : (ty O).Denot) (e : AtExit (ended_of 0 both (result O)) tt) → Q₂ tt a z e → z ≡ joined_of a.0 a.1.0)
+        (back : (o : (ty O).Denot) → joined_of (told_of o) (kept_of o) ≡ o)
         (Promise : (ty A).Denot → (ty C).Denot → List R.Denot → (ty X).Denot → (ty O).Denot → Type 0)
         (kept : (p : (ty A).Denot) (c : (ty C).Denot) (l : List R.Denot) (x : (ty X).Denot) (z : (ty O).Denot) → z ≡ core_of p c l x → Promise p c l x z) where
       abbrev Post : Out 1 ps (result O)
