@@ -6,7 +6,7 @@ ghost use Rattle.session.specs.inner.Search.{found_in};
 ghost use Rattle.assembler.specs.Promises.{same_kind};
 ghost use Rattle.batch.specs.Lengths.{too_short};
 ghost use Rattle.batch.specs.Rows.{Batches};
-ghost use Rattle.batch.specs.inner.Ways.{blank_heard, refusal_of, is_refused};
+ghost use Rattle.batch.specs.inner.Ways.{blank_heard, refusal_of};
 
 use crate::bytes::{deliver_short, keep};
 use crate::list_memory::{PLACES, looked_up};
@@ -15,7 +15,7 @@ use crate::rows::frame_at;
 use crate::search::{key_of, key_of_frame, mirror_of, seek, walk};
 use crate::taking::take;
 use crate::ways::{missed, ran_on, runs_on, short_in};
-use crate::{Batch, Batched};
+use crate::{Batch, BatchError, Taken};
 use assembler::Pool;
 use fast_packet::is_listed;
 use session::{
@@ -57,27 +57,17 @@ fn refusal(
     bytes: usize,
     kinds: usize,
     lengths: usize,
-) -> Batched
+) -> Result<(), BatchError>
     ensures { result ≡ refusal_of (not (same_kind Original kind) || (found_in (rules_by kind mode) blank_heard size heads).bad) (too_short n pgns sources bytes kinds lengths) }
 {
     let before = walk(kind, mode, heads, size, blank());
     if is_other(kind) | before.bad {
-        return Batched::ImpossiblePool;
+        return Err(BatchError::ImpossiblePool);
     }
     if too_short(n, pgns, sources, bytes, kinds, lengths) {
-        return Batched::NoRoom;
+        return Err(BatchError::NoRoom);
     }
-    Batched::Done
-}
-
-fn is_refused(res: Batched) -> bool
-    ensures { result ≡ is_refused res }
-{
-    match res {
-        Batched::Done => false,
-        Batched::ImpossiblePool => true,
-        Batched::NoRoom => true,
-    }
+    Ok(())
 }
 
 // Takes frames one after the other, as long as the arena has room for their messages.
@@ -114,12 +104,10 @@ pub fn process_frames(
         kinds.len(),
         lengths.len(),
     );
-    if is_refused(result) {
+    if let Err(error) = result {
         return Batch {
-            result: result,
-            taken: 0,
-            used: 0,
-            counters: counters,
+            result: Err(error),
+            counters,
             pool: q,
         };
     }
@@ -152,10 +140,12 @@ pub fn process_frames(
                 continue;
             }
             if no_room(arena.len(), used, short) {
+                let taken = Taken {
+                    frames: i,
+                    bytes: used,
+                };
                 return Batch {
-                    result: Batched::Done,
-                    taken: i,
-                    used: used,
+                    result: Ok(taken),
                     counters: c,
                     pool: q,
                 };
@@ -180,10 +170,12 @@ pub fn process_frames(
         }
         let d = decide(mode, false, true, true, h, heard);
         if no_room(arena.len(), used, d.whole) {
+            let taken = Taken {
+                frames: i,
+                bytes: used,
+            };
             return Batch {
-                result: Batched::Done,
-                taken: i,
-                used: used,
+                result: Ok(taken),
                 counters: c,
                 pool: q,
             };
@@ -201,9 +193,10 @@ pub fn process_frames(
         lasts[g] = after.last_seen_ms;
     }
     Batch {
-        result: Batched::Done,
-        taken: i,
-        used: used,
+        result: Ok(Taken {
+            frames: i,
+            bytes: used,
+        }),
         counters: c,
         pool: q,
     }

@@ -14,7 +14,7 @@ use session::{Counters, Plan, count};
 
 // What the rows have of the frame, and the counters after it.
 #[derive(Drop)]
-pub(crate) struct Taken {
+pub(crate) struct Told {
     pub(crate) number: u8,
     pub(crate) length: u8,
     pub(crate) counters: Counters,
@@ -28,7 +28,7 @@ pub(crate) fn take(
     d: Plan,
     counters: Counters,
     frame: [u8; 8],
-) -> Taken
+) -> Told
     requires { (length bytes.old ≡ pool_bytes) × (g < pool_limit) × (d.at + d.count ≤ max_payload) × (d.from + d.count ≤ 8) × (d.whole ≤ max_payload) × (used + d.whole ≤ length arena.old) }
     ensures { (bytes.new ≡ paste bytes.old (g * max_payload + d.at) (drop d.from frame) d.count) × (arena.new ≡ paste arena.old used (drop (g * max_payload) bytes.new) d.whole) × (result.number ≡ kind_number d.kind) × (result.length ≡ d.whole) × (result.counters ≡ raised d.mark counters) }
 {
@@ -36,7 +36,7 @@ pub(crate) fn take(
     let kind = d.kind;
     let mark = d.mark;
     let after = count(counters, mark);
-    Taken {
+    Told {
         number: number_of(kind),
         length: d.whole as u8,
         counters: after,
