@@ -8,7 +8,7 @@ ghost use Rattle.ffi.specs.inner.Batches.{PoolAfter};
 use assembler::POOL_BYTES;
 use batch::{Batch, Batched, process_frames};
 use numbers::{POOL_NUMBERS, counter_numbers, counters_from, pool_from, put_heads};
-use session::IMPOSSIBLE_POOL;
+use session::Kind;
 
 // The refusal of a row that is too short.
 const NO_ROOM: u32 = 27;
@@ -19,7 +19,7 @@ fn batched_number(res: Batched) -> u32
 {
     match res {
         Batched::Done => 0,
-        Batched::ImpossiblePool => IMPOSSIBLE_POOL as u32,
+        Batched::ImpossiblePool => u32::from(Kind::ImpossiblePool.number()),
         Batched::NoRoom => NO_ROOM,
     }
 }

@@ -1,5 +1,6 @@
 -- `batched_number` meets its contract: case by case. Assumes nothing.
-use mathlib.Core.Path.{refl}
+use mathlib.Core.Path.{refl, ◌∙◌}
+use Rattle.session.specs.Kinds.{kind_number}
 use Rattle.batch.specs.Rows.{of_batched}
 use Rattle.ffi.proofs.batches.batched_number.Goals as goal
 
@@ -8,8 +9,8 @@ unfolding of_batched
 returns-in-Done c = rw c.in-Done.is (λ taken. refl)
 
 pub returns-in-ImpossiblePool : goal.returns-in-ImpossiblePool
-unfolding of_batched
-returns-in-ImpossiblePool c = rw c.in-ImpossiblePool.is (λ taken. refl)
+unfolding of_batched kind_number
+returns-in-ImpossiblePool c = rw c.in-ImpossiblePool.is (λ taken. c.from.ensures ∙ c.number.ensures)
 
 pub returns-in-NoRoom : goal.returns-in-NoRoom
 unfolding of_batched
