@@ -15,9 +15,9 @@ use Rattle.session.specs.declared.Mode.{Mode}
 use Rattle.session.specs.declared.PoolKind.{PoolKind}
 use Rattle.session.specs.declared.PoolKind.TheVariants.{Original, Addressed}
 use Rattle.session.specs.declared.Kind.{Kind}
-use Rattle.session.specs.declared.Mark.{Mark}
+use Rattle.session.specs.declared.Kind.TheVariants.{FragmentConsumed, MessageComplete}
 use Rattle.session.specs.Heads.{impossible_head, copied_head}
-use Rattle.session.specs.Counting.{raised}
+use Rattle.session.specs.Counting.{Mark, raised}
 use Rattle.session.specs.inner.Search.{nothing_found, seen_if, found_in}
 use Rattle.session.specs.inner.Plan.{idle}
 use Rattle.session.proofs.Seen.{seen_bad}
@@ -297,20 +297,20 @@ module _ (R : Rules) (l : List ℕ) (w : Rows) (p : Pool) (k : Counters) (ks₀ 
 
       -- a message in one frame
       pub goes_short : (n : ℕ) → Does f q c (short_plan f (get_or q.heads g e) n) g (receive_of R l f q c) → (b : Bool) → b ≡ ltb (length ar) (used + n) → b ≡ false
-          → (ar' : List ℕ) → ar' ≡ paste ar used (drop 2 f.«data») n → Running (set ks i 103) (set ls i n) ar' q c (used + n) (i + 1)
-      unfolding short_plan kind_number raised
-      goes_short n does b eb y ar' ear =
-          goes_past lt f ef (short_plan f (get_or q.heads g e) n) g does n (sym (zero-add n)) b eb y low eight e (record { head = refl; count = refl; whole = refl }) ar' ear c refl 103 refl
+          → (ar' : List ℕ) → ar' ≡ paste ar used (drop 2 f.«data») n → (v : ℕ) → v ≡ kind_number MessageComplete → Running (set ks i v) (set ls i n) ar' q c (used + n) (i + 1)
+      unfolding short_plan raised
+      goes_short n does b eb y ar' ear v ev =
+          goes_past lt f ef (short_plan f (get_or q.heads g e) n) g does n (sym (zero-add n)) b eb y low eight e (record { head = refl; count = refl; whole = refl }) ar' ear c refl v ev
 
       -- seven bytes more
       pub goes_running : Does f q c (run_plan f (get_or q.heads g e)) g (receive_of R l f q c) → (t : Head) → t ≡ copied_head f (get_or q.heads g e)
           → (bs : List ℕ) → bs ≡ paste q.bytes (g * 223 + (get_or q.heads g e).current_size) (drop 1 f.«data») 7
-          → Running (set ks i 102) (set ls i 0) ar (record { kind = q.kind; mode = q.mode; size = q.size; heads = set q.heads g t; bytes = bs }) c used (i + 1)
-      unfolding run_plan kind_number raised
-      goes_running does t et bs ebs =
+          → (v : ℕ) → v ≡ kind_number FragmentConsumed → Running (set ks i v) (set ls i 0) ar (record { kind = q.kind; mode = q.mode; size = q.size; heads = set q.heads g t; bytes = bs }) c used (i + 1)
+      unfolding run_plan raised
+      goes_running does t et bs ebs v ev =
           let laid_none : ar ≡ paste (paste ar used (drop (g * 223) bs) 0) used (drop 2 f.«data») 0 = paste-zero ar used (drop (g * 223) bs) ∙ paste-zero (paste ar used (drop (g * 223) bs) 0) used (drop 2 f.«data») in
           rw (add-zero used, ← et) at
-          (goes_on lt f ef (run_plan f (get_or q.heads g e)) g does 0 refl false no_bytes refl low eight (inl refl) bs ebs ar laid_none c refl 102 refl)
+          (goes_on lt f ef (run_plan f (get_or q.heads g e)) g does 0 refl false no_bytes refl low eight (inl refl) bs ebs ar laid_none c refl v ev)
 
       -- by any plan for a slot
       pub goes_by : (d : Plan) → Does f q c d g (receive_of R l f q c) → d.short ≡ 0 → (b : Bool) → b ≡ ltb (length ar) (used + d.whole) → b ≡ false

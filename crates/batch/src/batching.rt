@@ -18,9 +18,7 @@ use crate::ways::{missed, ran_on, runs_on, short_in};
 use crate::{Batch, BatchError, Taken};
 use assembler::Pool;
 use fast_packet::is_listed;
-use session::{
-    Counters, FRAGMENT_CONSUMED, Head, Heard, MESSAGE_COMPLETE, Mode, POOL_LIMIT, PoolKind, decide,
-};
+use session::{Counters, Head, Heard, Kind, Mode, POOL_LIMIT, PoolKind, decide};
 
 // A blank frame: what the pool is looked at with, before the first.
 fn blank() -> Heard
@@ -33,15 +31,6 @@ fn blank() -> Heard
         part: 0,
         data: [0; 8],
         length: 8,
-    }
-}
-
-fn is_other(kind: PoolKind) -> bool
-    ensures { result ≡ not (same_kind Original kind) }
-{
-    match kind {
-        PoolKind::Original => false,
-        PoolKind::Addressed => true,
     }
 }
 
@@ -61,7 +50,7 @@ fn refusal(
     ensures { result ≡ refusal_of (not (same_kind Original kind) || (found_in (rules_by kind mode) blank_heard size heads).bad) (too_short n pgns sources bytes kinds lengths) }
 {
     let before = walk(kind, mode, heads, size, blank());
-    if is_other(kind) | before.bad {
+    if (kind != PoolKind::Original) | before.bad {
         return Err(BatchError::ImpossiblePool);
     }
     if too_short(n, pgns, sources, bytes, kinds, lengths) {
@@ -151,7 +140,7 @@ pub fn process_frames(
                 };
             }
             deliver_short(arena, used, frame, short);
-            kinds[i] = MESSAGE_COMPLETE;
+            kinds[i] = Kind::MessageComplete.number();
             lengths[i] = short as u8;
             used += short;
             i += 1;
@@ -163,7 +152,7 @@ pub fn process_frames(
             q.heads[g] = ran_on(h, heard);
             lasts[g] = heard.now_ms;
             keep(&mut q.bytes, g, h.current_size, frame);
-            kinds[i] = FRAGMENT_CONSUMED;
+            kinds[i] = Kind::FragmentConsumed.number();
             lengths[i] = 0;
             i += 1;
             continue;

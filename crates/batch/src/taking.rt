@@ -8,7 +8,6 @@ ghost use Rattle.assembler.specs.Making.{pool_bytes};
 ghost use Rattle.session.specs.Kinds.{kind_number};
 
 use crate::bytes::carry;
-use crate::rows::number_of;
 use assembler::POOL_BYTES;
 use session::{Counters, Plan, count};
 
@@ -33,12 +32,9 @@ pub(crate) fn take(
     ensures { (bytes.new ≡ paste bytes.old (g * max_payload + d.at) (drop d.from frame) d.count) × (arena.new ≡ paste arena.old used (drop (g * max_payload) bytes.new) d.whole) × (result.number ≡ kind_number d.kind) × (result.length ≡ d.whole) × (result.counters ≡ raised d.mark counters) }
 {
     carry(bytes, arena, g, used, frame, d.at, d.from, d.count, d.whole);
-    let kind = d.kind;
-    let mark = d.mark;
-    let after = count(counters, mark);
     Told {
-        number: number_of(kind),
+        number: d.kind.number(),
         length: d.whole as u8,
-        counters: after,
+        counters: count(counters, d.mark),
     }
 }

@@ -8,17 +8,17 @@ ghost use Rattle.ffi.specs.inner.Batches.{PoolAfter};
 use assembler::POOL_BYTES;
 use batch::{Batch, BatchError, Taken, process_frames};
 use numbers::{POOL_NUMBERS, counter_numbers, counters_from, pool_from, put_heads};
-use session::IMPOSSIBLE_POOL;
+use session::Kind;
 
 // The refusal of a row that is too short.
 const NO_ROOM: u32 = 27;
 
-#[tactic(auto, unfolding(batch::specs::Rows::of_batched))]
+#[tactic(auto, unfolding(batch::specs::Rows::of_batched, session::specs::Kinds::kind_number))]
 fn refusal_number(error: BatchError) -> u32
     ensures { result ≡ code_of (of_batched (Err error)) }
 {
     match error {
-        BatchError::ImpossiblePool => IMPOSSIBLE_POOL as u32,
+        BatchError::ImpossiblePool => u32::from(Kind::ImpossiblePool.number()),
         BatchError::NoRoom => NO_ROOM,
     }
 }

@@ -15,6 +15,7 @@ use Rattle.builder.specs.declared.FrameIterator.{FrameIterator}
 use Rattle.builder.specs.declared.Next.{Next}
 use Rattle.builder.specs.declared.Item.{Item}
 use Rattle.session.specs.Rules.{silent_by}
+use Rattle.session.specs.declared.Kind.{Kind}
 use Rattle.session.specs.Kinds.{kind_number}
 use Rattle.session.specs.inner.Plan.{plan_of}
 use Rattle.session.specs.declared.Counters.{Counters}
@@ -159,6 +160,7 @@ pub record NoThree : Type 0 where
   pub pool_asked : (wanted mode kind : ℕ) (r : MadePool) → MakesPoolAsked wanted mode kind r → NotThree (code_of (of_made r.result r.pool.size))
   pub leave : (r : Received) (before after : CallMemory) (code : ℕ) → CallLeft r before code after → NotThree code
   pub leave_made : (made : MadePool) (before after : PoolMemory) (code : ℕ) → MadePoolLeft made before code after → NotThree code
+  pub kind_number : (kind : Kind) (n : ℕ) → n ≡ kind_number kind → NotThree n
 
 -- No answer of these is told by a number, which is read off their types and not proved; a 3 that one of them gives is a priority, a count, an address or another
 -- part of what was asked for:

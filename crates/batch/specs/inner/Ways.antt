@@ -1,14 +1,14 @@
 -- The ways that most frames go, as the code tells them apart. Nobody needs to believe these definitions: only the code's own contracts cite them.
-use Rattle.std.specs.Prelude.{ℕ, ◌-◌, Bool, ◌&&◌, replicate, ◌==◌, nat_le, nat_lt, Result, Ok, Err}
+use Rattle.std.specs.Prelude.{ℕ, ◌-◌, Bool, ◌&&◌, replicate, ◌==◌, nat_le, nat_lt, Result, Ok, Err, Some}
 use Rattle.base.specs.Pick.{pick}
 use Rattle.session.specs.declared.Head.{Head}
 use Rattle.session.specs.declared.Heard.{Heard}
 use Rattle.session.specs.declared.Kind.{Kind}
 use Rattle.session.specs.declared.Kind.TheVariants.{NotListed, Rejected, PoolFull, Lost}
-use Rattle.session.specs.declared.Mark.{Mark}
-use Rattle.session.specs.declared.Mark.TheVariants as mark
+use Rattle.session.specs.declared.Counter.TheVariants as counter
 use Rattle.session.specs.Frames.{index_of, size_of, bad_size}
 use Rattle.session.specs.Heads.{in_turn}
+use Rattle.session.specs.Counting.{Mark}
 use Rattle.batch.specs.declared.BatchError.{BatchError}
 use Rattle.batch.specs.declared.BatchError.TheVariants.{ImpossiblePool, NoRoom}
 
@@ -21,7 +21,7 @@ unfoldable pub miss_kind : Bool → Heard → Kind
 miss_kind listed f = pick listed (pick (index_of f == 0) (pick (bad_size f) Rejected PoolFull) Lost) NotListed
 
 unfoldable pub miss_mark : Bool → Heard → Mark
-miss_mark listed f = pick listed (pick (index_of f == 0) (pick (bad_size f) mark.Rejected mark.Exhausted) mark.Lost) mark.Unknown
+miss_mark listed f = pick listed (pick (index_of f == 0) (pick (bad_size f) (Some counter.Rejected) (Some counter.Exhausted)) (Some counter.Lost)) (Some counter.Unknown)
 
 -- the session's next frame, and more than its seven bytes are missing
 unfoldable pub runs_on : Heard → Head → Bool

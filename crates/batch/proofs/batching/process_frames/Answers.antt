@@ -88,7 +88,7 @@ pub loop-i-smaller-then-g-ge-POOL_LIMIT : goal.loop-i-smaller-then-g-ge-POOL_LIM
 loop-i-smaller-then-g-ge-POOL_LIMIT c = nearer _ _ c.loop-i-test.true
 
 pub loop-i-preserved-then-g-ge-POOL_LIMIT : goal.loop-i-preserved-then-g-ge-POOL_LIMIT
-loop-i-preserved-then-g-ge-POOL_LIMIT c = (step_short _ _ _ _ _ _ _ _ _ _ _ _ _ _ _ _ _ _ _ c.loop-i.invariant.0 c.loop-i-test.true _ c.frame_at-heard.ensures _ (looked_right _ _ _ c.loop-i.invariant.1 _ _ _ _ c.looked_up-listed.ensures).0 _ c.key_of_frame-key.ensures _ c.seek-g.ensures c.if-g-ge-POOL_LIMIT.true _ c.short_in-short.ensures.0 c.if-short-eq0.false _ c.no_room.ensures c.if-no_room.false _ c.deliver_short.ensures, (looked_right _ _ _ c.loop-i.invariant.1 _ _ _ _ c.looked_up-listed.ensures).1)
+loop-i-preserved-then-g-ge-POOL_LIMIT c = (step_short _ _ _ _ _ _ _ _ _ _ _ _ _ _ _ _ _ _ _ c.loop-i.invariant.0 c.loop-i-test.true _ c.frame_at-heard.ensures _ (looked_right _ _ _ c.loop-i.invariant.1 _ _ _ _ c.looked_up-listed.ensures).0 _ c.key_of_frame-key.ensures _ c.seek-g.ensures c.if-g-ge-POOL_LIMIT.true _ c.short_in-short.ensures.0 c.if-short-eq0.false _ c.no_room.ensures c.if-no_room.false _ c.deliver_short.ensures _ c.number.ensures, (looked_right _ _ _ c.loop-i.invariant.1 _ _ _ _ c.looked_up-listed.ensures).1)
 
 pub offset_bounds-q-g : goal.offset_bounds-q-g
 offset_bounds-q-g c = record { fits = head_place _ c.if-g-ge-POOL_LIMIT.false }
@@ -127,7 +127,7 @@ pub loop-i-smaller-then-runs_on : goal.loop-i-smaller-then-runs_on
 loop-i-smaller-then-runs_on c = nearer _ _ c.loop-i-test.true
 
 pub loop-i-preserved-then-runs_on : goal.loop-i-preserved-then-runs_on
-loop-i-preserved-then-runs_on c = (step_running _ _ _ _ _ _ _ _ _ _ _ _ _ _ _ _ _ _ _ c.loop-i.invariant.0 c.loop-i-test.true _ c.frame_at-heard.ensures _ (looked_right _ _ _ c.loop-i.invariant.1 _ _ _ _ c.looked_up-listed.ensures).0 _ c.key_of_frame-key.ensures _ c.seek-g.ensures c.if-g-ge-POOL_LIMIT.false _ _ c.runs_on.ensures c.if-runs_on.true _ c.ran_on.ensures _ c.keep.ensures, (looked_right _ _ _ c.loop-i.invariant.1 _ _ _ _ c.looked_up-listed.ensures).1)
+loop-i-preserved-then-runs_on c = (step_running _ _ _ _ _ _ _ _ _ _ _ _ _ _ _ _ _ _ _ c.loop-i.invariant.0 c.loop-i-test.true _ c.frame_at-heard.ensures _ (looked_right _ _ _ c.loop-i.invariant.1 _ _ _ _ c.looked_up-listed.ensures).0 _ c.key_of_frame-key.ensures _ c.seek-g.ensures c.if-g-ge-POOL_LIMIT.false _ _ c.runs_on.ensures c.if-runs_on.true _ c.ran_on.ensures _ c.keep.ensures _ c.number-then-runs_on.ensures, (looked_right _ _ _ c.loop-i.invariant.1 _ _ _ _ c.looked_up-listed.ensures).1)
 
 pub shape_of-kinds-then-no_room-2 : goal.shape_of-kinds-then-no_room-2
 shape_of-kinds-then-no_room-2 c = search (rules, c.loop-i.invariant.0.run.kinds)
