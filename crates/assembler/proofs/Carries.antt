@@ -21,7 +21,7 @@ use Rattle.session.specs.declared.Found.{Found}
 use Rattle.session.specs.declared.Plan.{Plan}
 use Rattle.session.specs.declared.Counters.{Counters}
 use Rattle.session.specs.declared.Kind.TheVariants.{ImpossiblePool}
-use Rattle.session.specs.declared.Mark.TheVariants.{Nothing}
+use Rattle.std.specs.Prelude.{None}
 use Rattle.session.specs.Rules.{Rules, pool_limit}
 use Rattle.session.specs.Frames.{index_of, size_of, first_bytes, next_bytes, is_empty, bad_first}
 use Rattle.session.specs.Heads.{impossible_head, has_key, is_free, is_free_of_source, has_live_key, is_silent, is_expired, is_next, opened_head, reset_head, wanted, copied_head, all_there}
@@ -86,7 +86,7 @@ module _ (R : Rules) (f : Heard) (p : Pool) (k : Counters) (w : Whole p) (eight 
         is = rw (said, kept, set-get_or p.heads g d, sym (copy_none p.bytes (g * 223 + 0)), view_same p w);
       }
 
-  does_refused : (g : ℕ) → Does f p k (idle ImpossiblePool Nothing (get_or p.heads g d)) g (shown p.kind p.mode (record { reply = refuses 1 []; pool = slots_of p; counters = k }))
+  does_refused : (g : ℕ) → Does f p k (idle ImpossiblePool None (get_or p.heads g d)) g (shown p.kind p.mode (record { reply = refuses 1 []; pool = slots_of p; counters = k }))
   unfolding idle carried shown reply_kind pick reply_payload reply_length zeros raised
   does_refused g =
       record {

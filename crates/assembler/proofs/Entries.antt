@@ -18,6 +18,8 @@ use Rattle.can_id.specs.Read.{parts_of, read_of}
 use Rattle.session.specs.declared.Counters.{Counters}
 use Rattle.session.specs.declared.Heard.{Heard}
 use Rattle.session.specs.declared.Kind.TheVariants.{ImpossiblePool}
+use denote.Enum.Bare.{sameb}
+use Rattle.session.specs.contracts.PoolKind.{the_type}
 use Rattle.session.specs.declared.PoolKind.{PoolKind}
 use Rattle.session.specs.declared.PoolKind.TheVariants.{Original, Addressed}
 use Rattle.session.specs.Rules.{part_allowed, rules_by}
@@ -173,29 +175,27 @@ pub cut_heard : (n : ℕ) (a : Answer Heard) (f g : Heard) → gives f ≡ a →
 unfolding all_cut_to
 cut_heard n a f g e eg = rw (← e, eg)
 
-pub original_is : (kind : PoolKind) → kind ≡ Original → true ≡ same_kind Original kind
+-- the derived test of kinds is the definition's
+pub equal_kinds : (a b : PoolKind) → sameb the_type a b ≡ same_kind a b
 unfolding same_kind
-original_is kind e = rw e
+equal_kinds Original Original = refl
+equal_kinds Original Addressed = refl
+equal_kinds Addressed Original = refl
+equal_kinds Addressed Addressed = refl
 
-pub original_not : (kind : PoolKind) → kind ≡ Addressed → false ≡ same_kind Original kind
-unfolding same_kind
-original_not kind e = rw e
+module _ (pgns : List ℕ) (entry : PoolKind) (p : Pool) (k : Counters) (f : Heard) (t : Bool) (et : t ≡ not (sameb the_type entry p.kind)) (r : Received) where
+  kinds_differ : t ≡ true → same_kind entry p.kind ≡ false
+  kinds_differ y = sym (equal_kinds entry p.kind) ∙ not-true _ (sym et ∙ y)
 
-pub same_original : (a b : PoolKind) (t : Bool) → a ≡ Original → t ≡ same_kind Original b → t ≡ same_kind a b
-same_original a b t e et = rw e et
+  kinds_agree : t ≡ false → same_kind entry p.kind ≡ true
+  kinds_agree y = sym (equal_kinds entry p.kind) ∙ not-false _ (sym et ∙ y)
 
-pub same_addressed : (a b : PoolKind) (t : Bool) → a ≡ Addressed → t ≡ same_kind Original b → not t ≡ same_kind a b
-unfolding same_kind
-same_addressed a Original t e et = rw (e, et)
-same_addressed a Addressed t e et = rw (e, et)
-
-module _ (pgns : List ℕ) (entry : PoolKind) (p : Pool) (k : Counters) (f : Heard) (t : Bool) (et : t ≡ same_kind entry p.kind) (r : Received) where
-  pub at_other : not t ≡ true → r ≡ refused_as ImpossiblePool p k → r ≡ answer_to pgns (entered entry p (gives f)) p k
+  pub at_other : t ≡ true → r ≡ refused_as ImpossiblePool p k → r ≡ answer_to pgns (entered entry p (gives f)) p k
   unfolding entered pick
-  at_other y e = e ∙ rw (← et, not-true t y) (sym (unfold reply_kind pick in answer_refused pgns p k 1 []))
+  at_other y e = e ∙ rw (kinds_differ y) (sym (unfold reply_kind pick in answer_refused pgns p k 1 []))
 
-  pub at_own : not t ≡ false → r ≡ receive_of (rules_of p) pgns f p k → r ≡ answer_to pgns (entered entry p (gives f)) p k
+  pub at_own : t ≡ false → r ≡ receive_of (rules_of p) pgns f p k → r ≡ answer_to pgns (entered entry p (gives f)) p k
   unfolding entered pick
-  at_own y e = e ∙ rw (← et, not-false t y) (sym (answer_steps pgns p k f))
+  at_own y e = e ∙ rw (kinds_agree y) (sym (answer_steps pgns p k f))
 
-pub ruleset entering = (part_none, part_to, cut_heard, original_is, original_not, same_original, same_addressed, at_other, at_own)
+pub ruleset entering = (part_none, part_to, cut_heard, at_other, at_own)

@@ -1,17 +1,16 @@
 -- One call, by document 01's steps: what happens (the event, and at which slot), what that does to the slots, which counter it marks, and what is answered.
-use Rattle.std.specs.Prelude.{Bool, true, false, List, [], ◌++◌, ℕ, ◌-◌, length, take, drop, set, replicate, eqb, leb}
+use Rattle.std.specs.Prelude.{Some, None, Bool, true, false, List, [], ◌++◌, ℕ, ◌-◌, length, take, drop, set, replicate, eqb, leb}
 use Rattle.std.proofs.Math.Option.{Option, none, some}
 use Rattle.base.specs.Answer.{Answer, gives, refuses}
 use Rattle.base.specs.Pick.{pick}
 use Rattle.fast_packet.specs.FastPacket.{max_payload}
 use Rattle.session.specs.declared.Heard.{Heard}
 use Rattle.session.specs.declared.Counters.{Counters}
-use Rattle.session.specs.declared.Mark.{Mark}
-use Rattle.session.specs.declared.Mark.TheVariants.{Nothing, Exhausted, Rejected, Lost, Unknown}
+use Rattle.session.specs.declared.Counter.TheVariants.{Exhausted, Rejected, Lost, Unknown}
 use Rattle.session.specs.Rules.{Rules}
 use Rattle.session.specs.Frames.{index_of, size_of, first_bytes, is_empty, bad_first}
 use Rattle.session.specs.Heads.{is_expired, is_next, copied_head, all_there}
-use Rattle.session.specs.Counting.{raised, expired_mark}
+use Rattle.session.specs.Counting.{Mark, raised, expired_mark}
 use Rattle.assembler.specs.Call.{Call, listed}
 use Rattle.assembler.specs.Slots.{Slot, Slots, within, slot_at, impossible, chosen, live, opened_slot, reset_slot, copied_slot}
 
@@ -72,15 +71,15 @@ slots_after f ss (completed i) = set ss i (reset_slot (copied_slot f (slot_at ss
 -- ---- which counter it marks
 
 unfoldable pub mark_of : Event → Mark
-mark_of not_listed = Unknown
-mark_of rejected = Rejected
-mark_of short_message = Nothing
-mark_of pool_full = Exhausted
+mark_of not_listed = Some Unknown
+mark_of rejected = Some Rejected
+mark_of short_message = None
+mark_of pool_full = Some Exhausted
 mark_of (opened i late) = expired_mark late
-mark_of stray = Lost
-mark_of (broken i) = Lost
-mark_of (copied i) = Nothing
-mark_of (completed i) = Nothing
+mark_of stray = Some Lost
+mark_of (broken i) = Some Lost
+mark_of (copied i) = None
+mark_of (completed i) = None
 
 -- ---- what is answered
 

@@ -3,8 +3,7 @@ ghost use Rattle.std.specs.Prelude.{◌≡◌};
 ghost use Rattle.base.specs.Pick.{pick};
 ghost use Rattle.assembler.specs.View.{receive_of};
 ghost use Rattle.base.specs.Answer.{gives};
-ghost use Rattle.session.specs.declared.PoolKind.TheVariants.{Original};
-ghost use Rattle.assembler.specs.Promises.{rules_of, same_kind, entered, answer_to, Receives, ReceivesWithLength, ReceivesById, ReceivesByIdWithLength};
+ghost use Rattle.assembler.specs.Promises.{rules_of, entered, answer_to, Receives, ReceivesWithLength, ReceivesById, ReceivesByIdWithLength};
 ghost use Rattle.assembler.specs.inner.Forms.{refused_as};
 
 use crate::arrivals::{heard_from, heard_from_with_length, heard_of, heard_with_length};
@@ -63,24 +62,6 @@ fn receive_heard(pool: Pool, counters: Counters, pgns: &[u32], heard: Heard) -> 
 
 // ---- the entries
 
-fn is_original(kind: PoolKind) -> bool
-    ensures { result ≡ same_kind Original kind }
-{
-    match kind {
-        PoolKind::Original => true,
-        PoolKind::Addressed => false,
-    }
-}
-
-fn same_kind(a: PoolKind, b: PoolKind) -> bool
-    ensures { result ≡ same_kind a b }
-{
-    match a {
-        PoolKind::Original => is_original(b),
-        PoolKind::Addressed => !is_original(b),
-    }
-}
-
 // A call that is refused at its entry leaves pool and counters as they are.
 fn refused(kind: Kind, pool: Pool, counters: Counters) -> Received
     ensures { result ≡ refused_as kind pool counters }
@@ -95,6 +76,7 @@ fn refused(kind: Kind, pool: Pool, counters: Counters) -> Received
 }
 
 // One call at the entry of a kind; a pool of the other kind is refused there.
+#[tactic(auto, using(crate::proofs::Entries::at_other, crate::proofs::Entries::at_own))]
 fn receive_at(
     entry: PoolKind,
     pool: Pool,
@@ -104,8 +86,7 @@ fn receive_at(
 ) -> Received
     ensures { result ≡ answer_to pgns.now (entered entry pool (gives heard)) pool counters }
 {
-    let kind = pool.kind;
-    if !same_kind(entry, kind) {
+    if entry != pool.kind {
         return refused(Kind::ImpossiblePool, pool, counters);
     }
     receive_heard(pool, counters, pgns, heard)

@@ -15,9 +15,9 @@ use Rattle.session.specs.declared.Mode.{Mode}
 use Rattle.session.specs.declared.PoolKind.{PoolKind}
 use Rattle.session.specs.declared.PoolKind.TheVariants.{Original, Addressed}
 use Rattle.session.specs.declared.Kind.{Kind}
-use Rattle.session.specs.declared.Mark.{Mark}
+use Rattle.session.specs.declared.Kind.TheVariants.{FragmentConsumed, MessageComplete}
 use Rattle.session.specs.Heads.{impossible_head, copied_head}
-use Rattle.session.specs.Counting.{raised}
+use Rattle.session.specs.Counting.{Mark, raised}
 use Rattle.session.specs.inner.Search.{nothing_found, seen_if, found_in}
 use Rattle.session.specs.inner.Plan.{idle}
 use Rattle.session.proofs.Seen.{seen_bad}
@@ -31,8 +31,9 @@ use Rattle.assembler.specs.Promises.{same_kind}
 use Rattle.assembler.proofs.Views.{Whole, any_view}
 use Rattle.assembler.proofs.Carries.{carried, Does, slot_long}
 use Rattle.batch.proofs.WayLaws.{short_plan, run_plan}
-use Rattle.batch.specs.declared.Batched.{Batched}
-use Rattle.batch.specs.inner.Ways.{refusal_of, is_refused}
+use Rattle.std.specs.Prelude.{Result, Ok, Err, is_err}
+use Rattle.batch.specs.declared.BatchError.{BatchError}
+use Rattle.batch.specs.inner.Ways.{refusal_of}
 use Rattle.batch.specs.Lengths.{too_short}
 use Rattle.batch.specs.Rows.{Rows, frame_in_rows, refuses_pool, Run, empty_run, took, answer_in, run_from, run_of, BatchLeft, over, leaves, refused_by, batch_of, of_batched}
 
@@ -296,20 +297,20 @@ module _ (R : Rules) (l : List ℕ) (w : Rows) (p : Pool) (k : Counters) (ks₀ 
 
       -- a message in one frame
       pub goes_short : (n : ℕ) → Does f q c (short_plan f (get_or q.heads g e) n) g (receive_of R l f q c) → (b : Bool) → b ≡ ltb (length ar) (used + n) → b ≡ false
-          → (ar' : List ℕ) → ar' ≡ paste ar used (drop 2 f.«data») n → Running (set ks i 103) (set ls i n) ar' q c (used + n) (i + 1)
-      unfolding short_plan kind_number raised
-      goes_short n does b eb y ar' ear =
-          goes_past lt f ef (short_plan f (get_or q.heads g e) n) g does n (sym (zero-add n)) b eb y low eight e (record { head = refl; count = refl; whole = refl }) ar' ear c refl 103 refl
+          → (ar' : List ℕ) → ar' ≡ paste ar used (drop 2 f.«data») n → (v : ℕ) → v ≡ kind_number MessageComplete → Running (set ks i v) (set ls i n) ar' q c (used + n) (i + 1)
+      unfolding short_plan raised
+      goes_short n does b eb y ar' ear v ev =
+          goes_past lt f ef (short_plan f (get_or q.heads g e) n) g does n (sym (zero-add n)) b eb y low eight e (record { head = refl; count = refl; whole = refl }) ar' ear c refl v ev
 
       -- seven bytes more
       pub goes_running : Does f q c (run_plan f (get_or q.heads g e)) g (receive_of R l f q c) → (t : Head) → t ≡ copied_head f (get_or q.heads g e)
           → (bs : List ℕ) → bs ≡ paste q.bytes (g * 223 + (get_or q.heads g e).current_size) (drop 1 f.«data») 7
-          → Running (set ks i 102) (set ls i 0) ar (record { kind = q.kind; mode = q.mode; size = q.size; heads = set q.heads g t; bytes = bs }) c used (i + 1)
-      unfolding run_plan kind_number raised
-      goes_running does t et bs ebs =
+          → (v : ℕ) → v ≡ kind_number FragmentConsumed → Running (set ks i v) (set ls i 0) ar (record { kind = q.kind; mode = q.mode; size = q.size; heads = set q.heads g t; bytes = bs }) c used (i + 1)
+      unfolding run_plan raised
+      goes_running does t et bs ebs v ev =
           let laid_none : ar ≡ paste (paste ar used (drop (g * 223) bs) 0) used (drop 2 f.«data») 0 = paste-zero ar used (drop (g * 223) bs) ∙ paste-zero (paste ar used (drop (g * 223) bs) 0) used (drop 2 f.«data») in
           rw (add-zero used, ← et) at
-          (goes_on lt f ef (run_plan f (get_or q.heads g e)) g does 0 refl false no_bytes refl low eight (inl refl) bs ebs ar laid_none c refl 102 refl)
+          (goes_on lt f ef (run_plan f (get_or q.heads g e)) g does 0 refl false no_bytes refl low eight (inl refl) bs ebs ar laid_none c refl v ev)
 
       -- by any plan for a slot
       pub goes_by : (d : Plan) → Does f q c d g (receive_of R l f q c) → d.short ≡ 0 → (b : Bool) → b ≡ ltb (length ar) (used + d.whole) → b ≡ false
@@ -333,6 +334,16 @@ module _ (R : Rules) (l : List ℕ) (w : Rows) (p : Pool) (k : Counters) (ks₀ 
 
 -- ---- the call's ways out
 
+err_same : {d e : BatchError} → ◌≡◌ {A = Result Unit BatchError} (Err d) (Err e) → d ≡ e
+err_same {d} h = ap (λ (r : Result Unit BatchError). either r) h
+  where
+    either : Result Unit BatchError → BatchError
+    either (Ok u) = d
+    either (Err e) = e
+
+err≢ok : {d : BatchError} → ◌≡◌ {A = Result Unit BatchError} (Err d) (Ok tt) → ⊥
+err≢ok h = true≢false (ap is_err h)
+
 is_original : (kind : PoolKind) → not (same_kind Original kind) ≡ false → kind ≡ Original
 unfolding same_kind
 is_original Original e = refl
@@ -347,26 +358,26 @@ module _ (R : Rules) (l : List ℕ) (w : Rows) (p : Pool) (k : Counters) (ks ls 
   abbrev short : Bool
   short = too_short (length w.times) (length w.pgns) (length w.sources) (length w.bytes) (length ks) (length ls)
 
-  module _ (limit : R.limit ≡ pool_limit) (f : Heard) (r : Batched) (said : r ≡ refusal_of (not (same_kind Original p.kind) || (found_in R f p.size p.heads).bad) short) where
+  module _ (limit : R.limit ≡ pool_limit) (f : Heard) (r : Result Unit BatchError) (said : r ≡ refusal_of (not (same_kind Original p.kind) || (found_in R f p.size p.heads).bad) short) where
     er : r ≡ refusal_of (refuses_pool R p) short
     unfolding refuses_pool
     er = said ∙ rw (looked_at R f p limit)
 
-    pub gives_refused : is_refused r ≡ true → record { answer = of_batched r 0; used = 0; counters = k; pool = p; kinds = ks; lengths = ls; arena = ar } ≡ batch_of R l w p k ks ls ar
-    unfolding batch_of refused_by refusal_of is_refused of_batched pick
-    gives_refused y = go (refuses_pool R p) short er
+    pub gives_refused : (e : BatchError) → r ≡ Err e → record { answer = of_batched (Err e); used = 0; counters = k; pool = p; kinds = ks; lengths = ls; arena = ar } ≡ batch_of R l w p k ks ls ar
+    unfolding batch_of refused_by refusal_of of_batched pick
+    gives_refused err y = go (refuses_pool R p) short (sym y ∙ er)
       where
-        go : (b s : Bool) → r ≡ refusal_of b s
-            → record { answer = of_batched r 0; used = 0; counters = k; pool = p; kinds = ks; lengths = ls; arena = ar } ≡ pick b (refused_by 1 p k ks ls ar) (pick s (refused_by 27 p k ks ls ar) (leaves (run_of R l w (length ar) p k) ks ls ar))
-        go true s e = rw e
-        go false true e = rw e
-        go false false e = absurd (true≢false (sym y ∙ ap is_refused e))
+        go : (b s : Bool) → Err err ≡ refusal_of b s
+            → record { answer = of_batched (Err err); used = 0; counters = k; pool = p; kinds = ks; lengths = ls; arena = ar } ≡ pick b (refused_by 1 p k ks ls ar) (pick s (refused_by 27 p k ks ls ar) (leaves (run_of R l w (length ar) p k) ks ls ar))
+        go true s e = rw (err_same e)
+        go false true e = rw (err_same e)
+        go false false e = absurd (err≢ok e)
 
-    module _ (z : is_refused r ≡ false) where
+    module _ (z : (e : BatchError) → r ≡ Err e → ⊥) where
       unrefused : (b s : Bool) → r ≡ refusal_of b s → (b ≡ false) × (s ≡ false)
-      unfolding refusal_of is_refused pick
-      unrefused true s e = absurd (true≢false (sym (ap is_refused e) ∙ z))
-      unrefused false true e = absurd (true≢false (sym (ap is_refused e) ∙ z))
+      unfolding refusal_of pick
+      unrefused true s e = absurd (z _ e)
+      unrefused false true e = absurd (z _ e)
       unrefused false false e = (refl, refl)
 
       pub possible : impossible R (slots_of p) ≡ false

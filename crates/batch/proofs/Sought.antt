@@ -12,8 +12,9 @@ use Rattle.session.specs.declared.Head.{Head}
 use Rattle.session.specs.declared.Plan.{Plan}
 use Rattle.session.specs.declared.Kind.{Kind}
 use Rattle.session.specs.declared.Kind.TheVariants.{NotListed, Rejected}
-use Rattle.session.specs.declared.Mark.{Mark}
-use Rattle.session.specs.declared.Mark.TheVariants as mark
+use Rattle.session.specs.Counting.{Mark}
+use Rattle.std.specs.Prelude.{Some}
+use Rattle.session.specs.declared.Counter.TheVariants as counter
 use Rattle.session.specs.declared.Counters.{Counters}
 use Rattle.session.specs.declared.Mode.{Mode}
 use Rattle.session.specs.declared.PoolKind.{PoolKind}
@@ -256,12 +257,12 @@ module _ (kind : PoolKind) (mode : Mode) (l : List ℕ) (f : Heard) (p : Pool) (
 
   at_unlisted : (i : ℕ) → At false real → At false i
   unfolding plan_of plan_listed
-  at_unlisted i x = moves f p k e (still_idle f p k e NotListed mark.Unknown) (within_limit real) (within_limit i) x
+  at_unlisted i x = moves f p k e (still_idle f p k e NotListed (Some counter.Unknown)) (within_limit real) (within_limit i) x
 
   at_rejected : (i : ℕ) → eqb (index_of f) 0 ≡ true → bad_size f ≡ true → At true real → At true i
   unfolding plan_of plan_listed plan_sent plan_index plan_first plan_sized
   at_rejected i z b x =
-      rw (eight_sent f all, z, eight_bad f all, b) (moves f p k e (still_idle f p k e Rejected mark.Rejected) (within_limit real) (within_limit i) (rw (eight_sent f all, z, eight_bad f all, b) at x))
+      rw (eight_sent f all, z, eight_bad f all, b) (moves f p k e (still_idle f p k e Rejected (Some counter.Rejected)) (within_limit real) (within_limit i) (rw (eight_sent f all, z, eight_bad f all, b) at x))
 
   at_short : (i : ℕ) → eqb (index_of f) 0 ≡ true → bad_size f ≡ false → leb (size_of f) 6 ≡ true → At true real → At true i
   unfolding plan_of plan_listed plan_sent plan_index plan_first plan_sized plan_short

@@ -10,6 +10,7 @@ use Rattle.session.specs.declared.Plan.{Plan}
 use Rattle.session.specs.declared.Counters.{Counters}
 use Rattle.session.specs.Kinds.{kind_number}
 use Rattle.session.specs.declared.Mode.{Mode}
+use Rattle.session.specs.declared.Kind.TheVariants.{FragmentConsumed, MessageComplete}
 use Rattle.session.specs.declared.PoolKind.{PoolKind}
 use Rattle.session.specs.declared.PoolKind.TheVariants.{Original}
 use Rattle.session.specs.Rules.{rules_by, pool_limit, silent_by}
@@ -74,11 +75,11 @@ module _ (kind : PoolKind) (mode : Mode) (l : List ℕ) (w : Rows) (p₀ : Pool)
             let does = seeks_short kind mode l f q c s.run.whole long all fresh_head s.possible keys owners lasts s.mirrors keyed t et key ek.0 g eg past n en some in
             stops_short (rules_by kind mode) l w p₀ k₀ ks₀ ls₀ ar₀ ks ls ar q c used i s.run turn f row 0 (omega arith) long fresh_head n does b eb y
 
-        pub step_short : b ≡ false → (ar' : List ℕ) → ar' ≡ paste ar used (drop 2 f.«data») n → Stands (set ks i 103) (set ls i n) ar' q keys owners lasts c (used + n) (i + 1)
-        step_short y ar' ear =
+        pub step_short : b ≡ false → (ar' : List ℕ) → ar' ≡ paste ar used (drop 2 f.«data») n → (v : ℕ) → v ≡ kind_number MessageComplete → Stands (set ks i v) (set ls i n) ar' q keys owners lasts c (used + n) (i + 1)
+        step_short y ar' ear v ev =
             let does = seeks_short kind mode l f q c s.run.whole long all fresh_head s.possible keys owners lasts s.mirrors keyed t et key ek.0 g eg past n en some in
             record {
-              run = goes_short (rules_by kind mode) l w p₀ k₀ ks₀ ls₀ ar₀ ks ls ar q c used i s.run turn f row 0 (omega arith) long fresh_head n does b eb y ar' ear;
+              run = goes_short (rules_by kind mode) l w p₀ k₀ ks₀ ls₀ ar₀ ks ls ar q c used i s.run turn f row 0 (omega arith) long fresh_head n does b eb y ar' ear v ev;
               own = s.own;
               possible = s.possible;
               mirrors = s.mirrors;
@@ -95,10 +96,10 @@ module _ (kind : PoolKind) (mode : Mode) (l : List ℕ) (w : Rows) (p₀ : Pool)
         runs_fit = runs.fits.room
 
         pub step_running : (h : Head) → h ≡ copied_head f (get_or q.heads g e) → (bs : List ℕ) → bs ≡ paste q.bytes (g * 223 + (get_or q.heads g e).current_size) (drop 1 f.«data») 7
-            → Stands (set ks i 102) (set ls i 0) ar (record { kind = q.kind; mode = q.mode; size = q.size; heads = set q.heads g h; bytes = bs }) keys owners (set lasts g f.now_ms) c used (i + 1)
-        step_running h eh bs ebs =
+            → (v : ℕ) → v ≡ kind_number FragmentConsumed → Stands (set ks i v) (set ls i 0) ar (record { kind = q.kind; mode = q.mode; size = q.size; heads = set q.heads g h; bytes = bs }) keys owners (set lasts g f.now_ms) c used (i + 1)
+        step_running h eh bs ebs v ev =
             record {
-              run = goes_running (rules_by kind mode) l w p₀ k₀ ks₀ ls₀ ar₀ ks ls ar q c used i s.run turn f row g low long e runs h eh bs ebs;
+              run = goes_running (rules_by kind mode) l w p₀ k₀ ks₀ ls₀ ar₀ ks ls ar q c used i s.run turn f row g low long e runs h eh bs ebs v ev;
               own = s.own;
               possible = runs_possible kind mode l f q c s.run.whole long ek.1.byte fits s.possible e g runs h eh bs ebs;
               mirrors = mirrors_run q.heads keys owners lasts f e g low h eh s.run.whole.heads s.mirrors;

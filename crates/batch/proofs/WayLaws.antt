@@ -6,8 +6,9 @@ use Rattle.session.specs.declared.Heard.{Heard}
 use Rattle.session.specs.declared.Head.{Head}
 use Rattle.session.specs.declared.Plan.{Plan}
 use Rattle.session.specs.declared.Counters.{Counters}
-use Rattle.session.specs.declared.Kind.TheVariants.{Rejected, PoolFull, Lost, FragmentConsumed, MessageComplete}
-use Rattle.session.specs.declared.Mark.TheVariants as mark
+use Rattle.session.specs.declared.Kind.TheVariants.{NotListed, Rejected, PoolFull, Lost, FragmentConsumed, MessageComplete}
+use Rattle.std.specs.Prelude.{Some, None}
+use Rattle.session.specs.declared.Counter.TheVariants as counter
 use Rattle.session.specs.Frames.{index_of, size_of, bad_size}
 use Rattle.session.specs.Heads.{in_turn, wanted, copied_head, all_there}
 use Rattle.session.specs.Counting.{raised}
@@ -29,7 +30,7 @@ module _ (listed : Bool) (f : Heard) where
   unfolding short_in pick
   short_unlisted e = (rw (not-true listed e), omega arith)
 
-  pub miss_unlisted : (c : Counters) (r : Untaken) → not listed ≡ true → (r.number ≡ 104) × (r.counters ≡ raised mark.Unknown c) → MissedBy listed f c r
+  pub miss_unlisted : (c : Counters) (r : Untaken) → not listed ≡ true → (r.number ≡ kind_number NotListed) × (r.counters ≡ raised (Some counter.Unknown) c) → MissedBy listed f c r
   unfolding miss_kind miss_mark kind_number pick
   miss_unlisted c r e er = rw (not-true listed e) er
 
@@ -38,7 +39,7 @@ module _ (listed : Bool) (f : Heard) where
     unfolding short_in pick index_of
     short_next z = (rw (not-false listed e, ne_eqb (get_or f.«data» 0 0 % 32) 0 z), omega arith)
 
-    pub miss_next : (c : Counters) (r : Untaken) → (get_or f.«data» 0 0 % 32 ≡ 0 → ⊥) → (r.number ≡ 107) × (r.counters ≡ raised mark.Lost c) → MissedBy listed f c r
+    pub miss_next : (c : Counters) (r : Untaken) → (get_or f.«data» 0 0 % 32 ≡ 0 → ⊥) → (r.number ≡ kind_number Lost) × (r.counters ≡ raised (Some counter.Lost) c) → MissedBy listed f c r
     unfolding miss_kind miss_mark kind_number pick index_of
     miss_next c r z er = rw (not-false listed e, ne_eqb (get_or f.«data» 0 0 % 32) 0 z) er
 
@@ -52,15 +53,15 @@ module _ (listed : Bool) (f : Heard) where
       short_over l = (rw (not-false listed e, eq-eqb (get_or f.«data» 0 0 % 32) 0 z, lt-leb (get_or f.«data» 1 0) 6 l), omega arith)
 
       module _ (c : Counters) (r : Untaken) where
-        pub miss_none : get_or f.«data» 1 0 ≡ 0 → (r.number ≡ 105) × (r.counters ≡ raised mark.Rejected c) → MissedBy listed f c r
+        pub miss_none : get_or f.«data» 1 0 ≡ 0 → (r.number ≡ kind_number Rejected) × (r.counters ≡ raised (Some counter.Rejected) c) → MissedBy listed f c r
         unfolding miss_kind miss_mark kind_number pick index_of bad_size size_of
         miss_none s er = rw (not-false listed e, eq-eqb (get_or f.«data» 0 0 % 32) 0 z, eq-eqb (get_or f.«data» 1 0) 0 s) er
 
-        pub miss_over : (get_or f.«data» 1 0 ≡ 0 → ⊥) → 223 < get_or f.«data» 1 0 → (r.number ≡ 105) × (r.counters ≡ raised mark.Rejected c) → MissedBy listed f c r
+        pub miss_over : (get_or f.«data» 1 0 ≡ 0 → ⊥) → 223 < get_or f.«data» 1 0 → (r.number ≡ kind_number Rejected) × (r.counters ≡ raised (Some counter.Rejected) c) → MissedBy listed f c r
         unfolding miss_kind miss_mark kind_number pick index_of bad_size size_of
         miss_over s l er = rw (not-false listed e, eq-eqb (get_or f.«data» 0 0 % 32) 0 z, ne_eqb (get_or f.«data» 1 0) 0 s, lt-ltb 223 (get_or f.«data» 1 0) l) er
 
-        pub miss_full : (get_or f.«data» 1 0 ≡ 0 → ⊥) → get_or f.«data» 1 0 ≤ 223 → (r.number ≡ 106) × (r.counters ≡ raised mark.Exhausted c) → MissedBy listed f c r
+        pub miss_full : (get_or f.«data» 1 0 ≡ 0 → ⊥) → get_or f.«data» 1 0 ≤ 223 → (r.number ≡ kind_number PoolFull) × (r.counters ≡ raised (Some counter.Exhausted) c) → MissedBy listed f c r
         unfolding miss_kind miss_mark kind_number pick index_of bad_size size_of
         miss_full s l er = rw (not-false listed e, eq-eqb (get_or f.«data» 0 0 % 32) 0 z, ne_eqb (get_or f.«data» 1 0) 0 s, le-ltb 223 (get_or f.«data» 1 0) l) er
 
@@ -85,18 +86,18 @@ pub ruleset ways = (short_unlisted, miss_unlisted, short_next, miss_next, short_
 module _ (f : Heard) (h : Head) where
   -- a message in one frame
   unfoldable pub short_plan : ℕ → Plan
-  short_plan n = record { kind = MessageComplete; mark = mark.Nothing; head = h; at = 0; from = 0; count = 0; whole = 0; short = n }
+  short_plan n = record { kind = MessageComplete; mark = None; head = h; at = 0; from = 0; count = 0; whole = 0; short = n }
 
   -- seven bytes more
   unfoldable pub run_plan : Plan
-  run_plan = record { kind = FragmentConsumed; mark = mark.Nothing; head = copied_head f h; at = h.current_size; from = 1; count = 7; whole = 0; short = 0 }
+  run_plan = record { kind = FragmentConsumed; mark = None; head = copied_head f h; at = h.current_size; from = 1; count = 7; whole = 0; short = 0 }
 
 module _ (S : Silent) (f : Heard) (h : Head) where
   none_bad : 0 ≡ size_of f → bad_size f ≡ true
   unfolding bad_size
   none_bad z = rw (eq-eqb (size_of f) 0 (sym z))
 
-  miss_sized : (b s : Bool) → bad_size f ≡ b → leb (size_of f) 6 ≡ s → 0 ≡ pick s (size_of f) 0 → plan_sized b false S f h ≡ idle (pick b Rejected PoolFull) (pick b mark.Rejected mark.Exhausted) h
+  miss_sized : (b s : Bool) → bad_size f ≡ b → leb (size_of f) 6 ≡ s → 0 ≡ pick s (size_of f) 0 → plan_sized b false S f h ≡ idle (pick b Rejected PoolFull) (pick b (Some counter.Rejected) (Some counter.Exhausted)) h
   unfolding plan_sized plan_short plan_open pick
   miss_sized true s eb es z = refl
   miss_sized false true eb es z = absurd (true≢false (sym (none_bad z) ∙ eb))
@@ -135,7 +136,7 @@ module _ (f : Heard) (h : Head) where
 module _ (S : Silent) (f : Heard) (all : f.length ≡ 8) (h : Head) where
   -- no slot and no message: a counter, and nothing else
   miss_index : (b : Bool) → eqb (index_of f) 0 ≡ b → 0 ≡ pick b (pick (leb (size_of f) 6) (size_of f) 0) 0 → plan_index b false S f h
-      ≡ idle (pick b (pick (bad_size f) Rejected PoolFull) Lost) (pick b (pick (bad_size f) mark.Rejected mark.Exhausted) mark.Lost) h
+      ≡ idle (pick b (pick (bad_size f) Rejected PoolFull) Lost) (pick b (pick (bad_size f) (Some counter.Rejected) (Some counter.Exhausted)) (Some counter.Lost)) h
   unfolding plan_index plan_first plan_next pick
   miss_index true eb z = rw (eight_bad f all) (miss_sized S f h (bad_size f) (leb (size_of f) 6) refl refl z)
   miss_index false eb z = refl

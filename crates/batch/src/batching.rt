@@ -6,7 +6,7 @@ ghost use Rattle.session.specs.inner.Search.{found_in};
 ghost use Rattle.assembler.specs.Promises.{same_kind};
 ghost use Rattle.batch.specs.Lengths.{too_short};
 ghost use Rattle.batch.specs.Rows.{Batches};
-ghost use Rattle.batch.specs.inner.Ways.{blank_heard, refusal_of, is_refused};
+ghost use Rattle.batch.specs.inner.Ways.{blank_heard, refusal_of};
 
 use crate::bytes::{deliver_short, keep};
 use crate::list_memory::{PLACES, looked_up};
@@ -15,12 +15,10 @@ use crate::rows::frame_at;
 use crate::search::{key_of, key_of_frame, mirror_of, seek, walk};
 use crate::taking::take;
 use crate::ways::{missed, ran_on, runs_on, short_in};
-use crate::{Batch, Batched};
+use crate::{Batch, BatchError, Taken};
 use assembler::Pool;
 use fast_packet::is_listed;
-use session::{
-    Counters, FRAGMENT_CONSUMED, Head, Heard, MESSAGE_COMPLETE, Mode, POOL_LIMIT, PoolKind, decide,
-};
+use session::{Counters, Head, Heard, Kind, Mode, POOL_LIMIT, PoolKind, decide};
 
 // A blank frame: what the pool is looked at with, before the first.
 fn blank() -> Heard
@@ -36,15 +34,6 @@ fn blank() -> Heard
     }
 }
 
-fn is_other(kind: PoolKind) -> bool
-    ensures { result ≡ not (same_kind Original kind) }
-{
-    match kind {
-        PoolKind::Original => false,
-        PoolKind::Addressed => true,
-    }
-}
-
 // The refusal, if there is one: of an impossible pool, or one that is handed identifiers, before that of a row that is too short for its n frames.
 fn refusal(
     kind: PoolKind,
@@ -57,27 +46,17 @@ fn refusal(
     bytes: usize,
     kinds: usize,
     lengths: usize,
-) -> Batched
+) -> Result<(), BatchError>
     ensures { result ≡ refusal_of (not (same_kind Original kind) || (found_in (rules_by kind mode) blank_heard size heads).bad) (too_short n pgns sources bytes kinds lengths) }
 {
     let before = walk(kind, mode, heads, size, blank());
-    if is_other(kind) | before.bad {
-        return Batched::ImpossiblePool;
+    if (kind != PoolKind::Original) | before.bad {
+        return Err(BatchError::ImpossiblePool);
     }
     if too_short(n, pgns, sources, bytes, kinds, lengths) {
-        return Batched::NoRoom;
+        return Err(BatchError::NoRoom);
     }
-    Batched::Done
-}
-
-fn is_refused(res: Batched) -> bool
-    ensures { result ≡ is_refused res }
-{
-    match res {
-        Batched::Done => false,
-        Batched::ImpossiblePool => true,
-        Batched::NoRoom => true,
-    }
+    Ok(())
 }
 
 // Takes frames one after the other, as long as the arena has room for their messages.
@@ -114,12 +93,10 @@ pub fn process_frames(
         kinds.len(),
         lengths.len(),
     );
-    if is_refused(result) {
+    if let Err(error) = result {
         return Batch {
-            result: result,
-            taken: 0,
-            used: 0,
-            counters: counters,
+            result: Err(error),
+            counters,
             pool: q,
         };
     }
@@ -152,16 +129,18 @@ pub fn process_frames(
                 continue;
             }
             if no_room(arena.len(), used, short) {
+                let taken = Taken {
+                    frames: i,
+                    bytes: used,
+                };
                 return Batch {
-                    result: Batched::Done,
-                    taken: i,
-                    used: used,
+                    result: Ok(taken),
                     counters: c,
                     pool: q,
                 };
             }
             deliver_short(arena, used, frame, short);
-            kinds[i] = MESSAGE_COMPLETE;
+            kinds[i] = Kind::MessageComplete.number();
             lengths[i] = short as u8;
             used += short;
             i += 1;
@@ -173,17 +152,19 @@ pub fn process_frames(
             q.heads[g] = ran_on(h, heard);
             lasts[g] = heard.now_ms;
             keep(&mut q.bytes, g, h.current_size, frame);
-            kinds[i] = FRAGMENT_CONSUMED;
+            kinds[i] = Kind::FragmentConsumed.number();
             lengths[i] = 0;
             i += 1;
             continue;
         }
         let d = decide(mode, false, true, true, h, heard);
         if no_room(arena.len(), used, d.whole) {
+            let taken = Taken {
+                frames: i,
+                bytes: used,
+            };
             return Batch {
-                result: Batched::Done,
-                taken: i,
-                used: used,
+                result: Ok(taken),
                 counters: c,
                 pool: q,
             };
@@ -201,9 +182,10 @@ pub fn process_frames(
         lasts[g] = after.last_seen_ms;
     }
     Batch {
-        result: Batched::Done,
-        taken: i,
-        used: used,
+        result: Ok(Taken {
+            frames: i,
+            bytes: used,
+        }),
         counters: c,
         pool: q,
     }

@@ -1,12 +1,8 @@
 // The lent rows: the frame at a place, and what is written of an answer.
 ghost use Rattle.std.specs.Prelude.{◌≡◌, ◌+◌, ◌*◌, ◌<◌, ◌≤◌, length, take, drop};
 ghost use Rattle.batch.specs.Rows.{frame_in_rows};
-ghost use Rattle.session.specs.Kinds.{kind_number};
 
-use session::{
-    FRAGMENT_CONSUMED, Heard, IMPOSSIBLE_POOL, Kind, LOST, MESSAGE_COMPLETE, NOT_LISTED, POOL_FULL,
-    REJECTED, TOO_WIDE,
-};
+use session::Heard;
 
 fn eight(data: &[u8], at: usize) -> [u8; 8]
     requires { at + 8 ≤ length «data».now }
@@ -33,20 +29,5 @@ pub(crate) fn frame_at(times: &[u64], pgns: &[u32], sources: &[u8], data: &[u8],
         part: 0,
         data: bytes,
         length: 8,
-    }
-}
-
-pub(crate) fn number_of(kind: Kind) -> u8
-    ensures { result ≡ kind_number kind }
-{
-    match kind {
-        Kind::ImpossiblePool => IMPOSSIBLE_POOL,
-        Kind::TooWide => TOO_WIDE,
-        Kind::NotListed => NOT_LISTED,
-        Kind::Rejected => REJECTED,
-        Kind::PoolFull => POOL_FULL,
-        Kind::Lost => LOST,
-        Kind::FragmentConsumed => FRAGMENT_CONSUMED,
-        Kind::MessageComplete => MESSAGE_COMPLETE,
     }
 }

@@ -8,13 +8,12 @@ ghost use Rattle.assembler.specs.Making.{pool_bytes};
 ghost use Rattle.session.specs.Kinds.{kind_number};
 
 use crate::bytes::carry;
-use crate::rows::number_of;
 use assembler::POOL_BYTES;
 use session::{Counters, Plan, count};
 
 // What the rows have of the frame, and the counters after it.
 #[derive(Drop)]
-pub(crate) struct Taken {
+pub(crate) struct Told {
     pub(crate) number: u8,
     pub(crate) length: u8,
     pub(crate) counters: Counters,
@@ -28,17 +27,14 @@ pub(crate) fn take(
     d: Plan,
     counters: Counters,
     frame: [u8; 8],
-) -> Taken
+) -> Told
     requires { (length bytes.old ≡ pool_bytes) × (g < pool_limit) × (d.at + d.count ≤ max_payload) × (d.from + d.count ≤ 8) × (d.whole ≤ max_payload) × (used + d.whole ≤ length arena.old) }
     ensures { (bytes.new ≡ paste bytes.old (g * max_payload + d.at) (drop d.from frame) d.count) × (arena.new ≡ paste arena.old used (drop (g * max_payload) bytes.new) d.whole) × (result.number ≡ kind_number d.kind) × (result.length ≡ d.whole) × (result.counters ≡ raised d.mark counters) }
 {
     carry(bytes, arena, g, used, frame, d.at, d.from, d.count, d.whole);
-    let kind = d.kind;
-    let mark = d.mark;
-    let after = count(counters, mark);
-    Taken {
-        number: number_of(kind),
+    Told {
+        number: d.kind.number(),
         length: d.whole as u8,
-        counters: after,
+        counters: count(counters, d.mark),
     }
 }

@@ -7,8 +7,7 @@ ghost use Rattle.batch.specs.inner.Ways.{short_in, miss_kind, miss_mark, runs_on
 
 use fast_packet::MAX_FAST_PACKET_PAYLOAD;
 use session::{
-    CONTINUATION_PAYLOAD, Counters, FIRST_FRAME_PAYLOAD, Head, Heard, LOST, Mark, NOT_LISTED,
-    POOL_FULL, REJECTED, count,
+    CONTINUATION_PAYLOAD, Counter, Counters, FIRST_FRAME_PAYLOAD, Head, Heard, Kind, count,
 };
 
 // How many bytes the message has that comes in this one frame; 0 where none does.
@@ -33,11 +32,11 @@ pub(crate) struct Untaken {
     pub(crate) counters: Counters,
 }
 
-fn told(number: u8, counters: Counters, mark: Mark) -> Untaken
-    ensures { (result.number ≡ number) × (result.counters ≡ raised mark counters) }
+fn told(kind: Kind, counters: Counters, mark: Option<Counter>) -> Untaken
+    ensures { (result.number ≡ kind_number kind) × (result.counters ≡ raised mark counters) }
 {
     Untaken {
-        number: number,
+        number: kind.number(),
         counters: count(counters, mark),
     }
 }
@@ -46,20 +45,20 @@ pub(crate) fn missed(counters: Counters, listed: bool, heard: Heard) -> Untaken
     ensures { (result.number ≡ kind_number (miss_kind listed heard)) × (result.counters ≡ raised (miss_mark listed heard) counters) }
 {
     if !listed {
-        return told(NOT_LISTED, counters, Mark::Unknown);
+        return told(Kind::NotListed, counters, Some(Counter::Unknown));
     }
     let data = heard.data;
     if data[0] % 32 != 0 {
-        return told(LOST, counters, Mark::Lost);
+        return told(Kind::Lost, counters, Some(Counter::Lost));
     }
     let size = data[1] as usize;
     if size == 0 {
-        return told(REJECTED, counters, Mark::Rejected);
+        return told(Kind::Rejected, counters, Some(Counter::Rejected));
     }
     if MAX_FAST_PACKET_PAYLOAD < size {
-        return told(REJECTED, counters, Mark::Rejected);
+        return told(Kind::Rejected, counters, Some(Counter::Rejected));
     }
-    told(POOL_FULL, counters, Mark::Exhausted)
+    told(Kind::PoolFull, counters, Some(Counter::Exhausted))
 }
 
 // Whether the frame is the session's next, and more than its seven bytes are missing.

@@ -18,14 +18,14 @@ use Rattle.base.proofs.First.{first_passes}
 use Rattle.base.proofs.Paired.{All2, all2_first, all2_any, all2_at, all2_set}
 use Rattle.book.proofs.Moves.{Within}
 use Rattle.fast_packet.specs.FastPacket.{max_payload}
-use Rattle.session.specs.declared.Mark.{Mark}
-use Rattle.session.specs.declared.Mark.TheVariants.{Nothing, Expired, Exhausted, Rejected, Lost, Unknown}
+use Rattle.std.specs.Prelude.{Some, None}
+use Rattle.session.specs.declared.Counter.TheVariants.{Expired, Exhausted, Rejected, Lost, Unknown}
 use Rattle.session.specs.declared.Kind.TheVariants.{FragmentConsumed, MessageComplete}
 use Rattle.session.specs.Rules.{Rules}
 use Rattle.session.specs.Frames.{index_of, size_of, bad_size, first_bytes, is_empty, bad_first}
 use Rattle.session.proofs.Cuts.{first_good, first_sent}
 use Rattle.session.specs.Heads.{impossible_head, has_key, is_free, is_free_of_source, has_live_key, is_expired}
-use Rattle.session.specs.Counting.{expired_mark}
+use Rattle.session.specs.Counting.{Mark, expired_mark}
 use Rattle.assembler.specs.Call.{Call, CallOk, part_fits, listed}
 use Rattle.assembler.specs.Slots.{Slot, slot_at, fresh_slot, on_head, chosen, live, copied_slot}
 use Rattle.assembler.specs.Step as act
@@ -40,17 +40,17 @@ use Rattle.ledger.proofs.Shows.{Shows, HeldSlot, room_of, held_source, key_same,
 
 -- which counter a deed marks
 unfoldable pub mark_of : Deed → Mark
-mark_of Unlisted = Unknown
-mark_of BadFrame = Rejected
-mark_of NoSlot = Exhausted
-mark_of Stray = Lost
-mark_of AtOnce = Nothing
-mark_of Opening = Nothing
-mark_of Restarting = Nothing
-mark_of Reclaiming = Expired
-mark_of Copied = Nothing
-mark_of Delivered = Nothing
-mark_of Broken = Lost
+mark_of Unlisted = Some Unknown
+mark_of BadFrame = Some Rejected
+mark_of NoSlot = Some Exhausted
+mark_of Stray = Some Lost
+mark_of AtOnce = None
+mark_of Opening = None
+mark_of Restarting = None
+mark_of Reclaiming = Some Expired
+mark_of Copied = None
+mark_of Delivered = None
+mark_of Broken = Some Lost
 
 -- a message said
 says_message : (bytes due : List ℕ) (n : ℕ) → bytes ≡ due → length bytes ≡ n → reply_says (gives (message bytes)) ≡ record { kind = MessageComplete; payload = padded due; length = n }

@@ -8,11 +8,11 @@ use lib.ListN.{take, drop, set}
 use Rattle.base.specs.Answer.{gives, refuses}
 use Rattle.session.specs.declared.Heard.{Heard}
 use Rattle.session.specs.declared.Counters.{Counters}
-use Rattle.session.specs.declared.Mark.{Mark}
-use Rattle.session.specs.declared.Mark.TheVariants.{Nothing, Exhausted, Rejected, Lost, Unknown}
+use Rattle.std.specs.Prelude.{Some, None}
+use Rattle.session.specs.declared.Counter.TheVariants.{Exhausted, Rejected, Lost, Unknown}
 use Rattle.session.specs.Rules.{base}
 use Rattle.session.specs.Frames.{size_of, first_bytes}
-use Rattle.session.specs.Counting.{raised, expired_mark}
+use Rattle.session.specs.Counting.{Mark, raised, expired_mark}
 use Rattle.assembler.specs.declared.Pool.{Pool}
 use Rattle.assembler.specs.Call.{Call}
 use Rattle.assembler.specs.Slots.{Slot, Slots, within, slot_at, impossible, opened_slot, reset_slot, copied_slot}
@@ -40,7 +40,7 @@ unfoldable pub untouched : List Slot → List Slot
 untouched ss = ss
 
 unfoldable pub right : Parts
-right = record { opening = opened_slot; copying = copied_slot; at_once = untouched; breaking = reset_slot; ending = reset_slot; straying = Lost; delivering = whole_of }
+right = record { opening = opened_slot; copying = copied_slot; at_once = untouched; breaking = reset_slot; ending = reset_slot; straying = Some Lost; delivering = whole_of }
 
 unfoldable pub slots_by : Parts → Heard → List Slot → Event → List Slot
 slots_by q f ss not_listed = ss
@@ -54,15 +54,15 @@ slots_by q f ss (copied i) = set ss i (q.copying f (slot_at ss i))
 slots_by q f ss (completed i) = set ss i (q.ending (q.copying f (slot_at ss i)))
 
 unfoldable pub mark_by : Parts → Event → Mark
-mark_by q not_listed = Unknown
-mark_by q rejected = Rejected
-mark_by q short_message = Nothing
-mark_by q pool_full = Exhausted
+mark_by q not_listed = Some Unknown
+mark_by q rejected = Some Rejected
+mark_by q short_message = None
+mark_by q pool_full = Some Exhausted
 mark_by q (opened i late) = expired_mark late
 mark_by q stray = q.straying
-mark_by q (broken i) = Lost
-mark_by q (copied i) = Nothing
-mark_by q (completed i) = Nothing
+mark_by q (broken i) = Some Lost
+mark_by q (copied i) = None
+mark_by q (completed i) = None
 
 unfoldable pub said_by : Parts → Heard → List Slot → Event → Said
 said_by q f ss not_listed = ignored unlisted

@@ -11,7 +11,8 @@ use Rattle.base.specs.Answer.{Answer, gives, refuses}
 use Rattle.session.specs.declared.Heard.{Heard}
 use Rattle.session.specs.declared.Kind.{Kind}
 use Rattle.session.specs.declared.Kind.TheVariants as kind
-use Rattle.session.specs.declared.Mark.TheVariants.{Lost}
+use Rattle.std.specs.Prelude.{Some}
+use Rattle.session.specs.declared.Counter.TheVariants.{Lost}
 use Rattle.session.specs.declared.Mode.TheVariants.{AsOriginal}
 use Rattle.session.specs.declared.PoolKind.TheVariants as pools
 use Rattle.session.specs.Rules.{base, original}
@@ -154,7 +155,7 @@ stores_nothing =
       at_once = untouched;
       breaking = reset_slot;
       ending = reset_slot;
-      straying = Lost;
+      straying = Some Lost;
       delivering = λ (f : Heard) (s : Slot). take s.head.expected_size s.buffer;
     }
 

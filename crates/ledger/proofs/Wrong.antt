@@ -11,7 +11,8 @@ use Rattle.session.specs.declared.Head.{Head}
 use Rattle.session.specs.declared.Heard.{Heard}
 use Rattle.session.specs.declared.Kind.{Kind}
 use Rattle.session.specs.declared.Kind.TheVariants as kind
-use Rattle.session.specs.declared.Mark.TheVariants.{Expired, Lost}
+use Rattle.std.specs.Prelude.{Some}
+use Rattle.session.specs.declared.Counter.TheVariants.{Expired, Lost}
 use Rattle.session.specs.Rules.{base}
 use Rattle.session.specs.Frames.{first_bytes, next_bytes}
 use Rattle.session.specs.Heads.{opened_head}
@@ -105,7 +106,7 @@ rejects_made_up d =
 -- ---- a message with two fates: delivered, and its slot still in progress
 
 unfoldable pub two_fates : Parts
-two_fates = record { opening = opened_slot; copying = copied_slot; at_once = untouched; breaking = reset_slot; ending = λ (s : Slot). s; straying = Lost; delivering = whole_of }
+two_fates = record { opening = opened_slot; copying = copied_slot; at_once = untouched; breaking = reset_slot; ending = λ (s : Slot). s; straying = Some Lost; delivering = whole_of }
 
 two_fates_holds : heads_in_progress (seen_after (by two_fates) (fresh_pool 1) (pair 1 1)).heads ≡ 1
 unfolding ran pair announces goes_on frame by step_by outcome_by slots_by mark_by said_by whole_of two_fates
@@ -122,7 +123,7 @@ rejects_two_fates d = omega (arith, (d (pair 1 1) (pair_ok 1 1 (lit< tt)) (unfol
 -- ---- a message with none: a short first frame with its key closes its session, and nothing says so
 
 unfoldable pub no_fate : Parts
-no_fate = record { opening = opened_slot; copying = copied_slot; at_once = map reset_slot; breaking = reset_slot; ending = reset_slot; straying = Lost; delivering = whole_of }
+no_fate = record { opening = opened_slot; copying = copied_slot; at_once = map reset_slot; breaking = reset_slot; ending = reset_slot; straying = Some Lost; delivering = whole_of }
 
 no_fate_holds : heads_in_progress (seen_after (by no_fate) (fresh_pool 1) (firsts 6)).heads ≡ 0
 unfolding ran firsts announces frame by step_by outcome_by slots_by mark_by said_by whole_of no_fate
@@ -139,7 +140,7 @@ rejects_no_fate d = omega (arith, (d (firsts 6) (firsts_ok 6) (unfold firsts in 
 -- ---- a late continuation counted as expired
 
 unfoldable pub counts_late : Parts
-counts_late = record { opening = opened_slot; copying = copied_slot; at_once = untouched; breaking = reset_slot; ending = reset_slot; straying = Expired; delivering = whole_of }
+counts_late = record { opening = opened_slot; copying = copied_slot; at_once = untouched; breaking = reset_slot; ending = reset_slot; straying = Some Expired; delivering = whole_of }
 
 counts_late_counts : (seen_after (by counts_late) (fresh_pool 1) (pair 1 501)).counters.expired_sessions ≡ 1
 unfolding ran pair announces goes_on frame by step_by outcome_by slots_by mark_by said_by whole_of untouched counts_late
@@ -156,7 +157,7 @@ rejects_counts_late d = omega (arith, (d (pair 1 501) (pair_ok 1 501 (lit< tt)) 
 -- ---- a broken session left open
 
 unfoldable pub leaves_open : Parts
-leaves_open = record { opening = opened_slot; copying = copied_slot; at_once = untouched; breaking = λ (s : Slot). s; ending = reset_slot; straying = Lost; delivering = whole_of }
+leaves_open = record { opening = opened_slot; copying = copied_slot; at_once = untouched; breaking = λ (s : Slot). s; ending = reset_slot; straying = Some Lost; delivering = whole_of }
 
 leaves_open_holds : heads_in_progress (seen_after (by leaves_open) (fresh_pool 1) (pair 2 1)).heads ≡ 1
 unfolding ran pair announces goes_on frame by step_by outcome_by slots_by mark_by said_by whole_of untouched leaves_open
@@ -177,7 +178,7 @@ unfolding told pair announces goes_on frame last_byte
 pair_says = refl
 
 unfoldable pub backwards : Parts
-backwards = record { opening = opened_slot; copying = copied_slot; at_once = untouched; breaking = reset_slot; ending = reset_slot; straying = Lost; delivering = λ (f : Heard) (s : Slot). reverse (whole_of f s) }
+backwards = record { opening = opened_slot; copying = copied_slot; at_once = untouched; breaking = reset_slot; ending = reset_slot; straying = Some Lost; delivering = λ (f : Heard) (s : Slot). reverse (whole_of f s) }
 
 backwards_says : last_byte 0 (seen_after (by backwards) (fresh_pool 1) (pair 1 1)).said ≡ 7
 unfolding ran pair announces goes_on frame by step_by outcome_by slots_by mark_by said_by whole_of untouched backwards last_byte
@@ -197,7 +198,7 @@ not_cut =
       at_once = untouched;
       breaking = reset_slot;
       ending = reset_slot;
-      straying = Lost;
+      straying = Some Lost;
       delivering = λ (f : Heard) (s : Slot). take s.head.current_size s.buffer ++ next_bytes f;
     }
 
@@ -223,7 +224,7 @@ loses_byte =
       at_once = untouched;
       breaking = reset_slot;
       ending = reset_slot;
-      straying = Lost;
+      straying = Some Lost;
       delivering = whole_of;
     }
 

@@ -1,9 +1,9 @@
 -- Document 02, No. 10: "After a boat's time is set back, an old half message is silent for 0 ms and can live for hours." What becomes of it in each mode.
 -- No contract cites this file.
-use Rattle.std.specs.Prelude.{true, false, List, [], ◌∷◌, ◌≢◌, ◌≡◌, ℕ, ◌+◌, ◌≤◌, ◌<◌, length, get_or}
+use Rattle.std.specs.Prelude.{Some, true, false, List, [], ◌∷◌, ◌≢◌, ◌≡◌, ℕ, ◌+◌, ◌≤◌, ◌<◌, length, get_or}
 use Rattle.session.specs.declared.Head.{Head}
 use Rattle.session.specs.declared.Kind.TheVariants.{FragmentConsumed}
-use Rattle.session.specs.declared.Mark.TheVariants.{Expired}
+use Rattle.session.specs.declared.Counter.TheVariants.{Expired}
 use Rattle.session.specs.declared.Mode.TheVariants.{AsOriginal, SetBackIsSilence}
 use Rattle.session.specs.Rules.{keys_equal}
 use Rattle.session.specs.Frames.{key_of}
@@ -52,7 +52,7 @@ pub record BeginsBefore (p : Pool) (i : ℕ) (h : Head) (c : Call) : Type 0 wher
 pub record Reclaims (c : Call) (i : ℕ) (z y : State) : Type 0 where
   pub answer : y.said ≡ briefly FragmentConsumed ∷ z.said
   pub opened : head_in y.pool i ≡ opened_head c.heard
-  pub counted : y.counters ≡ raised Expired z.counters
+  pub counted : y.counters ≡ raised (Some Expired) z.counters
 
 pub record SetBack : Type 0 where
   -- as the original: however many calls pass by, the half message is held

@@ -119,4 +119,5 @@ no_three =
       pool_asked = λ wanted mode kind r h. by_answer h.answer (size_other _);
       leave = λ r before after code h. by h.told (kind_other r.kind);
       leave_made = λ made before after code h. by h.told (made_other made.result made.pool.size);
+      kind_number = λ kind n h. by h (kind_other kind);
     }

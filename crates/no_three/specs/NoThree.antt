@@ -17,6 +17,7 @@ use Rattle.builder.specs.declared.FrameIterator.{FrameIterator}
 use Rattle.builder.specs.declared.Next.{Next}
 use Rattle.builder.specs.declared.Item.{Item}
 use Rattle.session.specs.Rules.{silent_by}
+use Rattle.session.specs.declared.Kind.{Kind}
 use Rattle.session.specs.Kinds.{kind_number}
 use Rattle.session.specs.inner.Plan.{plan_of}
 use Rattle.session.specs.declared.Counters.{Counters}
@@ -36,7 +37,7 @@ use Rattle.assembler.specs.declared.ArrivalByIdWithLength.{ArrivalByIdWithLength
 use Rattle.assembler.specs.declared.ArrivalWithLength.{ArrivalWithLength}
 use Rattle.assembler.specs.declared.Received.{Received}
 use Rattle.assembler.specs.declared.Processed.{Processed}
-use Rattle.batch.specs.Rows.{Rows, of_batched, Batches}
+use Rattle.batch.specs.Rows.{Rows, of_batched, frames_in, Batches}
 use Rattle.batch.specs.declared.Batch.{Batch}
 use Rattle.splitter.specs.Split.{of_split, SplitsInto, SplitsIntoSlices}
 use Rattle.splitter.specs.declared.Frame.{Frame}
@@ -104,7 +105,7 @@ pub record NoThree : Type 0 where
   -- the answer, and each kind that is written into the row
   pub process_frames : (list times pgns sources bytes kinds lengths arena : List ℕ) (p : Pool) (k : Counters) (r : Batch) (kinds' lengths' arena' : List ℕ)
       → Batches list times pgns sources bytes p k kinds lengths arena r kinds' lengths' arena'
-      → NotThree (code_of (of_batched r.result r.taken)) × NoneIsThree r.taken kinds'
+      → NotThree (code_of (of_batched r.result)) × NoneIsThree (frames_in r.result) kinds'
   -- ---- the bench
   pub fast_packet_frames : (id sequence : ℕ) (payload : List ℕ) (row row' : List Frame) (r : Split)
       → SplitsInto id sequence payload row r row' → NotThree (code_of (of_split r))
@@ -161,6 +162,7 @@ pub record NoThree : Type 0 where
   pub pool_asked : (wanted mode kind : ℕ) (r : MadePool) → MakesPoolAsked wanted mode kind r → NotThree (code_of (of_made r.result r.pool.size))
   pub leave : (r : Received) (before after : CallMemory) (code : ℕ) → CallLeft r before code after → NotThree code
   pub leave_made : (made : MadePool) (before after : PoolMemory) (code : ℕ) → MadePoolLeft made before code after → NotThree code
+  pub kind_number : (kind : Kind) (n : ℕ) → n ≡ kind_number kind → NotThree n
 
 -- No answer of these is told by a number, which is read off their types and not proved; a 3 that one of them gives is a priority, a count, an address or another
 -- part of what was asked for:

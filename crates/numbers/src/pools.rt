@@ -3,16 +3,12 @@
 ghost use Rattle.std.specs.Prelude.{◌≡◌, ◌+◌, ◌*◌, ◌<◌, ◌≤◌, ◌%◌, get_or};
 ghost use Rattle.std.proofs.lemmas.List.Edits.{sets};
 ghost use Rattle.session.specs.Rules.{pool_limit};
-ghost use Rattle.session.specs.Kinds.{kind_number};
 ghost use Rattle.numbers.specs.Pool.{head_numbers, head_at, head_over, heads_from, laid_over, mode_number, mode_from, pool_kind_number, pool_kind_from, size_under, pool_from, counters_from, counter_numbers, delivered_on, CallLeft, blank_heads, MadePoolLeft, MakesPoolAsked};
 
 use crate::numbers::{byte_on, flag_on, half_on, word_on};
 use assembler::{Made, MadePool, POOL_BYTES, Pool, Received};
 use fast_packet::MAX_FAST_PACKET_PAYLOAD;
-use session::{
-    Counters, FRAGMENT_CONSUMED, Head, IMPOSSIBLE_POOL, Kind, LOST, MESSAGE_COMPLETE, Mode,
-    NOT_LISTED, POOL_FULL, POOL_LIMIT, PoolKind, REJECTED, TOO_WIDE, fresh_head,
-};
+use session::{Counters, Head, Kind, Mode, POOL_LIMIT, PoolKind, fresh_head};
 
 // How many numbers a head has.
 pub const HEAD_NUMBERS: usize = 9;
@@ -216,21 +212,6 @@ pub fn counter_numbers(c: Counters) -> [u32; 5]
     ]
 }
 
-fn kind_code(kind: Kind) -> u32
-    ensures { result ≡ kind_number kind }
-{
-    match kind {
-        Kind::ImpossiblePool => IMPOSSIBLE_POOL as u32,
-        Kind::TooWide => TOO_WIDE as u32,
-        Kind::NotListed => NOT_LISTED as u32,
-        Kind::Rejected => REJECTED as u32,
-        Kind::PoolFull => POOL_FULL as u32,
-        Kind::Lost => LOST as u32,
-        Kind::FragmentConsumed => FRAGMENT_CONSUMED as u32,
-        Kind::MessageComplete => MESSAGE_COMPLETE as u32,
-    }
-}
-
 // A message is delivered, and without one the lent payload stays as it was.
 fn deliver_on(
     kind: Kind,
@@ -277,7 +258,7 @@ pub fn leave(
     let kind = r.kind;
     let message = r.payload;
     deliver_on(kind, message, payload);
-    kind_code(kind)
+    u32::from(kind.number())
 }
 
 // ---- a pool made
@@ -319,7 +300,7 @@ pub fn leave_made(
     *kind = pool_kind_number(of);
     let result = made.result;
     match result {
-        Made::ImpossiblePool => IMPOSSIBLE_POOL as u32,
+        Made::ImpossiblePool => u32::from(Kind::ImpossiblePool.number()),
         Made::Fresh => {
             let h = pool.heads;
             fresh_heads(heads, h);

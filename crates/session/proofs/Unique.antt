@@ -5,12 +5,13 @@ use mathlib.Core.Path.{◌≡◌}
 use Rattle.base.proofs.Cases.{determined}
 use Rattle.session.specs.declared.Head.{Head}
 use Rattle.session.specs.declared.Counters.{Counters}
-use Rattle.session.specs.declared.Mark.{Mark}
 use Rattle.session.specs.declared.Mode.{Mode}
 use Rattle.session.specs.declared.PoolKind.{PoolKind}
 use Rattle.session.specs.Rules.{pool_limit, silent_by, rules_by}
 use Rattle.session.specs.Heads.{fresh_head}
-use Rattle.session.specs.Counting.{raised}
+use Rattle.session.specs.Counting.{Mark, raised}
+use Rattle.session.specs.declared.Kind.{Kind}
+use Rattle.session.specs.Kinds.{kind_number}
 use Rattle.session.specs.declared.Heard.{Heard}
 use Rattle.session.specs.declared.Found.{Found}
 use Rattle.session.specs.inner.Search.{nothing_found, looked, place_of, within_limit}
@@ -43,3 +44,8 @@ within_limit_unique i r s p q = determined p.0 q.0
 
 pub decide_unique : (mode : Mode) (bad listed found : Bool) (h : Head) (heard : Heard) (r s : Plan) → r ≡ plan_of bad listed found (silent_by mode) heard h → s ≡ plan_of bad listed found (silent_by mode) heard h → r ≡ s
 decide_unique mode bad listed found h heard r s = determined
+
+-- ---- what the caller is told of it
+
+pub number_unique : (kind : Kind) (r s : ℕ) → r ≡ kind_number kind → s ≡ kind_number kind → r ≡ s
+number_unique kind r s = determined

@@ -1,8 +1,8 @@
 -- The five counters, and which one a frame raises.
-use Rattle.std.specs.Prelude.{Bool, true, false, ℕ, ◌+◌, min}
+use Rattle.std.specs.Prelude.{Option, Some, None, Bool, true, false, ℕ, ◌+◌, min}
 use Rattle.session.specs.declared.Counters.{Counters}
-use Rattle.session.specs.declared.Mark.{Mark}
-use Rattle.session.specs.declared.Mark.TheVariants.{Nothing, Expired, Exhausted, Rejected, Lost, Unknown}
+use Rattle.session.specs.declared.Counter.{Counter}
+use Rattle.session.specs.declared.Counter.TheVariants.{Expired, Exhausted, Rejected, Lost, Unknown}
 
 -- the counters in the Rust's order
 abbrev pub counts : ℕ → ℕ → ℕ → ℕ → ℕ → Counters
@@ -25,16 +25,20 @@ most = 4294967295
 unfoldable pub raise : ℕ → ℕ
 raise n = min (n + 1) most
 
+-- which counter a frame raises, if any
+abbrev pub Mark : Type 0
+Mark = Option Counter
+
 -- the counter that the mark names is raised, and the others stay
 unfoldable pub raised : Mark → Counters → Counters
-raised Nothing k = k
-raised Expired k = counts (raise k.expired_sessions) k.pool_exhausted k.rejected_frames k.lost_fragments k.unknown_pgn
-raised Exhausted k = counts k.expired_sessions (raise k.pool_exhausted) k.rejected_frames k.lost_fragments k.unknown_pgn
-raised Rejected k = counts k.expired_sessions k.pool_exhausted (raise k.rejected_frames) k.lost_fragments k.unknown_pgn
-raised Lost k = counts k.expired_sessions k.pool_exhausted k.rejected_frames (raise k.lost_fragments) k.unknown_pgn
-raised Unknown k = counts k.expired_sessions k.pool_exhausted k.rejected_frames k.lost_fragments (raise k.unknown_pgn)
+raised None k = k
+raised (Some Expired) k = counts (raise k.expired_sessions) k.pool_exhausted k.rejected_frames k.lost_fragments k.unknown_pgn
+raised (Some Exhausted) k = counts k.expired_sessions (raise k.pool_exhausted) k.rejected_frames k.lost_fragments k.unknown_pgn
+raised (Some Rejected) k = counts k.expired_sessions k.pool_exhausted (raise k.rejected_frames) k.lost_fragments k.unknown_pgn
+raised (Some Lost) k = counts k.expired_sessions k.pool_exhausted k.rejected_frames (raise k.lost_fragments) k.unknown_pgn
+raised (Some Unknown) k = counts k.expired_sessions k.pool_exhausted k.rejected_frames k.lost_fragments (raise k.unknown_pgn)
 
 -- "A slot taken while in progress and silent over 500 counts in expired_sessions."
 unfoldable pub expired_mark : Bool → Mark
-expired_mark true = Expired
-expired_mark false = Nothing
+expired_mark true = Some Expired
+expired_mark false = None

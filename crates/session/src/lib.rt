@@ -3,6 +3,9 @@
 // code goes about a call.
 #![tactic(auto)]
 
+ghost use Rattle.std.specs.Prelude.{◌≡◌};
+ghost use Rattle.session.specs.Kinds.{kind_number};
+
 mod counting;
 mod frames;
 mod heads;
@@ -32,7 +35,7 @@ pub const CONTINUATION_PAYLOAD: usize = 7;
 
 // What a clock reading before a session's last one says of it, chosen when the pool is made: nothing, as in the original, or that it is silent. A
 // half message whose boat's time was set back is silent for 0 ms by the original, and can live for hours.
-#[derive(Clone, Copy)]
+#[derive(Debug, Clone, Copy, PartialEq, Eq)]
 pub enum Mode {
     AsOriginal,
     SetBackIsSilence,
@@ -40,14 +43,14 @@ pub enum Mode {
 
 // Which key the messages of a pool have, chosen when it is made: source, PGN and sequence, as in the original; or the destination too, which the
 // identifier says. By the original's key one sender's answers to two displays at once are taken for one.
-#[derive(Clone, Copy)]
+#[derive(Debug, Clone, Copy, PartialEq, Eq)]
 pub enum PoolKind {
     Original,
     Addressed,
 }
 
 // A session but for its buffer. The part of its key that is the destination is 0 for none, and the destination plus 1 else.
-#[derive(Clone, Copy)]
+#[derive(Debug, Clone, Copy, PartialEq, Eq)]
 pub struct Head {
     pub in_progress: bool,
     pub source_address: u8,
@@ -61,7 +64,7 @@ pub struct Head {
 }
 
 // A frame as it was heard, with the clock reading at it: of its eight bytes the first `length` were sent. Its part is that of its key, as a head has it.
-#[derive(Clone, Copy)]
+#[derive(Debug, Clone, Copy, PartialEq, Eq)]
 pub struct Heard {
     pub now_ms: u64,
     pub pgn: u32,
@@ -73,7 +76,7 @@ pub struct Heard {
 
 // The counters are cumulative. `rejected_frames` and `unknown_pgn` say that the assembler was handed traffic it does not deal with; the other
 // three say that a message was lost.
-#[derive(Clone, Copy)]
+#[derive(Debug, Clone, Copy, PartialEq, Eq, Default)]
 pub struct Counters {
     pub expired_sessions: u32,
     pub pool_exhausted: u32,
@@ -82,10 +85,9 @@ pub struct Counters {
     pub unknown_pgn: u32,
 }
 
-// Which counter a frame raises.
-#[derive(Clone, Copy)]
-pub enum Mark {
-    Nothing,
+// One of the counters.
+#[derive(Debug, Clone, Copy, PartialEq, Eq)]
+pub enum Counter {
     Expired,
     Exhausted,
     Rejected,
@@ -94,39 +96,32 @@ pub enum Mark {
 }
 
 // What the caller is told of a frame. An impossible pool is refused, and so is an identifier that is too wide. NotListed, Rejected, PoolFull and Lost say why a frame was not taken; Lost is a
-// continuation without a live session, or one out of turn or cut short, which ends its session.
-#[derive(Clone, Copy)]
+// continuation without a live session, or one out of turn or cut short, which ends its session. The numbers of the first two are their refusals', and those of refusals are 1 to 99. 101 was given
+// where NotListed, Rejected, PoolFull and Lost are now told apart, and is given no more.
+#[derive(Debug, Clone, Copy, PartialEq, Eq)]
 pub enum Kind {
-    ImpossiblePool,
-    TooWide,
-    NotListed,
-    Rejected,
-    PoolFull,
-    Lost,
-    FragmentConsumed,
-    MessageComplete,
+    ImpossiblePool = 1,
+    TooWide = 8,
+    FragmentConsumed = 102,
+    MessageComplete = 103,
+    NotListed = 104,
+    Rejected = 105,
+    PoolFull = 106,
+    Lost = 107,
 }
 
-// The number of each kind. Those of an impossible pool and of an identifier that is too wide are their refusals', and those of refusals are 1 to 99. 101 was given where NotListed, Rejected,
-// PoolFull and Lost are now told apart, and is given no more.
-pub const IMPOSSIBLE_POOL: u8 = 1;
-
-pub const TOO_WIDE: u8 = 8;
-
-pub const FRAGMENT_CONSUMED: u8 = 102;
-
-pub const MESSAGE_COMPLETE: u8 = 103;
-
-pub const NOT_LISTED: u8 = 104;
-
-pub const REJECTED: u8 = 105;
-
-pub const POOL_FULL: u8 = 106;
-
-pub const LOST: u8 = 107;
+impl Kind {
+    // The number by which a row or a caller in C is told it.
+    #[tactic(auto, unfolding(crate::specs::Kinds::kind_number))]
+    pub fn number(self) -> u8
+        ensures { result ≡ kind_number self }
+    {
+        self as u8
+    }
+}
 
 // What one walk over the heads finds: whether any is impossible, and the first place of each kind; POOL_LIMIT stands for none.
-#[derive(Clone, Copy)]
+#[derive(Debug, Clone, Copy, PartialEq, Eq)]
 pub struct Found {
     pub bad: bool,
     pub key: usize,
@@ -137,10 +132,10 @@ pub struct Found {
 
 // What a frame does, made from the one head that it may change: the answer and the counter; the head after it; `count` bytes of the frame, from
 // `from` on, go to place `at` of the buffer; a message of `whole` bytes leaves the buffer, or one of `short` bytes the frame itself.
-#[derive(Clone, Copy)]
+#[derive(Debug, Clone, Copy, PartialEq, Eq)]
 pub struct Plan {
     pub kind: Kind,
-    pub mark: Mark,
+    pub mark: Option<Counter>,
     pub head: Head,
     pub at: usize,
     pub from: usize,

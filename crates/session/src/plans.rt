@@ -8,9 +8,9 @@ ghost use Rattle.session.specs.inner.Plan.{is_late, idle, plan_open, plan_first,
 use crate::frames::{FIRST_DATA, NEXT_DATA, index_of, is_bad_first, size_of};
 use crate::heads::is_silent;
 use crate::moved::{copied_head, is_next, opened_head, reset_head, wanted_by};
-use crate::{FIRST_FRAME_PAYLOAD, Head, Heard, Kind, Mark, Mode, Plan};
+use crate::{Counter, FIRST_FRAME_PAYLOAD, Head, Heard, Kind, Mode, Plan};
 
-fn stay(kind: Kind, mark: Mark, h: Head) -> Plan
+fn stay(kind: Kind, mark: Option<Counter>, h: Head) -> Plan
     ensures { result ≡ idle kind mark h }
 {
     Plan {
@@ -26,13 +26,13 @@ fn stay(kind: Kind, mark: Mark, h: Head) -> Plan
 }
 
 // A slot that is taken while in progress and silent is counted.
-fn mark_expired(mode: Mode, h: Head, heard: Heard) -> Mark
+fn mark_expired(mode: Mode, h: Head, heard: Heard) -> Option<Counter>
     ensures { result ≡ expired_mark (is_late (silent_by mode) heard h) }
 {
     if h.in_progress & is_silent(mode, heard.now_ms, h.last_seen_ms) {
-        Mark::Expired
+        Some(Counter::Expired)
     } else {
-        Mark::Nothing
+        None
     }
 }
 
@@ -40,7 +40,7 @@ fn plan_open(mode: Mode, found: bool, h: Head, heard: Heard) -> Plan
     ensures { result ≡ plan_open found (silent_by mode) heard h }
 {
     if !found {
-        return stay(Kind::PoolFull, Mark::Exhausted, h);
+        return stay(Kind::PoolFull, Some(Counter::Exhausted), h);
     }
     Plan {
         kind: Kind::FragmentConsumed,
@@ -59,13 +59,13 @@ fn plan_first(mode: Mode, found: bool, h: Head, heard: Heard) -> Plan
     ensures { result ≡ plan_first found (silent_by mode) heard h }
 {
     if is_bad_first(heard) {
-        return stay(Kind::Rejected, Mark::Rejected, h);
+        return stay(Kind::Rejected, Some(Counter::Rejected), h);
     }
     let size = size_of(heard);
     if size <= FIRST_FRAME_PAYLOAD {
         return Plan {
             kind: Kind::MessageComplete,
-            mark: Mark::Nothing,
+            mark: None,
             head: h,
             at: 0,
             from: 0,
@@ -82,7 +82,7 @@ fn plan_last(h: Head, heard: Heard) -> Plan
 {
     Plan {
         kind: Kind::MessageComplete,
-        mark: Mark::Nothing,
+        mark: None,
         head: reset_head(copied_head(h, heard)),
         at: h.current_size,
         from: NEXT_DATA,
@@ -97,7 +97,7 @@ fn plan_more(h: Head, heard: Heard) -> Plan
 {
     Plan {
         kind: Kind::FragmentConsumed,
-        mark: Mark::Nothing,
+        mark: None,
         head: copied_head(h, heard),
         at: h.current_size,
         from: NEXT_DATA,
@@ -122,10 +122,10 @@ fn plan_next(found: bool, h: Head, heard: Heard) -> Plan
     ensures { result ≡ plan_next found heard h }
 {
     if !found {
-        return stay(Kind::Lost, Mark::Lost, h);
+        return stay(Kind::Lost, Some(Counter::Lost), h);
     }
     if !is_next(h, heard) {
-        return stay(Kind::Lost, Mark::Lost, reset_head(h));
+        return stay(Kind::Lost, Some(Counter::Lost), reset_head(h));
     }
     plan_copy(h, heard)
 }
@@ -145,10 +145,10 @@ pub fn decide(mode: Mode, bad: bool, listed: bool, found: bool, h: Head, heard: 
     ensures { result ≡ plan_of bad listed found (silent_by mode) heard h }
 {
     if bad {
-        return stay(Kind::ImpossiblePool, Mark::Nothing, h);
+        return stay(Kind::ImpossiblePool, None, h);
     }
     if !listed {
-        return stay(Kind::NotListed, Mark::Unknown, h);
+        return stay(Kind::NotListed, Some(Counter::Unknown), h);
     }
     plan_listed(mode, found, h, heard)
 }

@@ -14,10 +14,9 @@ use Rattle.batch.proofs.Sought.{small_of}
 use Rattle.batch.proofs.Steps.{step_missed, stop_short, step_short, runs_fit, step_running, plan_fits, stop_by, step_by}
 use Rattle.batch.proofs.batching.process_frames.Goals as goal
 
-pub returns-then-is_refused : goal.returns-then-is_refused
-returns-then-is_refused c = let a = c.args in
-    let told = sym c.is_refused.ensures ∙ c.if-is_refused.true in
-    batch_refused _ told (gives_refused (rules_by a.pool.kind a.pool.mode) a.pgns.now (record { times = a.times.now; pgns = a.frame_pgns.now; sources = a.sources.now; bytes = a.«data».now }) a.pool a.counters a.kinds.now a.lengths.now a.arena.now (same_limit a.pool.kind a.pool.mode) blank_heard _ c.refusal-result.ensures told)
+pub returns-in-Err : goal.returns-in-Err
+returns-in-Err c = let a = c.args in
+    batch_refused _ (gives_refused (rules_by a.pool.kind a.pool.mode) a.pgns.now (record { times = a.times.now; pgns = a.frame_pgns.now; sources = a.sources.now; bytes = a.«data».now }) a.pool a.counters a.kinds.now a.lengths.now a.arena.now (same_limit a.pool.kind a.pool.mode) blank_heard _ c.refusal-result.ensures _ c.in-Err.is)
 
 pub loop-i-init : goal.loop-i-init
 loop-i-init c = let a = c.args in
@@ -25,8 +24,8 @@ loop-i-init c = let a = c.args in
     let heads-good = good.0.1 in
     let bytes_Good = good.0.1.1 in
     let whole : Whole a.pool = record { heads = search (rules, length_unmap); bytes = search rules } in
-    let fit = fits_all (rules_by a.pool.kind a.pool.mode) a.pgns.now (record { times = a.times.now; pgns = a.frame_pgns.now; sources = a.sources.now; bytes = a.«data».now }) a.pool a.counters a.kinds.now a.lengths.now a.arena.now (same_limit a.pool.kind a.pool.mode) blank_heard _ c.refusal-result.ensures (sym c.is_refused.ensures ∙ c.if-is_refused.false) in
-    (record { run = begins (rules_by a.pool.kind a.pool.mode) a.pgns.now (record { times = a.times.now; pgns = a.frame_pgns.now; sources = a.sources.now; bytes = a.«data».now }) a.pool a.counters a.kinds.now a.lengths.now a.arena.now whole fit; own = own_kind (rules_by a.pool.kind a.pool.mode) a.pgns.now (record { times = a.times.now; pgns = a.frame_pgns.now; sources = a.sources.now; bytes = a.«data».now }) a.pool a.counters a.kinds.now a.lengths.now a.arena.now (same_limit a.pool.kind a.pool.mode) blank_heard _ c.refusal-result.ensures (sym c.is_refused.ensures ∙ c.if-is_refused.false); possible = possible (rules_by a.pool.kind a.pool.mode) a.pgns.now (record { times = a.times.now; pgns = a.frame_pgns.now; sources = a.sources.now; bytes = a.«data».now }) a.pool a.counters a.kinds.now a.lengths.now a.arena.now (same_limit a.pool.kind a.pool.mode) blank_heard _ c.refusal-result.ensures (sym c.is_refused.ensures ∙ c.if-is_refused.false); mirrors = c.mirror_of-m.ensures }, remembers_none a.pgns.now _ c.is_listed-zero.ensures)
+    let fit = fits_all (rules_by a.pool.kind a.pool.mode) a.pgns.now (record { times = a.times.now; pgns = a.frame_pgns.now; sources = a.sources.now; bytes = a.«data».now }) a.pool a.counters a.kinds.now a.lengths.now a.arena.now (same_limit a.pool.kind a.pool.mode) blank_heard _ c.refusal-result.ensures c.in_default.not-Err in
+    (record { run = begins (rules_by a.pool.kind a.pool.mode) a.pgns.now (record { times = a.times.now; pgns = a.frame_pgns.now; sources = a.sources.now; bytes = a.«data».now }) a.pool a.counters a.kinds.now a.lengths.now a.arena.now whole fit; own = own_kind (rules_by a.pool.kind a.pool.mode) a.pgns.now (record { times = a.times.now; pgns = a.frame_pgns.now; sources = a.sources.now; bytes = a.«data».now }) a.pool a.counters a.kinds.now a.lengths.now a.arena.now (same_limit a.pool.kind a.pool.mode) blank_heard _ c.refusal-result.ensures c.in_default.not-Err; possible = possible (rules_by a.pool.kind a.pool.mode) a.pgns.now (record { times = a.times.now; pgns = a.frame_pgns.now; sources = a.sources.now; bytes = a.«data».now }) a.pool a.counters a.kinds.now a.lengths.now a.arena.now (same_limit a.pool.kind a.pool.mode) blank_heard _ c.refusal-result.ensures c.in_default.not-Err; mirrors = c.mirror_of-m.ensures }, remembers_none a.pgns.now _ c.is_listed-zero.ensures)
 
 pub frame_at-heard-requires : goal.frame_at-heard-requires
 frame_at-heard-requires c = let run = c.loop-i.invariant.0.run in
@@ -63,7 +62,7 @@ shape_of-arena-then-no_room c = search (rules, c.loop-i.invariant.0.run.arena)
 
 pub returns-then-no_room : goal.returns-then-no_room
 returns-then-no_room c = let a = c.args in
-    batched (gives_run (rules_by a.pool.kind a.pool.mode) a.pgns.now (record { times = a.times.now; pgns = a.frame_pgns.now; sources = a.sources.now; bytes = a.«data».now }) a.pool a.counters a.kinds.now a.lengths.now a.arena.now (same_limit a.pool.kind a.pool.mode) blank_heard _ c.refusal-result.ensures (sym c.is_refused.ensures ∙ c.if-is_refused.false) _
+    batched (gives_run (rules_by a.pool.kind a.pool.mode) a.pgns.now (record { times = a.times.now; pgns = a.frame_pgns.now; sources = a.sources.now; bytes = a.«data».now }) a.pool a.counters a.kinds.now a.lengths.now a.arena.now (same_limit a.pool.kind a.pool.mode) blank_heard _ c.refusal-result.ensures c.in_default.not-Err _
     (stop_short _ _ _ _ _ _ _ _ _ _ _ _ _ _ _ _ _ _ _ c.loop-i.invariant.0 c.loop-i-test.true _ c.frame_at-heard.ensures _ (looked_right _ _ _ c.loop-i.invariant.1 _ _ _ _ c.looked_up-listed.ensures).0 _ c.key_of_frame-key.ensures _ c.seek-g.ensures c.if-g-ge-POOL_LIMIT.true _ c.short_in-short.ensures.0 c.if-short-eq0.false _ c.no_room.ensures c.if-no_room.true))
 
 pub deliver_short-requires : goal.deliver_short-requires
@@ -89,7 +88,7 @@ pub loop-i-smaller-then-g-ge-POOL_LIMIT : goal.loop-i-smaller-then-g-ge-POOL_LIM
 loop-i-smaller-then-g-ge-POOL_LIMIT c = nearer _ _ c.loop-i-test.true
 
 pub loop-i-preserved-then-g-ge-POOL_LIMIT : goal.loop-i-preserved-then-g-ge-POOL_LIMIT
-loop-i-preserved-then-g-ge-POOL_LIMIT c = (step_short _ _ _ _ _ _ _ _ _ _ _ _ _ _ _ _ _ _ _ c.loop-i.invariant.0 c.loop-i-test.true _ c.frame_at-heard.ensures _ (looked_right _ _ _ c.loop-i.invariant.1 _ _ _ _ c.looked_up-listed.ensures).0 _ c.key_of_frame-key.ensures _ c.seek-g.ensures c.if-g-ge-POOL_LIMIT.true _ c.short_in-short.ensures.0 c.if-short-eq0.false _ c.no_room.ensures c.if-no_room.false _ c.deliver_short.ensures, (looked_right _ _ _ c.loop-i.invariant.1 _ _ _ _ c.looked_up-listed.ensures).1)
+loop-i-preserved-then-g-ge-POOL_LIMIT c = (step_short _ _ _ _ _ _ _ _ _ _ _ _ _ _ _ _ _ _ _ c.loop-i.invariant.0 c.loop-i-test.true _ c.frame_at-heard.ensures _ (looked_right _ _ _ c.loop-i.invariant.1 _ _ _ _ c.looked_up-listed.ensures).0 _ c.key_of_frame-key.ensures _ c.seek-g.ensures c.if-g-ge-POOL_LIMIT.true _ c.short_in-short.ensures.0 c.if-short-eq0.false _ c.no_room.ensures c.if-no_room.false _ c.deliver_short.ensures _ c.number.ensures, (looked_right _ _ _ c.loop-i.invariant.1 _ _ _ _ c.looked_up-listed.ensures).1)
 
 pub offset_bounds-q-g : goal.offset_bounds-q-g
 offset_bounds-q-g c = record { fits = head_place _ c.if-g-ge-POOL_LIMIT.false }
@@ -128,7 +127,7 @@ pub loop-i-smaller-then-runs_on : goal.loop-i-smaller-then-runs_on
 loop-i-smaller-then-runs_on c = nearer _ _ c.loop-i-test.true
 
 pub loop-i-preserved-then-runs_on : goal.loop-i-preserved-then-runs_on
-loop-i-preserved-then-runs_on c = (step_running _ _ _ _ _ _ _ _ _ _ _ _ _ _ _ _ _ _ _ c.loop-i.invariant.0 c.loop-i-test.true _ c.frame_at-heard.ensures _ (looked_right _ _ _ c.loop-i.invariant.1 _ _ _ _ c.looked_up-listed.ensures).0 _ c.key_of_frame-key.ensures _ c.seek-g.ensures c.if-g-ge-POOL_LIMIT.false _ _ c.runs_on.ensures c.if-runs_on.true _ c.ran_on.ensures _ c.keep.ensures, (looked_right _ _ _ c.loop-i.invariant.1 _ _ _ _ c.looked_up-listed.ensures).1)
+loop-i-preserved-then-runs_on c = (step_running _ _ _ _ _ _ _ _ _ _ _ _ _ _ _ _ _ _ _ c.loop-i.invariant.0 c.loop-i-test.true _ c.frame_at-heard.ensures _ (looked_right _ _ _ c.loop-i.invariant.1 _ _ _ _ c.looked_up-listed.ensures).0 _ c.key_of_frame-key.ensures _ c.seek-g.ensures c.if-g-ge-POOL_LIMIT.false _ _ c.runs_on.ensures c.if-runs_on.true _ c.ran_on.ensures _ c.keep.ensures _ c.number-then-runs_on.ensures, (looked_right _ _ _ c.loop-i.invariant.1 _ _ _ _ c.looked_up-listed.ensures).1)
 
 pub shape_of-kinds-then-no_room-2 : goal.shape_of-kinds-then-no_room-2
 shape_of-kinds-then-no_room-2 c = search (rules, c.loop-i.invariant.0.run.kinds)
@@ -141,7 +140,7 @@ shape_of-arena-then-no_room-2 c = search (rules, c.loop-i.invariant.0.run.arena)
 
 pub returns-then-no_room-2 : goal.returns-then-no_room-2
 returns-then-no_room-2 c = let a = c.args in
-    batched (gives_run (rules_by a.pool.kind a.pool.mode) a.pgns.now (record { times = a.times.now; pgns = a.frame_pgns.now; sources = a.sources.now; bytes = a.«data».now }) a.pool a.counters a.kinds.now a.lengths.now a.arena.now (same_limit a.pool.kind a.pool.mode) blank_heard _ c.refusal-result.ensures (sym c.is_refused.ensures ∙ c.if-is_refused.false) _
+    batched (gives_run (rules_by a.pool.kind a.pool.mode) a.pgns.now (record { times = a.times.now; pgns = a.frame_pgns.now; sources = a.sources.now; bytes = a.«data».now }) a.pool a.counters a.kinds.now a.lengths.now a.arena.now (same_limit a.pool.kind a.pool.mode) blank_heard _ c.refusal-result.ensures c.in_default.not-Err _
     (stop_by _ _ _ _ _ _ _ _ _ _ _ _ _ _ _ _ _ _ _ c.loop-i.invariant.0 c.loop-i-test.true _ c.frame_at-heard.ensures _ (looked_right _ _ _ c.loop-i.invariant.1 _ _ _ _ c.looked_up-listed.ensures).0 _ c.key_of_frame-key.ensures _ c.seek-g.ensures c.if-g-ge-POOL_LIMIT.false _ _ c.decide-d.ensures _ c.no_room-in-loop-i.ensures c.if-no_room-2.true))
 
 pub take-t-requires : goal.take-t-requires
@@ -202,5 +201,5 @@ shape_of-arena c = search (rules, c.loop-i.invariant.0.run.arena)
 
 pub returns : goal.returns
 returns c = let a = c.args in
-    batched (gives_run (rules_by a.pool.kind a.pool.mode) a.pgns.now (record { times = a.times.now; pgns = a.frame_pgns.now; sources = a.sources.now; bytes = a.«data».now }) a.pool a.counters a.kinds.now a.lengths.now a.arena.now (same_limit a.pool.kind a.pool.mode) blank_heard _ c.refusal-result.ensures (sym c.is_refused.ensures ∙ c.if-is_refused.false) _
+    batched (gives_run (rules_by a.pool.kind a.pool.mode) a.pgns.now (record { times = a.times.now; pgns = a.frame_pgns.now; sources = a.sources.now; bytes = a.«data».now }) a.pool a.counters a.kinds.now a.lengths.now a.arena.now (same_limit a.pool.kind a.pool.mode) blank_heard _ c.refusal-result.ensures c.in_default.not-Err _
     (ends (rules_by a.pool.kind a.pool.mode) _ _ _ _ _ _ _ _ _ _ _ _ _ _ c.loop-i.invariant.0.run c.loop-i-test.false))

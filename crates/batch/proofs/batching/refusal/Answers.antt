@@ -6,18 +6,29 @@ use Rattle.session.specs.declared.Heard.{Heard}
 use Rattle.session.specs.Rules.{Rules}
 use Rattle.session.specs.inner.Search.{found_in}
 use Rattle.batch.proofs.RowLaws.{refused_bad, refused_short, refused_none}
+use denote.Enum.Bare.{sameb}
+use Rattle.session.specs.contracts.PoolKind.{the_type}
+use Rattle.session.specs.declared.PoolKind.{PoolKind}
+use Rattle.assembler.specs.Promises.{same_kind}
+use Rattle.session.specs.declared.PoolKind.TheVariants.{Original, Addressed}
+use mathlib.Core.Bool.{not}
 use Rattle.batch.proofs.batching.refusal.Goals as goal
 
--- `batching::refusal` meets its contract: the pool is looked at before the rows. Assumes nothing.
 -- by its kind, or by what the walk saw
 looked : {o t : Bool} {s : Found} (R : Rules) (n : ℕ) (hs : List Head) {f g : Heard} → o ≡ t → s ≡ found_in R f n hs → f ≡ g → (o || s.bad) ≡ (t || (found_in R g n hs).bad)
 looked R n hs eo es ef = rw (eo, es, ef)
 
-pub returns-then-is_other-before : goal.returns-then-is_other-before
-returns-then-is_other-before c = refused_bad _ _ _ (looked _ _ _ c.is_other.ensures c.walk-before.ensures c.blank.ensures) c.if-is_other-before.true
+-- the derived test of kinds is the definition's
+differs : {t : Bool} (kind : PoolKind) → t ≡ not (sameb the_type kind Original) → t ≡ not (same_kind Original kind)
+unfolding same_kind
+differs Original e = e
+differs Addressed e = e
+
+pub returns-then-ne-before : goal.returns-then-ne-before
+returns-then-ne-before c = refused_bad _ _ _ (looked _ _ _ (differs c.args.kind c.ne.ensures) c.walk-before.ensures c.blank.ensures) c.if-ne-before.true
 
 pub returns-then-too_short : goal.returns-then-too_short
-returns-then-too_short c = refused_short _ _ _ (looked _ _ _ c.is_other.ensures c.walk-before.ensures c.blank.ensures) c.if-is_other-before.false _ c.too_short.ensures c.if-too_short.true
+returns-then-too_short c = refused_short _ _ _ (looked _ _ _ (differs c.args.kind c.ne.ensures) c.walk-before.ensures c.blank.ensures) c.if-ne-before.false _ c.too_short.ensures c.if-too_short.true
 
 pub returns : goal.returns
-returns c = refused_none _ _ _ (looked _ _ _ c.is_other.ensures c.walk-before.ensures c.blank.ensures) c.if-is_other-before.false _ c.too_short.ensures c.if-too_short.false
+returns c = refused_none _ _ _ (looked _ _ _ (differs c.args.kind c.ne.ensures) c.walk-before.ensures c.blank.ensures) c.if-ne-before.false _ c.too_short.ensures c.if-too_short.false
