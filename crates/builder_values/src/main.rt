@@ -10,176 +10,110 @@
 #![tactic(auto)]
 
 use builder::{FastPacketBuilder, FrameIterator};
-use can_id::{CanFrame, CanId, CanIdBuildError};
+use can_id::{CanFrame, CanIdBuildError};
 use fast_packet::MAX_FAST_PACKET_PAYLOAD;
 use std::io::{self, BufWriter, Write};
 
 // One byte more than a message can have.
 const TOO_MANY: usize = MAX_FAST_PACKET_PAYLOAD + 1;
 
+// A frame, None at the end, or why there is none.
+type Answer = Result<Option<CanFrame>, CanIdBuildError>;
+
 // ---- writing an answer
 
-fn say<W: Write>(out: &mut W, text: &[u8]) -> io::Result<()> {
-    out.write_all(text)
-}
-
-fn say_number<W: Write>(out: &mut W, n: usize) -> io::Result<()> {
-    write!(out, "{n}")
-}
-
-fn say_byte<W: Write>(out: &mut W, b: u8) -> io::Result<()> {
-    write!(out, "{b:02x}")
-}
-
-fn say_bytes<W: Write>(out: &mut W, data: [u8; 8]) -> io::Result<()> {
-    for i in 0usize..8 {
-        say_byte(out, data[i])?;
-    }
-    Ok(())
-}
-
-fn say_kind<W: Write>(
-    out: &mut W,
-    answer: Result<Option<CanFrame>, CanIdBuildError>,
-) -> io::Result<()> {
+fn say_kind<W: Write>(out: &mut W, answer: Answer) -> io::Result<()> {
     match answer {
-        Ok(Some(_)) => say(out, b"frame"),
-        Ok(None) => say(out, b"End"),
-        Err(error) => say_refusal(out, error),
-    }
-}
-
-fn say_refusal<W: Write>(out: &mut W, error: CanIdBuildError) -> io::Result<()> {
-    say(out, b"refusal ")?;
-    say_number(out, usize::from(error.number()))?;
-    match error {
-        CanIdBuildError::InvalidForFocusedMessage { pgn } => {
-            say(out, b", ")?;
-            say_number(out, usize::from(pgn))
+        Ok(Some(_)) => write!(out, "frame"),
+        Ok(None) => write!(out, "End"),
+        Err(error) => {
+            write!(out, "refusal {}", error.number())?;
+            if let CanIdBuildError::InvalidForFocusedMessage { pgn } = error {
+                write!(out, ", {pgn}")?;
+            }
+            Ok(())
         }
-        _ => Ok(()),
     }
 }
 
-// Zeros where there is no frame.
-fn frame_in(answer: Result<Option<CanFrame>, CanIdBuildError>) -> CanFrame {
-    match answer {
-        Ok(Some(frame)) => frame,
-        _ => CanFrame {
-            id: CanId(0),
-            data: [0; 8],
-            len: 0,
-        },
+// The frame, or the zeros in its place.
+fn say_frame<W: Write>(out: &mut W, answer: Answer) -> io::Result<()> {
+    let frame = answer.unwrap_or(None).unwrap_or_default();
+    write!(out, "{:08x} ", frame.id.0)?;
+    for byte in frame.data {
+        write!(out, "{byte:02x}")?;
     }
-}
-
-fn say_frame<W: Write>(out: &mut W, frame: CanFrame) -> io::Result<()> {
-    let id = frame.id.0;
-    write!(out, "{id:08x}")?;
-    say(out, b" ")?;
-    let data = frame.data;
-    say_bytes(out, data)?;
-    say(out, b" ")?;
-    say_number(out, frame.len)
+    write!(out, " {}", frame.len)
 }
 
 fn say_answer<W: Write>(
     out: &mut W,
-    answer: Result<Option<CanFrame>, CanIdBuildError>,
+    answer: Answer,
     frame_index: u8,
     bytes_sent: usize,
 ) -> io::Result<()> {
     say_kind(out, answer)?;
-    say(out, b": ")?;
-    say_frame(out, frame_in(answer))?;
-    say(out, b", then index ")?;
-    say_number(out, frame_index as usize)?;
-    say(out, b", sent ")?;
-    say_number(out, bytes_sent)?;
-    say(out, b"\n")
-}
-
-// Whether another answer follows that is worth writing.
-fn goes_on(answer: Result<Option<CanFrame>, CanIdBuildError>) -> bool {
-    match answer {
-        Ok(None) => false,
-        _ => true,
-    }
+    write!(out, ": ")?;
+    say_frame(out, answer)?;
+    writeln!(out, ", then index {frame_index}, sent {bytes_sent}")
 }
 
 // ---- walking a message
 
 // The first `len` bytes, or all where there are fewer.
 fn first(bytes: &[u8], len: usize) -> &[u8] {
-    if len <= bytes.len() {
-        return &bytes[..len];
-    }
-    bytes
+    &bytes[..len.min(bytes.len())]
 }
 
 // All answers up to End, at most 40.
 fn walk<W: Write>(out: &mut W, started: FrameIterator, payload: &[u8]) -> io::Result<()> {
     let mut frames = started;
-    for turn in 0usize..40 {
+    for _ in 0..40 {
         let item = frames.next(payload);
         frames = item.iterator;
         say_answer(out, item.answer, frames.frame_index, frames.bytes_sent)?;
-        if !goes_on(item.answer) {
-            return Ok(());
+        if matches!(item.answer, Ok(None)) {
+            break;
         }
     }
     Ok(())
 }
 
-// The message of a new builder, and the number that the caller holds then. Its payload is the first `len` bytes.
+// The message of a new builder, and the number that the caller holds then.
 fn message<W: Write>(
     out: &mut W,
-    title: &[u8],
+    title: &str,
     pgn: u32,
     destination: Option<u8>,
-    bytes: &[u8],
-    len: usize,
+    payload: &[u8],
     sequence_id: u8,
 ) -> io::Result<()> {
-    let payload = first(bytes, len);
-    say(out, title)?;
-    say(out, b"\n")?;
-    let made = FastPacketBuilder::new(
-        pgn,
-        35,
-        destination,
-        payload,
-        &[129029, 127489, 126208],
-        sequence_id,
-    );
-    let builder = made.builder;
-    walk(out, builder.build(), payload)?;
-    say(out, b"number handed back ")?;
-    say_number(out, made.sequence_id as usize)?;
-    say(out, b"\n")
+    writeln!(out, "{title}")?;
+    let pgns = [129029, 127489, 126208];
+    let made = FastPacketBuilder::new(pgn, 35, destination, payload, &pgns, sequence_id);
+    walk(out, made.builder.build(), payload)?;
+    writeln!(out, "number handed back {}", made.sequence_id)
 }
 
 // One step on numbers.
 fn at<W: Write>(
     out: &mut W,
-    title: &[u8],
+    title: &str,
     builder: FastPacketBuilder,
     frame_index: u8,
     bytes_sent: usize,
-    bytes: &[u8],
-    len: usize,
+    payload: &[u8],
 ) -> io::Result<()> {
-    say(out, title)?;
-    say(out, b"\n")?;
-    let next = builder.next_frame(frame_index, bytes_sent, first(bytes, len));
+    writeln!(out, "{title}")?;
+    let next = builder.next_frame(frame_index, bytes_sent, payload);
     say_answer(out, next.answer, next.frame_index, next.bytes_sent)
 }
 
 // The bytes 0, 1, 2 and so on.
 fn counting() -> [u8; TOO_MANY] {
-    let mut bytes = [0u8; TOO_MANY];
-    for i in 0..TOO_MANY {
-        bytes[i] = i as u8;
+    let mut bytes = [0; TOO_MANY];
+    for (i, byte) in bytes.iter_mut().enumerate() {
+        *byte = i as u8;
     }
     bytes
 }
@@ -187,57 +121,46 @@ fn counting() -> [u8; TOO_MANY] {
 // ---- the values
 
 fn messages<W: Write>(out: &mut W, bytes: &[u8]) -> io::Result<()> {
-    let nobody = None;
     message(
         out,
-        b"P8: listed, number 2, 01 02 03",
+        "P8: listed, number 2, 01 02 03",
         127489,
-        nobody,
+        None,
         &[1, 2, 3],
-        3,
         2,
     )?;
-    message(out, b"unlisted, 8 bytes", 127245, nobody, bytes, 8, 0)?;
+    message(out, "unlisted, 8 bytes", 127245, None, first(bytes, 8), 0)?;
     message(
         out,
-        b"unlisted, 9 bytes, number 9",
+        "unlisted, 9 bytes, number 9",
         127245,
-        nobody,
-        bytes,
-        9,
+        None,
+        first(bytes, 9),
         9,
     )?;
-    message(
-        out,
-        b"223 bytes, number 7",
-        127489,
-        nobody,
-        bytes,
-        MAX_FAST_PACKET_PAYLOAD,
-        7,
-    )
+    let longest = first(bytes, MAX_FAST_PACKET_PAYLOAD);
+    message(out, "223 bytes, number 7", 127489, None, longest, 7)
 }
 
 fn refusals<W: Write>(out: &mut W, bytes: &[u8]) -> io::Result<()> {
-    let nobody = None;
-    message(out, b"empty payload", 127489, nobody, bytes, 0, 3)?;
-    message(out, b"60928 to nobody", 60928, nobody, bytes, 8, 4)?;
-    message(out, b"127489 to 16", 127489, Some(16), bytes, 9, 5)?;
-    message(out, b"60929 to 255", 60929, Some(255), bytes, 8, 6)?;
-    message(out, b"PGN 0x40000", 0x4_0000, nobody, bytes, 7, 8)?;
-    message(out, b"224 bytes", 127489, nobody, bytes, TOO_MANY, 255)
+    message(out, "empty payload", 127489, None, &[], 3)?;
+    message(out, "60928 to nobody", 60928, None, first(bytes, 8), 4)?;
+    message(out, "127489 to 16", 127489, Some(16), first(bytes, 9), 5)?;
+    message(out, "60929 to 255", 60929, Some(255), first(bytes, 8), 6)?;
+    message(out, "PGN 0x40000", 0x4_0000, None, first(bytes, 7), 8)?;
+    message(out, "224 bytes", 127489, None, first(bytes, TOO_MANY), 255)
 }
 
 // A sequence and a priority, of which three bits are kept, and a destination.
 fn setters<W: Write>(out: &mut W, bytes: &[u8]) -> io::Result<()> {
     let payload = first(bytes, 20);
     let made = FastPacketBuilder::new(126208, 35, None, payload, &[126208], 0);
-    let builder = made.builder;
-    let set = builder
+    let set = made
+        .builder
         .with_sequence_id(13)
         .with_priority(11)
         .to_destination(16);
-    say(out, b"126208 to 16, priority 11, sequence 13\n")?;
+    writeln!(out, "126208 to 16, priority 11, sequence 13")?;
     walk(out, set.build(), payload)
 }
 
@@ -259,30 +182,30 @@ fn steps<W: Write>(out: &mut W, bytes: &[u8]) -> io::Result<()> {
         sequence_id: 0,
         fast: false,
     };
-    at(out, b"index 255 comes round", fast, 255, 6, bytes, 20)?;
-    at(out, b"index 255, no byte sent", fast, 255, 0, bytes, 20)?;
-    at(out, b"index 40, 19 bytes sent", fast, 40, 19, bytes, 20)?;
-    at(out, b"bytes sent past the length", fast, 3, 21, bytes, 20)?;
-    at(out, b"empty payload at index 5", fast, 5, 9, bytes, 0)?;
+    let twenty = first(bytes, 20);
+    let nine = first(bytes, 9);
+    at(out, "index 255 comes round", fast, 255, 6, twenty)?;
+    at(out, "index 255, no byte sent", fast, 255, 0, twenty)?;
+    at(out, "index 40, 19 bytes sent", fast, 40, 19, twenty)?;
+    at(out, "bytes sent past the length", fast, 3, 21, twenty)?;
+    at(out, "empty payload at index 5", fast, 5, 9, &[])?;
+    at(out, "empty payload at index 0, 9 sent", fast, 0, 9, &[])?;
     at(
         out,
-        b"empty payload at index 0, 9 sent",
-        fast,
-        0,
+        "raw, 2 bytes sent, index 9",
+        raw,
         9,
-        bytes,
-        0,
+        2,
+        first(bytes, 5),
     )?;
-    at(out, b"raw, 2 bytes sent, index 9", raw, 9, 2, bytes, 5)?;
-    at(out, b"marked not fast, 9 bytes", raw, 0, 0, bytes, 9)?;
+    at(out, "marked not fast, 9 bytes", raw, 0, 0, nine)?;
     at(
         out,
-        b"marked not fast, 9 bytes, 3 sent, index 4",
+        "marked not fast, 9 bytes, 3 sent, index 4",
         raw,
         4,
         3,
-        bytes,
-        9,
+        nine,
     )
 }
 

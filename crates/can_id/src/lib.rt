@@ -9,7 +9,7 @@ ghost use Rattle.can_id.specs.Build.{error_number, of_built, build_of, new_id_bu
 // ---- the identifier
 
 // An extended CAN identifier: 29 bits. A driver may have left flags in the three above, so `read` refuses a number that has any of them.
-#[derive(Debug, Clone, Copy, PartialEq, Eq)]
+#[derive(Debug, Default, Clone, Copy, PartialEq, Eq)]
 pub struct CanId(pub u32);
 
 // What an identifier says. A PGN with PF 240 or above goes to nobody in particular, and then there is no destination.
@@ -121,7 +121,7 @@ impl CanId {
 // ---- the frame
 
 // A frame of the bus: `len` (0 to 8) of its eight bytes are valid.
-#[derive(Debug, Clone, Copy, PartialEq, Eq)]
+#[derive(Debug, Default, Clone, Copy, PartialEq, Eq)]
 pub struct CanFrame {
     pub id: CanId,
     pub data: [u8; 8],
