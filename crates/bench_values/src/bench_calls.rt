@@ -1,11 +1,9 @@
 // The bench: refusals 20 to 28 of strict reassembly and the splitter, 30 to 37 of the transmit check; 8 and 29 are in wide.rt. Each row is given twice, in
 // separate slices and as frames, and what the second says follows on a line of its own.
-use crate::frame_rows::{blank_row, laid_after, row_of};
+use crate::frame_rows::{ROW_FRAMES, blank_row, laid_after, row_of};
 use crate::say;
-use oracle::{
-    Checked, Fault, Reassembled, check_tx_first, check_tx_rows, reassemble_first, reassemble_rows,
-};
-use splitter::{Split, fast_packet_frames_into, fast_packet_rows};
+use oracle::{CheckError, Fault, ReassembleError, SliceRow, check_tx, reassemble};
+use splitter::{SplitError, fast_packet_frames, fast_packet_rows};
 use std::io::{self, Write};
 
 // PGN 127489, and an address claim, both from source 35.
@@ -33,12 +31,15 @@ fn show_fault<W: Write>(out: &mut W, fault: Fault) -> io::Result<()> {
     }
 }
 
-pub(crate) fn show_reassembled<W: Write>(out: &mut W, r: Reassembled) -> io::Result<()> {
+pub(crate) fn show_reassembled<W: Write>(
+    out: &mut W,
+    r: Result<usize, ReassembleError>,
+) -> io::Result<()> {
     match r {
-        Reassembled::Messages(n) => say::counted(out, b"messages ", n as u64),
-        Reassembled::Refused(fault) => show_fault(out, fault),
-        Reassembled::Incomplete(size) => say::refusal_with(out, 26, size as u64),
-        Reassembled::NoRoom => say::refusal(out, 27),
+        Ok(n) => say::counted(out, b"messages ", n as u64),
+        Err(ReassembleError::Refused(fault)) => show_fault(out, fault),
+        Err(ReassembleError::Incomplete(size)) => say::refusal_with(out, 26, size as u64),
+        Err(ReassembleError::NoRoom) => say::refusal(out, 27),
     }
 }
 
@@ -49,12 +50,12 @@ pub(crate) fn as_frames<W: Write>(out: &mut W) -> io::Result<()> {
 fn judge_frames<W: Write>(out: &mut W, bytes: &[u8], lens: &[usize]) -> io::Result<()> {
     let mut list = [0usize; 3];
     let mut arena = [0u8; 16];
+    let row = row_of(&[ENGINE, ENGINE], bytes, lens);
     as_frames(out)?;
     show_reassembled(
         out,
-        reassemble_first(
-            row_of(&[ENGINE, ENGINE], bytes, lens),
-            lens.len(),
+        reassemble(
+            &row[..lens.len().min(ROW_FRAMES)],
             35,
             127489,
             &mut list,
@@ -70,10 +71,12 @@ fn judge<W: Write>(out: &mut W, words: &[u8], bytes: &[u8], lens: &[usize]) -> i
     say::text(out, words)?;
     show_reassembled(
         out,
-        reassemble_rows(
-            &[ENGINE, ENGINE],
-            bytes,
-            lens,
+        reassemble(
+            SliceRow {
+                ids: &[ENGINE, ENGINE],
+                bytes,
+                lens,
+            },
             35,
             127489,
             &mut list,
@@ -83,12 +86,12 @@ fn judge<W: Write>(out: &mut W, words: &[u8], bytes: &[u8], lens: &[usize]) -> i
     judge_frames(out, bytes, lens)
 }
 
-pub(crate) fn show_split<W: Write>(out: &mut W, s: Split) -> io::Result<()> {
+pub(crate) fn show_split<W: Write>(out: &mut W, s: Result<usize, SplitError>) -> io::Result<()> {
     match s {
-        Split::Frames(n) => say::counted(out, b"frames ", n as u64),
-        Split::BadSplit => say::refusal(out, 28),
-        Split::TooWide => say::refusal(out, 8),
-        Split::Short => say::refusal(out, 27),
+        Ok(n) => say::counted(out, b"frames ", n as u64),
+        Err(SplitError::BadSplit) => say::refusal(out, 28),
+        Err(SplitError::TooWide) => say::refusal(out, 8),
+        Err(SplitError::Short) => say::refusal(out, 27),
     }
 }
 
@@ -103,9 +106,8 @@ fn split<W: Write>(out: &mut W, words: &[u8], payload: &[u8]) -> io::Result<()> 
         fast_packet_rows(ENGINE, 0, payload, &mut ids, &mut bytes, &mut lens),
     )?;
     as_frames(out)?;
-    let left = fast_packet_frames_into(ENGINE, 0, payload, blank_row());
-    let s = left.split;
-    show_split(out, s)
+    let mut row = blank_row();
+    show_split(out, fast_packet_frames(ENGINE, 0, payload, &mut row))
 }
 
 // Each of the following gives a few refusals: a long function takes the prover longer than its parts.
@@ -185,19 +187,19 @@ pub(crate) fn refusals<W: Write>(out: &mut W) -> io::Result<()> {
     splits(out)
 }
 
-pub(crate) fn show_checked<W: Write>(out: &mut W, c: Checked) -> io::Result<()> {
+pub(crate) fn show_checked<W: Write>(out: &mut W, c: Result<(), CheckError>) -> io::Result<()> {
     match c {
-        Checked::Good => say::text(out, b"good\n"),
-        Checked::NoCount => say::refusal(out, 30),
-        Checked::Over => say::refusal(out, 31),
-        Checked::NoClaim => say::refusal(out, 32),
-        Checked::Faulty(fault) => show_fault(out, fault),
-        Checked::Open(size) => say::refusal_with(out, 26, size as u64),
-        Checked::Count(found) => say::refusal_with(out, 33, found as u64),
-        Checked::Size(i) => say::refusal_with(out, 34, i as u64),
-        Checked::Hours(i) => say::refusal_with(out, 35, i as u64),
-        Checked::Pattern(i) => say::refusal_with(out, 36, i as u64),
-        Checked::Sequence(i) => say::refusal_with(out, 37, i as u64),
+        Ok(()) => say::text(out, b"good\n"),
+        Err(CheckError::NoCount) => say::refusal(out, 30),
+        Err(CheckError::Over) => say::refusal(out, 31),
+        Err(CheckError::NoClaim) => say::refusal(out, 32),
+        Err(CheckError::Faulty(fault)) => show_fault(out, fault),
+        Err(CheckError::Open(size)) => say::refusal_with(out, 26, size as u64),
+        Err(CheckError::Count(found)) => say::refusal_with(out, 33, found as u64),
+        Err(CheckError::Size(i)) => say::refusal_with(out, 34, i as u64),
+        Err(CheckError::Hours(i)) => say::refusal_with(out, 35, i as u64),
+        Err(CheckError::Pattern(i)) => say::refusal_with(out, 36, i as u64),
+        Err(CheckError::Sequence(i)) => say::refusal_with(out, 37, i as u64),
     }
 }
 
@@ -255,7 +257,16 @@ fn check_rows<W: Write>(
     lay(ids, bytes, lens, 5, 40, sequence, second);
     show_checked(
         out,
-        check_tx_rows(&ids[..], &bytes[..], &lens[..], 35, expected, base),
+        check_tx(
+            SliceRow {
+                ids: &ids[..],
+                bytes: &bytes[..],
+                lens: &lens[..],
+            },
+            35,
+            expected,
+            base,
+        ),
     )
 }
 
@@ -269,16 +280,13 @@ fn check_frames<W: Write>(
     base: u32,
 ) -> io::Result<()> {
     let claim = row_of(&[CLAIM], b"\xFF\xFF\xFF\xFF\xFF\xFF\xFF\xFF", &[8]);
-    let one = fast_packet_frames_into(ENGINE, 0, &first, blank_row());
-    let two = fast_packet_frames_into(ENGINE, sequence, &second, blank_row());
-    let ones = one.row;
-    let twos = two.row;
-    let row = laid_after(claim, 1, ones);
+    let mut ones = blank_row();
+    let mut twos = blank_row();
+    let _ = fast_packet_frames(ENGINE, 0, &first, &mut ones);
+    let _ = fast_packet_frames(ENGINE, sequence, &second, &mut twos);
+    let row = laid_after(laid_after(claim, 1, ones), 5, twos);
     as_frames(out)?;
-    show_checked(
-        out,
-        check_tx_first(laid_after(row, 5, twos), 9, 35, expected, base),
-    )
+    show_checked(out, check_tx(&row[..], 35, expected, base))
 }
 
 // A claim, then two records of four frames each: hours 7 with this odd byte, and these hours with this sequence.
@@ -324,12 +332,10 @@ fn check_one<W: Write>(
     lens: &[usize],
 ) -> io::Result<()> {
     say::text(out, words)?;
-    show_checked(out, check_tx_rows(ids, bytes, lens, 35, 1, 0))?;
+    show_checked(out, check_tx(SliceRow { ids, bytes, lens }, 35, 1, 0))?;
+    let row = row_of(ids, bytes, lens);
     as_frames(out)?;
-    show_checked(
-        out,
-        check_tx_first(row_of(ids, bytes, lens), lens.len(), 35, 1, 0),
-    )
+    show_checked(out, check_tx(&row[..lens.len().min(ROW_FRAMES)], 35, 1, 0))
 }
 
 fn counts<W: Write>(out: &mut W) -> io::Result<()> {

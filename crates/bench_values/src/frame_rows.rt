@@ -1,5 +1,8 @@
 // Rows of frames by value.
-use splitter::{Frame, ROW_FRAMES};
+use splitter::Frame;
+
+// As many frames as a claim and two messages of 26 bytes take.
+pub(crate) const ROW_FRAMES: usize = 9;
 
 fn blank() -> Frame {
     Frame {

@@ -1,11 +1,11 @@
 // Identifiers that are too wide, by document 02's No. 4: read, in a row of frames, and handed to the splitter. What was lent stays as it was, which the
 // numbers after the answer tell.
 use crate::bench_calls::{CLAIM, ENGINE, as_frames, show_checked, show_reassembled, show_split};
-use crate::frame_rows::{blank_row, row_of};
+use crate::frame_rows::{ROW_FRAMES, blank_row, row_of};
 use crate::say;
 use can_id::{CanId, CanIdParts};
-use oracle::{check_tx_first, check_tx_rows, reassemble_first, reassemble_rows};
-use splitter::{fast_packet_frames_into, fast_packet_rows};
+use oracle::{SliceRow, check_tx, reassemble};
+use splitter::{fast_packet_frames, fast_packet_rows};
 use std::io::{self, Write};
 
 // PGN 127489 from source 35 and from source 36, and an address claim from 35, with flags above bit 28.
@@ -43,19 +43,13 @@ fn judge_into<W: Write>(
     say::text(out, words)?;
     show_reassembled(
         out,
-        reassemble_rows(ids, bytes, lens, 35, 127489, list, arena),
+        reassemble(SliceRow { ids, bytes, lens }, 35, 127489, list, arena),
     )?;
+    let row = row_of(ids, bytes, lens);
     as_frames(out)?;
     show_reassembled(
         out,
-        reassemble_first(
-            row_of(ids, bytes, lens),
-            lens.len(),
-            35,
-            127489,
-            list,
-            arena,
-        ),
+        reassemble(&row[..lens.len().min(ROW_FRAMES)], 35, 127489, list, arena),
     )
 }
 
@@ -155,12 +149,14 @@ fn check<W: Write>(
 ) -> io::Result<()> {
     let bytes = b"\xFF\xFF\xFF\xFF\xFF\xFF\xFF\xFF\x00\x01\x00\xFF\xFF\xFF\xFF\xFF";
     say::text(out, words)?;
-    show_checked(out, check_tx_rows(ids, bytes, &[8, 8], 35, expected, base))?;
-    as_frames(out)?;
+    let lens = &[8, 8];
     show_checked(
         out,
-        check_tx_first(row_of(ids, bytes, &[8, 8]), 2, 35, expected, base),
-    )
+        check_tx(SliceRow { ids, bytes, lens }, 35, expected, base),
+    )?;
+    let row = row_of(ids, bytes, lens);
+    as_frames(out)?;
+    show_checked(out, check_tx(&row[..2], 35, expected, base))
 }
 
 fn checks<W: Write>(out: &mut W) -> io::Result<()> {
@@ -193,9 +189,8 @@ fn split<W: Write>(out: &mut W, words: &[u8], sequence: u8, payload: &[u8]) -> i
         fast_packet_rows(WIDE, sequence, payload, &mut ids, &mut bytes, &mut lens),
     )?;
     as_frames(out)?;
-    let after = fast_packet_frames_into(WIDE, sequence, payload, blank_row());
-    let s = after.split;
-    show_split(out, s)?;
+    let mut row = blank_row();
+    show_split(out, fast_packet_frames(WIDE, sequence, payload, &mut row))?;
     left(out, lens[0], bytes[0])
 }
 

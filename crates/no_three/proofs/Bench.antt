@@ -7,18 +7,19 @@ use Rattle.base.specs.Answer.{Answer, gives, refuses, counted}
 use Rattle.base.proofs.Cases.{pick_all}
 use Rattle.splitter.specs.Split.{split_of, of_split}
 use Rattle.splitter.specs.declared.Frame.{Frame}
-use Rattle.splitter.specs.declared.Split.{Split}
-use Rattle.splitter.specs.declared.Split.TheVariants.{Frames, BadSplit, TooWide, Short}
+use Rattle.std.specs.Prelude.{Result, Ok, Err}
+use Rattle.splitter.specs.declared.SplitError.{SplitError}
+use Rattle.splitter.specs.declared.SplitError.TheVariants.{BadSplit, TooWide, Short}
 use Rattle.oracle.specs.Numbers.{fault_number, of_reassembled, of_checked}
 use Rattle.oracle.specs.Strict.{wide_first, delivered_to}
 use Rattle.oracle.specs.Check.{check_tx_of}
 use Rattle.oracle.proofs.Codes.{messages_coded, room_coded, transmission_coded}
 use Rattle.oracle.specs.declared.Fault.{Fault}
 use Rattle.oracle.specs.declared.Fault.TheVariants.{Length, Restarted, Announced, Stray, Order, Padding, TooWide as WideFrame}
-use Rattle.oracle.specs.declared.Reassembled.{Reassembled}
-use Rattle.oracle.specs.declared.Reassembled.TheVariants.{Messages, Refused, Incomplete, NoRoom}
-use Rattle.oracle.specs.declared.Checked.{Checked}
-use Rattle.oracle.specs.declared.Checked.TheVariants.{Good, NoCount, Over, NoClaim, Faulty, Open, Count, Size, Hours, Pattern, Sequence}
+use Rattle.oracle.specs.declared.ReassembleError.{ReassembleError}
+use Rattle.oracle.specs.declared.ReassembleError.TheVariants.{Refused, Incomplete, NoRoom}
+use Rattle.oracle.specs.declared.CheckError.{CheckError}
+use Rattle.oracle.specs.declared.CheckError.TheVariants.{NoCount, Over, NoClaim, Faulty, Open, Count, Size, Hours, Pattern, Sequence}
 use Rattle.no_three.specs.NoThree.{NotThree}
 use Rattle.no_three.proofs.Sending.{Other}
 
@@ -60,12 +61,12 @@ check_other frames source expected hours =
     (wide_other _ _ (transmission_coded NotThree (omega arith) frame_other (omega arith) (λ k lo hi. omega arith) frames source expected hours)))
 
 -- ---- any answer of the code
-pub split_case_other : (s : Split) → Other (of_split s)
+pub split_case_other : (s : Result ℕ SplitError) → Other (of_split s)
 unfolding of_split
-split_case_other (Frames n) = omega arith
-split_case_other BadSplit = omega arith
-split_case_other TooWide = omega arith
-split_case_other Short = omega arith
+split_case_other (Ok n) = omega arith
+split_case_other (Err BadSplit) = omega arith
+split_case_other (Err TooWide) = omega arith
+split_case_other (Err Short) = omega arith
 
 fault_other : (f : Fault) → NotThree (fault_number f)
 unfolding fault_number
@@ -77,23 +78,23 @@ fault_other (Order n sequence index wanted next) = omega arith
 fault_other (Padding n byte) = omega arith
 fault_other (WideFrame n) = omega arith
 
-pub reassembled_case_other : (r : Reassembled) → Other (of_reassembled r)
+pub reassembled_case_other : (r : Result ℕ ReassembleError) → Other (of_reassembled r)
 unfolding of_reassembled
-reassembled_case_other (Messages n) = omega arith
-reassembled_case_other (Refused f) = fault_other f
-reassembled_case_other (Incomplete size) = omega arith
-reassembled_case_other NoRoom = omega arith
+reassembled_case_other (Ok n) = omega arith
+reassembled_case_other (Err (Refused f)) = fault_other f
+reassembled_case_other (Err (Incomplete size)) = omega arith
+reassembled_case_other (Err NoRoom) = omega arith
 
-pub checked_case_other : (c : Checked) → Other (of_checked c)
+pub checked_case_other : (c : Result (Unit {0}) CheckError) → Other (of_checked c)
 unfolding of_checked
-checked_case_other Good = omega arith
-checked_case_other NoCount = omega arith
-checked_case_other Over = omega arith
-checked_case_other NoClaim = omega arith
-checked_case_other (Faulty f) = fault_other f
-checked_case_other (Open size) = omega arith
-checked_case_other (Count found) = omega arith
-checked_case_other (Size i) = omega arith
-checked_case_other (Hours i) = omega arith
-checked_case_other (Pattern i) = omega arith
-checked_case_other (Sequence i) = omega arith
+checked_case_other (Ok u) = omega arith
+checked_case_other (Err NoCount) = omega arith
+checked_case_other (Err Over) = omega arith
+checked_case_other (Err NoClaim) = omega arith
+checked_case_other (Err (Faulty f)) = fault_other f
+checked_case_other (Err (Open size)) = omega arith
+checked_case_other (Err (Count found)) = omega arith
+checked_case_other (Err (Size i)) = omega arith
+checked_case_other (Err (Hours i)) = omega arith
+checked_case_other (Err (Pattern i)) = omega arith
+checked_case_other (Err (Sequence i)) = omega arith

@@ -81,14 +81,9 @@ no_three =
         by_row h.leaves_these.taken h.leaves_these.told (batch_other (rules_of p) list _ p k kinds lengths arena).1,
       );
       fast_packet_frames = λ id sequence payload row row' r h. by_answer h.answer (counted_other _ (split_other id sequence payload (length row)));
-      fast_packet_frames_into = λ id sequence payload row row' r h. by_answer h.answer (counted_other _ (split_other id sequence payload (length row)));
       fast_packet_rows = λ id sequence payload ids bytes lens ids' bytes' lens' r h. by_answer h.answer (counted_other _ (split_other id sequence payload _));
       reassemble = λ frames source pgn list arena list' arena' r h. by_answer h.answer (delivered_other list arena frames source pgn);
-      reassemble_rows = λ ids bytes lens source pgn list arena list' arena' r h. by_answer h.answer (delivered_other list arena _ source pgn);
-      reassemble_first = λ frames n source pgn list arena list' arena' r h. by_answer h.answer (delivered_other list arena _ source pgn);
       check_tx = λ frames source expected hours r h. by_answer h (check_other frames source expected hours);
-      check_tx_rows = λ ids bytes lens source expected hours r h. by_answer h (check_other _ source expected hours);
-      check_tx_first = λ frames n source expected hours r h. by_answer h (check_other _ source expected hours);
       hf_can_id_read = λ id code before after h. by h.told (read_other id);
       hf_can_id_build = λ priority pgn source destination code value h. by h.told (build_other (builder_of_parts priority pgn source destination));
       hf_can_id_build_with = λ pgn source priority destination code value h. by h.told (build_other (set_of pgn source priority destination));

@@ -1,7 +1,7 @@
 -- Document 02, No. 11: "The translators of the crew screen ask when number 3 appears. No path gives it: prove that for every input of every public call".
 -- A field has the name of the call that it is about. It says: whatever the call was asked, and whatever outcome its promise allows, the number by which the
 -- answer is told is not 3. A public call that is added joins, as a field or, if it tells no answer by a number, in the list at the end; `host/test` looks.
-use Rattle.std.specs.Prelude.{ℕ, ◌<◌, Bool, List, Result, ◌≢◌, ◌≡◌, get_or, take}
+use Rattle.std.specs.Prelude.{ℕ, ◌<◌, Bool, List, ◌≢◌, ◌≡◌, get_or, Result}
 use Rattle.base.specs.Answer.{code_of}
 use Rattle.can_id.specs.Read.{of_read, read_of}
 use Rattle.can_id.specs.Build.{of_built, build_of}
@@ -41,13 +41,12 @@ use Rattle.batch.specs.Rows.{Rows, of_batched, frames_in, Batches}
 use Rattle.batch.specs.declared.Batch.{Batch}
 use Rattle.splitter.specs.Split.{of_split, SplitsInto, SplitsIntoSlices}
 use Rattle.splitter.specs.declared.Frame.{Frame}
-use Rattle.splitter.specs.declared.Split.{Split}
+use Rattle.splitter.specs.declared.SplitError.{SplitError}
 use Rattle.oracle.specs.Numbers.{of_reassembled, of_checked}
-use Rattle.oracle.specs.Rows.{row_in}
 use Rattle.oracle.specs.Strict.{Reassembles}
 use Rattle.oracle.specs.Check.{ChecksTx}
-use Rattle.oracle.specs.declared.Reassembled.{Reassembled}
-use Rattle.oracle.specs.declared.Checked.{Checked}
+use Rattle.oracle.specs.declared.ReassembleError.{ReassembleError}
+use Rattle.oracle.specs.declared.CheckError.{CheckError}
 use Rattle.numbers.specs.Numbers.{BuiltLeft, ReadLeft}
 use Rattle.numbers.specs.Fives.{ToldInFive}
 use Rattle.numbers.specs.Frames.{next_code, NextLeft}
@@ -107,23 +106,13 @@ pub record NoThree : Type 0 where
       → Batches list times pgns sources bytes p k kinds lengths arena r kinds' lengths' arena'
       → NotThree (code_of (of_batched r.result)) × NoneIsThree (frames_in r.result) kinds'
   -- ---- the bench
-  pub fast_packet_frames : (id sequence : ℕ) (payload : List ℕ) (row row' : List Frame) (r : Split)
+  pub fast_packet_frames : (id sequence : ℕ) (payload : List ℕ) (row row' : List Frame) (r : Result ℕ SplitError)
       → SplitsInto id sequence payload row r row' → NotThree (code_of (of_split r))
-  pub fast_packet_frames_into : (id sequence : ℕ) (payload : List ℕ) (row row' : List Frame) (r : Split)
-      → SplitsInto id sequence payload row r row' → NotThree (code_of (of_split r))
-  pub fast_packet_rows : (id sequence : ℕ) (payload ids bytes lens ids' bytes' lens' : List ℕ) (r : Split)
+  pub fast_packet_rows : (id sequence : ℕ) (payload ids bytes lens ids' bytes' lens' : List ℕ) (r : Result ℕ SplitError)
       → SplitsIntoSlices id sequence payload ids bytes lens r ids' bytes' lens' → NotThree (code_of (of_split r))
-  pub reassemble : (frames : List Frame) (source pgn : ℕ) (list arena list' arena' : List ℕ) (r : Reassembled)
+  pub reassemble : (frames : List Frame) (source pgn : ℕ) (list arena list' arena' : List ℕ) (r : Result ℕ ReassembleError)
       → Reassembles frames source pgn list arena r list' arena' → NotThree (code_of (of_reassembled r))
-  pub reassemble_rows : (ids bytes lens : List ℕ) (source pgn : ℕ) (list arena list' arena' : List ℕ) (r : Reassembled)
-      → Reassembles (row_in ids bytes lens) source pgn list arena r list' arena' → NotThree (code_of (of_reassembled r))
-  pub reassemble_first : (frames : List Frame) (n source pgn : ℕ) (list arena list' arena' : List ℕ) (r : Reassembled)
-      → Reassembles (take n frames) source pgn list arena r list' arena' → NotThree (code_of (of_reassembled r))
-  pub check_tx : (frames : List Frame) (source expected hours : ℕ) (r : Checked) → ChecksTx frames source expected hours r → NotThree (code_of (of_checked r))
-  pub check_tx_rows : (ids bytes lens : List ℕ) (source expected hours : ℕ) (r : Checked)
-      → ChecksTx (row_in ids bytes lens) source expected hours r → NotThree (code_of (of_checked r))
-  pub check_tx_first : (frames : List Frame) (n source expected hours : ℕ) (r : Checked)
-      → ChecksTx (take n frames) source expected hours r → NotThree (code_of (of_checked r))
+  pub check_tx : (frames : List Frame) (source expected hours : ℕ) (r : Result (Unit {0}) CheckError) → ChecksTx frames source expected hours r → NotThree (code_of (of_checked r))
   -- ---- the entries, by what each returns
   pub hf_can_id_read : (id code : ℕ) (before after : List ℕ) → IdRead id before code after → NotThree code
   pub hf_can_id_build : (priority pgn source destination code value : ℕ) → PartsBuilt priority pgn source destination code value → NotThree code
@@ -156,9 +145,9 @@ pub record NoThree : Type 0 where
   pub told_read : (r : Result CanIdParts CanIdReadError) (code : ℕ) (before after : List ℕ) → ReadLeft r before code after → NotThree code
   pub answered : (b : Result CanId CanIdBuildError) (code value : ℕ) → BuiltLeft b code value → NotThree code
   pub tell_next : (next : Next) (code : ℕ) (bytes numbers : List ℕ) → NextLeft next code bytes numbers → NotThree code
-  pub told_reassembled : (r : Reassembled) (code : ℕ) (values : List ℕ) → ToldInFive (of_reassembled r) code values → NotThree code
-  pub split_number : (s : Split) (code : ℕ) → code ≡ code_of (of_split s) → NotThree code
-  pub told_checked : (c : Checked) (code : ℕ) (values : List ℕ) → ToldInFive (of_checked c) code values → NotThree code
+  pub told_reassembled : (r : Result ℕ ReassembleError) (code : ℕ) (values : List ℕ) → ToldInFive (of_reassembled r) code values → NotThree code
+  pub split_number : (s : Result ℕ SplitError) (code : ℕ) → code ≡ code_of (of_split s) → NotThree code
+  pub told_checked : (c : Result (Unit {0}) CheckError) (code : ℕ) (values : List ℕ) → ToldInFive (of_checked c) code values → NotThree code
   pub pool_asked : (wanted mode kind : ℕ) (r : MadePool) → MakesPoolAsked wanted mode kind r → NotThree (code_of (of_made r.result r.pool.size))
   pub leave : (r : Received) (before after : CallMemory) (code : ℕ) → CallLeft r before code after → NotThree code
   pub leave_made : (made : MadePool) (before after : PoolMemory) (code : ℕ) → MadePoolLeft made before code after → NotThree code

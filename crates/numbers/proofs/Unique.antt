@@ -16,10 +16,11 @@ use Rattle.builder.specs.declared.MadeBuilder.{MadeBuilder}
 use Rattle.builder.specs.declared.Next.{Next}
 use Rattle.numbers.specs.Frames.{builder_from, builder_numbers, BuilderLeft, iterator_from, place_numbers, NextLeft, after_next, place_on}
 use Rattle.splitter.specs.Split.{of_split}
-use Rattle.splitter.specs.declared.Split.{Split}
+use Rattle.splitter.specs.declared.SplitError.{SplitError}
 use Rattle.oracle.specs.Numbers.{of_reassembled, of_checked}
-use Rattle.oracle.specs.declared.Reassembled.{Reassembled}
-use Rattle.oracle.specs.declared.Checked.{Checked}
+use Rattle.oracle.specs.declared.ReassembleError.{ReassembleError}
+use Rattle.oracle.specs.declared.CheckError.{CheckError}
+use Rattle.std.specs.Prelude.{Result}
 use Rattle.numbers.specs.Fives.{ToldInFive}
 use Rattle.session.specs.declared.Counters.{Counters}
 use Rattle.session.specs.declared.Head.{Head}
@@ -80,16 +81,16 @@ go_on_unique place n r s = determined
 five_unique : (a : Answer ℕ) {r s : ℕ} {v w : List ℕ} → ToldInFive a r v → ToldInFive a s w → (r ≡ s) × (v ≡ w)
 five_unique a p q = (determined p.told q.told, determined p.carried q.carried)
 
-pub told_reassembled_unique : (x : Reassembled) {r s : ℕ} {v w : List ℕ} → ToldInFive (of_reassembled x) r v → ToldInFive (of_reassembled x) s w → (r ≡ s) × (v ≡ w)
+pub told_reassembled_unique : (x : Result ℕ ReassembleError) {r s : ℕ} {v w : List ℕ} → ToldInFive (of_reassembled x) r v → ToldInFive (of_reassembled x) s w → (r ≡ s) × (v ≡ w)
 told_reassembled_unique x = five_unique (of_reassembled x)
 
-pub told_checked_unique : (x : Checked) {r s : ℕ} {v w : List ℕ} → ToldInFive (of_checked x) r v → ToldInFive (of_checked x) s w → (r ≡ s) × (v ≡ w)
+pub told_checked_unique : (x : Result (Unit {0}) CheckError) {r s : ℕ} {v w : List ℕ} → ToldInFive (of_checked x) r v → ToldInFive (of_checked x) s w → (r ≡ s) × (v ≡ w)
 told_checked_unique x = five_unique (of_checked x)
 
-pub split_number_unique : (x : Split) (r s : ℕ) → r ≡ code_of (of_split x) → s ≡ code_of (of_split x) → r ≡ s
+pub split_number_unique : (x : Result ℕ SplitError) (r s : ℕ) → r ≡ code_of (of_split x) → s ≡ code_of (of_split x) → r ≡ s
 split_number_unique x r s = determined
 
-pub split_count_unique : (x : Split) (r s : ℕ) → r ≡ value_of (of_split x) → s ≡ value_of (of_split x) → r ≡ s
+pub split_count_unique : (x : Result ℕ SplitError) (r s : ℕ) → r ≡ value_of (of_split x) → s ≡ value_of (of_split x) → r ≡ s
 split_count_unique x r s = determined
 
 -- ---- pools and counters

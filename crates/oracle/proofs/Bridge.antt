@@ -19,19 +19,18 @@ use Rattle.base.proofs.Cases.{tested, less?, same?, when_eq, when_ne, when_lt, w
 use Rattle.splitter.specs.Frames.{is_wide, frame_bytes}
 use Rattle.oracle.specs.Ids.{is_other}
 use Rattle.oracle.specs.Strict.{bench_index, bench_sequence, odd_of, BenchMessage, OpenMessage, FrameOutcome, refused, waits, whole, collected_at, first_frame, later_frame, outcome_of, before, then_of, end_of, messages_from, messages_of, payloads_of, list_from, first_wide, wide_first, room_for, delivered_to, arena_with, list_with, Reassembles}
-use Rattle.oracle.specs.inner.Frames.{padding_at, first_then, later_then, message_end, fault_at}
-use Rattle.oracle.proofs.StrictLaws.{row_passed, row_refused, row_wide}
-use Rattle.oracle.proofs.FirstWide.{AllNarrow, all_narrow, wide_found}
+use Rattle.oracle.specs.inner.Frames.{Standing, padding_at, first_then, later_then, message_end, fault_at}
+use Rattle.oracle.proofs.StrictLaws.{row_passed, row_refused}
+use Rattle.oracle.proofs.FirstWide.{AllNarrow, all_narrow, wide_found, fault_not_over}
 use Rattle.oracle.specs.Numbers.{fault_number, fault_values, of_reassembled}
-use Rattle.oracle.specs.inner.Scan.{header_bytes, missing_of, fault_of, skipped, refused_at, taken, is_faulty, is_over, step_on, scan_frame, scan_of, start_of, added_of, row_of, bytes_laid, rows_laid, verdict_of, is_none}
+use Rattle.oracle.specs.inner.Scan.{header_bytes, missing_of, fault_of, skipped, refused_at, taken, is_faulty, is_width, is_over, step_on, scan_frame, scan_of, start_of, added_of, row_of, bytes_laid, rows_laid, verdict_of}
 use Rattle.splitter.specs.declared.Frame.{Frame}
 use Rattle.oracle.specs.declared.Scan.{Scan}
 use Rattle.oracle.specs.declared.Fault.{Fault}
 use Rattle.oracle.specs.declared.Fault.TheVariants.{Length, Restarted, Announced, Stray, Order, Padding, TooWide}
-use Rattle.oracle.specs.declared.faults.Standing.{Standing}
-use Rattle.oracle.specs.declared.faults.Standing.TheVariants.{Clear, At, WideAt}
-use Rattle.oracle.specs.declared.Reassembled.{Reassembled}
-use Rattle.oracle.specs.declared.Reassembled.TheVariants.{Refused, Incomplete, NoRoom}
+use Rattle.std.specs.Prelude.{Some, None, Result, Ok, Err}
+use Rattle.oracle.specs.declared.ReassembleError.{ReassembleError}
+use Rattle.oracle.specs.declared.ReassembleError.TheVariants.{Refused, Incomplete, NoRoom}
 use Rattle.splitter.proofs.FrameLaws.{eight_long}
 use Rattle.oracle.proofs.Grows.{head_low, head_high, added_end}
 
@@ -58,18 +57,18 @@ added s bs = take ((taken s bs).total - s.total) (drop (header_bytes bs) bs)
 
 pub record Refuses (s : Scan) (bs : List ℕ) (len k : ℕ) (vs : List ℕ) : Type 0 where
   pub why : Fault
-  pub found : fault_of s bs len ≡ At why
+  pub found : fault_of s bs len ≡ Some why
   pub number : fault_number why ≡ k
   pub values : fault_values why ≡ vs
 
 pub record Waits (s : Scan) (bs : List ℕ) (len : ℕ) (q : List ℕ) (o : OpenMessage) : Type 0 where
-  pub clear : fault_of s bs len ≡ Clear
+  pub clear : fault_of s bs len ≡ None
   pub shows : Shows (taken s bs) o
   pub still : (taken s bs).messages ≡ s.messages
   pub bytes : q ++ added s bs ≡ o.bytes
 
 pub record Whole (s : Scan) (bs : List ℕ) (len : ℕ) (q : List ℕ) (m : BenchMessage) : Type 0 where
-  pub clear : fault_of s bs len ≡ Clear
+  pub clear : fault_of s bs len ≡ None
   pub shut : (taken s bs).missing ≡ 0
   pub one_more : (taken s bs).messages ≡ s.messages + 1
   pub same_sequence : (taken s bs).sequence ≡ m.sequence
@@ -128,13 +127,13 @@ module _ (s : Scan) (bs : List ℕ) (len : ℕ) (q : List ℕ) (a sq ix : ℕ) (
       let e : a ≡ length q + m = omega arith in
       ap (λ (n : ℕ). drop n (q ++ b)) e ∙ drop-append-add q b m ∙ drop-drop m h bs
 
-  passes : odd_of (drop (h + m) bs) ≡ 255 → fault_of s bs len ≡ Clear
+  passes : odd_of (drop (h + m) bs) ≡ 255 → fault_of s bs len ≡ None
   passes e = pads ∙ sym (when_eq _ _ (ap (λ (k : ℕ). odd_of (drop k bs)) (end_is s bs) ∙ e) refl)
 
-  padded : (odd_of (drop a (q ++ b)) ≡ 255 → ⊥) → fault_of s bs len ≡ At (Padding s.n (odd_of (drop a (q ++ b))))
+  padded : (odd_of (drop a (q ++ b)) ≡ 255 → ⊥) → fault_of s bs len ≡ Some (Padding s.n (odd_of (drop a (q ++ b))))
   padded x =
       let same : drop a (q ++ b) ≡ drop (message_end s.missing (get_or bs 0 0) (get_or bs 1 0)) bs = after_it ∙ sym (ap (λ (k : ℕ). drop k bs) (end_is s bs)) in
-      pads ∙ sym (when_ne _ _ (λ e. x (ap odd_of same ∙ e)) (ap (λ (l : List ℕ). At (Padding s.n (odd_of l))) same))
+      pads ∙ sym (when_ne _ _ (λ e. x (ap odd_of same ∙ e)) (ap (λ (l : List ℕ). Some (Padding s.n (odd_of l))) same))
 
   stays_open : 8 - h < m → Does s bs len q (collected_at s.n opened)
   unfolding collected_at taken odd_of
@@ -290,12 +289,12 @@ frame_does s bs len long o k =
 
 -- ---- the code's last state has this refusal
 pub data Stops (e : Scan) (k : ℕ) (vs : List ℕ) : Type 0 where
-  by_fault : (f : Fault) → e.fault ≡ At f → fault_number f ≡ k → fault_values f ≡ vs → Stops e k vs
-  by_end : e.fault ≡ Clear → 1 ≤ e.missing → 26 ≡ k → (e.announced ∷ []) ≡ vs → Stops e k vs
+  by_fault : (f : Fault) → e.fault ≡ Some f → fault_number f ≡ k → fault_values f ≡ vs → Stops e k vs
+  by_end : e.fault ≡ None → 1 ≤ e.missing → 26 ≡ k → (e.announced ∷ []) ≡ vs → Stops e k vs
 
 -- or it delivers these messages: `q` was collected before, and the first message starts at `at`
 pub record Done (s : Scan) (q : List ℕ) (fs : List Frame) (ms : List BenchMessage) : Type 0 where
-  pub clear : (scan_of s fs).fault ≡ Clear
+  pub clear : (scan_of s fs).fault ≡ None
   pub shut : (scan_of s fs).missing ≡ 0
   pub many : (scan_of s fs).messages ≡ s.messages + length ms
   pub bytes : q ++ bytes_laid s fs ≡ payloads_of ms
@@ -354,16 +353,16 @@ module _ (s : Scan) (f : Frame) (fs : List Frame) {t : Scan} (et : scan_frame s 
       }
 
 -- a refusal stands
-still_refused : (s : Scan) (f : Frame) {why : Fault} → is_wide f.id ≡ false → s.fault ≡ At why → scan_frame s f ≡ skipped s
+still_refused : (s : Scan) (f : Frame) {why : Fault} → is_wide f.id ≡ false → is_width why ≡ false → s.fault ≡ Some why → scan_frame s f ≡ skipped s
 unfolding step_on
-still_refused s f narrow e = sym (when_false _ _ (ap is_over e) (when_false _ _ narrow (when_true _ _ (ap is_faulty e) refl)))
+still_refused s f narrow other e = sym (when_false _ _ (ap is_over e ∙ other) (when_false _ _ narrow (when_true _ _ (ap is_faulty e) refl)))
 
-stays : (fs : List Frame) → AllNarrow fs → (s : Scan) {why : Fault} → s.fault ≡ At why → (scan_of s fs).fault ≡ At why
-stays [] narrow s e = e
-stays (f ∷ fs) narrow s e = ap (λ (t : Scan). (scan_of t fs).fault) (still_refused s f narrow.0 e) ∙ stays fs narrow.1 (skipped s) e
+stays : (fs : List Frame) → AllNarrow fs → (s : Scan) {why : Fault} → is_width why ≡ false → s.fault ≡ Some why → (scan_of s fs).fault ≡ Some why
+stays [] narrow s other e = e
+stays (f ∷ fs) narrow s other e = ap (λ (t : Scan). (scan_of t fs).fault) (still_refused s f narrow.0 other e) ∙ stays fs narrow.1 (skipped s) other e
 
 -- ---- the row
-module _ (s : Scan) (f : Frame) (clear : s.fault ≡ Clear) (narrow : is_wide f.id ≡ false) where
+module _ (s : Scan) (f : Frame) (clear : s.fault ≡ None) (narrow : is_wide f.id ≡ false) where
   abbrev bs : List ℕ
   bs = frame_bytes f
 
@@ -376,13 +375,13 @@ module _ (s : Scan) (f : Frame) (clear : s.fault ≡ Clear) (narrow : is_wide f.
   skips e = judged (when_true _ _ e refl)
 
   module _ (own : is_other s.source s.pgn f.id ≡ false) where
-    pub finds : {why : Fault} → fault_of s bs f.len ≡ At why → scan_frame s f ≡ refused_at s (At why)
+    pub finds : {why : Fault} → fault_of s bs f.len ≡ Some why → scan_frame s f ≡ refused_at s (Some why)
     finds {why} e = judged (when_false _ _ own (when_true _ _ (ap is_faulty e) (ap (refused_at s) (sym e))))
 
-    pub takes : fault_of s bs f.len ≡ Clear → scan_frame s f ≡ taken s bs
+    pub takes : fault_of s bs f.len ≡ None → scan_frame s f ≡ taken s bs
     takes e = judged (when_false _ _ own (when_false _ _ (ap is_faulty e) refl))
 
-  taken_clear : (taken s bs).fault ≡ Clear
+  taken_clear : (taken s bs).fault ≡ None
   unfolding taken
   taken_clear = clear
 
@@ -400,9 +399,9 @@ skip_knows s (some o) k = record { lacks = k.lacks; waiting = k.waiting; same_se
 
 -- what is known of the rest of the row, from any state on
 abbrev Rest : List Frame → Type 0
-Rest fs = (t : Scan) (o : Option OpenMessage) → t.fault ≡ Clear → Knows t o → Tells t (had o) fs (messages_from t.source t.pgn t.n o fs)
+Rest fs = (t : Scan) (o : Option OpenMessage) → t.fault ≡ None → Knows t o → Tells t (had o) fs (messages_from t.source t.pgn t.n o fs)
 
-module _ (s : Scan) (f : Frame) (fs : List Frame) (rest : Rest fs) (clear : s.fault ≡ Clear) (narrow : AllNarrow (f ∷ fs)) where
+module _ (s : Scan) (f : Frame) (fs : List Frame) (rest : Rest fs) (clear : s.fault ≡ None) (narrow : AllNarrow (f ∷ fs)) where
   skip_tells : (q : List ℕ) → scan_frame s f ≡ skipped s → (x : Answer (List BenchMessage)) → Tells (skipped s) q fs x → Tells s q (f ∷ fs) x
   skip_tells q e (refuses k vs) d = stops_on s f fs e q d
   skip_tells q e (gives ms) d = waits_on s f fs e q refl (ap (λ (l : List ℕ). q ++ l) (skip_adds s f clear narrow.0 e) ∙ append-nil q) d
@@ -424,8 +423,8 @@ module _ (s : Scan) (f : Frame) (fs : List Frame) (rest : Rest fs) (clear : s.fa
     outcome_tells : (x : FrameOutcome) → Does s (frame_bytes f) f.len q x → Tells s q (f ∷ fs) (then_of x (λ o'. messages_from s.source s.pgn (s.n + 1) o' fs))
     unfolding then_of taken
     outcome_tells (refused k vs) d =
-        let e : scan_frame s f ≡ refused_at s (At d.why) = finds s f clear narrow.0 own d.found in
-        stops_on s f fs e q (by_fault d.why (stays fs narrow.1 (refused_at s (At d.why)) refl) d.number d.values)
+        let e : scan_frame s f ≡ refused_at s (Some d.why) = finds s f clear narrow.0 own d.found in
+        stops_on s f fs e q (by_fault d.why (stays fs narrow.1 (refused_at s (Some d.why)) (sym (ap is_over d.found) ∙ fault_not_over s (frame_bytes f) f.len) refl) d.number d.values)
     outcome_tells (waits o) d = wait_tells o d (messages_from s.source s.pgn (s.n + 1) (some o) fs) (rest (taken s (frame_bytes f)) (some o) clear d.shows)
     outcome_tells (whole m) d = whole_tells m d (messages_from s.source s.pgn (s.n + 1) none fs) (rest (taken s (frame_bytes f)) none clear d.shut)
 
@@ -445,19 +444,23 @@ total_all : (fs : List Frame) (s : Scan) → (scan_of s fs).total ≡ s.total + 
 total_all [] s = omega arith
 total_all (f ∷ fs) s = total_all fs (scan_frame s f) ∙ omega (arith, added_end s f, length-append (added_of s f) (bytes_laid (scan_frame s f) fs))
 
+abbrev is_none : Result ℕ ReassembleError → Bool
+is_none (Ok n) = false
+is_none (Err e) = true
+
 -- the promise's three facts, where the code answered v and left the list l' and the arena o'
 module _ (s : Scan) (fs : List Frame) (l o : List ℕ) where
   abbrev e : Scan
   e = scan_of s fs
 
-  pub record Kept (v : Reassembled) (x : Answer (List BenchMessage)) : Type 0 where
+  pub record Kept (v : Result ℕ ReassembleError) (x : Answer (List BenchMessage)) : Type 0 where
     pub answer : of_reassembled v ≡ counted x
     pub none_list : is_none v ≡ true → l ≡ list_with x l
     pub none_arena : is_none v ≡ true → o ≡ arena_with x o
     pub some_list : is_none v ≡ false → sets l 0 (rows_laid s fs) ≡ list_with x l
     pub some_arena : is_none v ≡ false → sets o 0 (bytes_laid s fs) ≡ arena_with x o
 
-  refuses_kept : (v : Reassembled) (k : ℕ) (vs : List ℕ) → of_reassembled v ≡ refuses k vs → is_none v ≡ true → Kept v (refuses k vs)
+  refuses_kept : (v : Result ℕ ReassembleError) (k : ℕ) (vs : List ℕ) → of_reassembled v ≡ refuses k vs → is_none v ≡ true → Kept v (refuses k vs)
   unfolding counted list_with arena_with
   refuses_kept v k vs a n = record {
     answer = a;
@@ -470,11 +473,11 @@ module _ (s : Scan) (fs : List Frame) (l o : List ℕ) where
   stops_kept : (k : ℕ) (vs : List ℕ) → Stops (scan_of s fs) k vs → Kept (verdict_of (scan_of s fs) (length l) (length o)) (refuses k vs)
   unfolding of_reassembled
   stops_kept k vs (by_fault f g n v) =
-      let t : Refused f ≡ verdict_of (scan_of s fs) (length l) (length o) = row_refused _ _ _ _ _ _ _ g in
-      subst (λ (r : Reassembled). Kept r (refuses k vs)) t (refuses_kept (Refused f) k vs (rw (n, v)) refl)
+      let t : Err (Refused f) ≡ verdict_of (scan_of s fs) (length l) (length o) = row_refused _ _ _ _ _ _ _ g in
+      subst (λ (r : Result ℕ ReassembleError). Kept r (refuses k vs)) t (refuses_kept (Err (Refused f)) k vs (rw (n, v)) refl)
   stops_kept k vs (by_end g m n v) =
-      let t : Incomplete (scan_of s fs).announced ≡ verdict_of (scan_of s fs) (length l) (length o) = row_passed _ _ _ _ _ _ _ g (when_lt _ _ {a = 0} {b = (scan_of s fs).missing} m refl) in
-      subst (λ (r : Reassembled). Kept r (refuses k vs)) t (refuses_kept (Incomplete (scan_of s fs).announced) k vs (rw (← n, ← v)) refl)
+      let t : Err (Incomplete (scan_of s fs).announced) ≡ verdict_of (scan_of s fs) (length l) (length o) = row_passed _ _ _ _ _ _ _ g (when_lt _ _ {a = 0} {b = (scan_of s fs).missing} m refl) in
+      subst (λ (r : Result ℕ ReassembleError). Kept r (refuses k vs)) t (refuses_kept (Err (Incomplete (scan_of s fs).announced)) k vs (rw (← n, ← v)) refl)
 
   -- a fresh start
   module _ (fresh : s.total ≡ 0) (none_yet : s.messages ≡ 0) where
@@ -484,15 +487,15 @@ module _ (s : Scan) (fs : List Frame) (l o : List ℕ) where
         let many : (scan_of s fs).messages ≡ length ms = d.many ∙ omega arith in
         let all : (scan_of s fs).total ≡ length (payloads_of ms) = total_all fs s ∙ ap (λ (n : ℕ). n + length (bytes_laid s fs)) fresh ∙ zero-add (length (bytes_laid s fs)) ∙ ap length d.bytes in
         let shut : (scan_of s fs).missing ≤ 0 = let z : (scan_of s fs).missing ≡ 0 = d.shut in omega arith in
-        let short : (length l / 3 < length ms) → NoRoom ≡ verdict_of (scan_of s fs) (length l) (length o) = λ h. row_passed _ _ _ _ _ _ _ d.clear (when_ge _ _ {a = 0} {b = (scan_of s fs).missing} shut (when_lt _ _ {a = length l / 3} {b = (scan_of s fs).messages} (omega (arith, many)) refl)) in
+        let short : (length l / 3 < length ms) → Err NoRoom ≡ verdict_of (scan_of s fs) (length l) (length o) = λ h. row_passed _ _ _ _ _ _ _ d.clear (when_ge _ _ {a = 0} {b = (scan_of s fs).missing} shut (when_lt _ _ {a = length l / 3} {b = (scan_of s fs).messages} (omega (arith, many)) refl)) in
         less? (length l / 3) (length ms)
-        (λ h. subst (Kept (verdict_of (scan_of s fs) (length l) (length o))) (when_lt _ _ h refl) (subst (λ (r : Reassembled). Kept r (refuses 27 [])) (short h) (refuses_kept NoRoom 27 [] refl refl)))
+        (λ h. subst (Kept (verdict_of (scan_of s fs) (length l) (length o))) (when_lt _ _ h refl) (subst (λ (r : Result ℕ ReassembleError). Kept r (refuses 27 [])) (short h) (refuses_kept (Err NoRoom) 27 [] refl refl)))
         (λ h. subst (Kept (verdict_of (scan_of s fs) (length l) (length o))) (when_ge _ _ {a = length l / 3} {b = length ms} h refl)
         (less? (length o) (length (payloads_of ms))
         (λ g. subst (Kept (verdict_of (scan_of s fs) (length l) (length o))) (when_lt _ _ g refl)
-        (subst (λ (r : Reassembled). Kept r (refuses 27 [])) (row_passed _ _ _ _ _ _ _ d.clear (when_ge _ _ {a = 0} {b = (scan_of s fs).missing} shut (when_ge _ _ {a = length l / 3} {b = (scan_of s fs).messages} (omega (arith, many)) (when_lt _ _ {a = length o} {b = (scan_of s fs).total} (omega (arith, all)) refl)))) (refuses_kept NoRoom 27 [] refl refl)))
+        (subst (λ (r : Result ℕ ReassembleError). Kept r (refuses 27 [])) (row_passed _ _ _ _ _ _ _ d.clear (when_ge _ _ {a = 0} {b = (scan_of s fs).missing} shut (when_ge _ _ {a = length l / 3} {b = (scan_of s fs).messages} (omega (arith, many)) (when_lt _ _ {a = length o} {b = (scan_of s fs).total} (omega (arith, all)) refl)))) (refuses_kept (Err NoRoom) 27 [] refl refl)))
         (λ g. subst (Kept (verdict_of (scan_of s fs) (length l) (length o))) (when_ge _ _ {a = length o} {b = length (payloads_of ms)} g refl)
-        (subst (λ (r : Reassembled). Kept r (gives ms)) (row_passed _ _ _ _ _ _ _ d.clear (when_ge _ _ {a = 0} {b = (scan_of s fs).missing} shut (when_ge _ _ {a = length l / 3} {b = (scan_of s fs).messages} (omega (arith, many)) (when_ge _ _ {a = length o} {b = (scan_of s fs).total} (omega (arith, all)) refl))))
+        (subst (λ (r : Result ℕ ReassembleError). Kept r (gives ms)) (row_passed _ _ _ _ _ _ _ d.clear (when_ge _ _ {a = 0} {b = (scan_of s fs).missing} shut (when_ge _ _ {a = length l / 3} {b = (scan_of s fs).messages} (omega (arith, many)) (when_ge _ _ {a = length o} {b = (scan_of s fs).total} (omega (arith, all)) refl))))
         (record {
           answer = ap gives many;
           none_list = λ x. let z : ◌≡◌ {A = ℕ} 0 1 = cc in absurd (omega arith);
@@ -507,10 +510,10 @@ module _ (s : Scan) (fs : List Frame) (l o : List ℕ) where
     kept_told (gives ms) d = gives_kept ms d
 
   -- an identifier that is too wide stands before all
-  wide_kept : (n : ℕ) → (scan_of s fs).fault ≡ WideAt n → Kept (verdict_of (scan_of s fs) (length l) (length o)) (refuses 29 (n ∷ []))
+  wide_kept : (n : ℕ) → (scan_of s fs).fault ≡ Some (TooWide n) → Kept (verdict_of (scan_of s fs) (length l) (length o)) (refuses 29 (n ∷ []))
   unfolding of_reassembled fault_number fault_values
   wide_kept n e =
-      subst (λ (r : Reassembled). Kept r (refuses 29 (n ∷ []))) (row_wide _ _ _ _ _ _ _ e) (refuses_kept (Refused (TooWide n)) 29 (n ∷ []) refl refl)
+      subst (λ (r : Result ℕ ReassembleError). Kept r (refuses 29 (n ∷ []))) (row_refused _ _ _ _ _ _ _ e) (refuses_kept (Err (Refused (TooWide n))) 29 (n ∷ []) refl refl)
 
 module _ (fs : List Frame) (source pgn : ℕ) (l o : List ℕ) where
   wide_tells : (x : Option ℕ) → first_wide 0 fs ≡ x
@@ -523,20 +526,19 @@ module _ (fs : List Frame) (source pgn : ℕ) (l o : List ℕ) where
   unfolding delivered_to
   strict_tells = wide_tells (first_wide 0 fs) refl
 
--- ---- the two ways out of strict reassembly's code, whichever form its row has
-module _ (fs : List Frame) (source pgn : ℕ) (l o : List ℕ) {s st : Scan} {v : Reassembled} {b : Bool}
-    (es : s ≡ start_of source pgn) (et : st ≡ scan_of s fs) (ev : v ≡ verdict_of st (length l) (length o)) (eb : b ≡ is_none v) where
-  told_kept : Kept (start_of source pgn) fs l o v (delivered_to l o fs source pgn)
-  told_kept =
-      subst (λ (r : Reassembled). Kept (start_of source pgn) fs l o r (delivered_to l o fs source pgn))
+-- ---- the two ways out of strict reassembly's code
+module _ (fs : List Frame) (source pgn : ℕ) (l o : List ℕ) {s st : Scan} (es : s ≡ start_of source pgn) (et : st ≡ scan_of s fs) where
+  told_kept : {v : Result ℕ ReassembleError} → v ≡ verdict_of st (length l) (length o) → Kept (start_of source pgn) fs l o v (delivered_to l o fs source pgn)
+  told_kept ev =
+      subst (λ (r : Result ℕ ReassembleError). Kept (start_of source pgn) fs l o r (delivered_to l o fs source pgn))
       (sym (ev ∙ ap (λ (t : Scan). verdict_of t (length l) (length o)) (et ∙ ap (λ (t : Scan). scan_of t fs) es))) (strict_tells fs source pgn l o)
 
-  pub strict_stops : b ≡ true → Reassembles fs source pgn l o v l o
-  strict_stops e = record { answer = told_kept.answer; list_after = told_kept.none_list (sym eb ∙ e); arena_after = told_kept.none_arena (sym eb ∙ e) }
+  pub strict_stops : {x : ReassembleError} → Err x ≡ verdict_of st (length l) (length o) → Reassembles fs source pgn l o (Err x) l o
+  strict_stops ev = let k = told_kept ev in record { answer = k.answer; list_after = k.none_list refl; arena_after = k.none_arena refl }
 
-  pub strict_goes_on : {l' o' : List ℕ} → b ≡ false → l' ≡ sets l (3 * s.messages) (rows_laid s fs) → o' ≡ sets o s.total (bytes_laid s fs) → Reassembles fs source pgn l o v l' o'
-  strict_goes_on e el eo = record {
-    answer = told_kept.answer;
-    list_after = el ∙ ap (λ (t : Scan). sets l (3 * t.messages) (rows_laid t fs)) es ∙ told_kept.some_list (sym eb ∙ e);
-    arena_after = eo ∙ ap (λ (t : Scan). sets o t.total (bytes_laid t fs)) es ∙ told_kept.some_arena (sym eb ∙ e);
+  pub strict_goes_on : {n : ℕ} {l' o' : List ℕ} → Ok n ≡ verdict_of st (length l) (length o) → l' ≡ sets l (3 * s.messages) (rows_laid s fs) → o' ≡ sets o s.total (bytes_laid s fs) → Reassembles fs source pgn l o (Ok n) l' o'
+  strict_goes_on ev el eo = let k = told_kept ev in record {
+    answer = k.answer;
+    list_after = el ∙ ap (λ (t : Scan). sets l (3 * t.messages) (rows_laid t fs)) es ∙ k.some_list refl;
+    arena_after = eo ∙ ap (λ (t : Scan). sets o t.total (bytes_laid t fs)) es ∙ k.some_arena refl;
   }

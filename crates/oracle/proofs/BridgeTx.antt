@@ -17,7 +17,7 @@ use Rattle.base.specs.Pick.{pick}
 use Rattle.base.proofs.Cases.{tested, less?, same?, pick_all, when_ne, when_lt, when_ge, when_true, when_false}
 use Rattle.splitter.specs.Frames.{is_wide, frame_bytes}
 use Rattle.oracle.specs.Ids.{is_other}
-use Rattle.oracle.specs.inner.Tx.{claim_after, message_of, is_bad, buffer_of, bad_of, last_of, is_unclaimed, tx_of, tx_all, tx_start, over_of, faulty_of, ran_of, checked_of}
+use Rattle.oracle.specs.inner.Tx.{Checked, claim_after, message_of, is_bad, buffer_of, bad_of, last_of, is_unclaimed, tx_of, tx_all, tx_start, over_of, faulty_of, ran_of, checked_of}
 use Rattle.oracle.specs.declared.bench_ids.Claim.{Claim}
 use Rattle.oracle.specs.declared.bench_ids.Claim.TheVariants.{Awaited, Made, Missed}
 use Rattle.oracle.specs.Strict.{bench_sequence, BenchMessage, OpenMessage, FrameOutcome, refused, waits, whole, collected_at, first_frame, later_frame, outcome_of, before, then_of, end_of, messages_from, messages_of, first_wide, wide_first}
@@ -27,10 +27,10 @@ use Rattle.oracle.specs.inner.Scan.{skipped, taken, is_faulty, is_over, step_on,
 use Rattle.splitter.specs.declared.Frame.{Frame}
 use Rattle.oracle.specs.declared.Scan.{Scan}
 use Rattle.oracle.specs.declared.Tx.{Tx}
-use Rattle.oracle.specs.declared.faults.Standing.{Standing}
-use Rattle.oracle.specs.declared.faults.Standing.TheVariants.{Clear, WideAt}
-use Rattle.oracle.specs.declared.Checked.{Checked}
-use Rattle.oracle.specs.declared.Checked.TheVariants.{Good, NoCount, Over, NoClaim, Faulty, Open, Count, Size, Hours, Pattern, Sequence}
+use Rattle.std.specs.Prelude.{Some, None, Ok, Err}
+use Rattle.oracle.specs.inner.Frames.{Standing}
+use Rattle.oracle.specs.declared.Fault.TheVariants.{TooWide}
+use Rattle.oracle.specs.declared.CheckError.TheVariants.{NoCount, Over, NoClaim, Faulty, Open, Count, Size, Hours, Pattern, Sequence}
 use Rattle.splitter.proofs.FrameLaws.{eight_long}
 use Rattle.oracle.proofs.Grows.{added_end}
 use Rattle.oracle.proofs.FirstWide.{AllNarrow, all_narrow, wide_found, wide_none}
@@ -181,7 +181,7 @@ module _ (base i last : ℕ) (m : BenchMessage) (ms : List BenchMessage) (l : Li
   -- by the code's five tests, in the paper's order: size, hours, pattern, first, sequence
   tests_tell : (a h o z q : Bool)
       → pick a (pick h (pick o (refuses 36 (i ∷ [])) (pick (pick z true q) later (refuses 37 (i ∷ [])))) (refuses 35 (i ∷ []))) (refuses 34 (i ∷ []))
-      ≡ (let y : Checked = pick a (pick h (pick o (Pattern i) (pick z Good (pick q Good (Sequence i)))) (Hours i)) (Size i) in pick (is_bad y) (of_checked y) later)
+      ≡ (let y : Checked = pick a (pick h (pick o (Err (Pattern i)) (pick z (Ok tt) (pick q (Ok tt) (Err (Sequence i))))) (Err (Hours i))) (Err (Size i)) in pick (is_bad y) (of_checked y) later)
   unfolding pick of_checked
   tests_tell false h o z q = refl
   tests_tell true false o z q = refl
@@ -222,21 +222,12 @@ first_stands b y later all e =
 
 none_bad : (b : Checked) → of_checked b ≡ pick (is_bad b) (of_checked b) (gives 0)
 unfolding pick of_checked
-none_bad Good = refl
-none_bad NoCount = refl
-none_bad Over = refl
-none_bad NoClaim = refl
-none_bad (Faulty f) = refl
-none_bad (Open n) = refl
-none_bad (Count n) = refl
-none_bad (Size i) = refl
-none_bad (Hours i) = refl
-none_bad (Pattern i) = refl
-none_bad (Sequence i) = refl
+none_bad (Ok u) = refl
+none_bad (Err e) = refl
 
 -- what the code holds beside what strict reassembly knows: the open message's bytes at the start of the buffer
 pub record Holds (t : Tx) (o : Option OpenMessage) : Type 0 where
-  pub clear : t.scan.fault ≡ Clear
+  pub clear : t.scan.fault ≡ None
   pub knows : Knows t.scan o
   pub long : length t.buffer ≡ 223
   pub starts : take (length (had o)) t.buffer ≡ had o
@@ -252,7 +243,7 @@ module _ (t : Tx) (f : Frame) (fs : List Frame) {a : Scan} (ea : scan_frame t.sc
   messages_same : (scan_frame t.scan f).messages ≡ t.scan.messages
   messages_same = ap (λ (u : Scan). u.messages) ea ∙ same
 
-  bad_none : (tx_of t f).bad ≡ pick (is_bad t.bad) t.bad Good
+  bad_none : (tx_of t f).bad ≡ pick (is_bad t.bad) t.bad (Ok tt)
   unfolding tx_of bad_of
   bad_none = ap (pick (is_bad t.bad) t.bad) (sym (when_ge _ _ {a = t.scan.messages} {b = (scan_frame t.scan f).messages} (omega (arith, messages_same)) refl))
 
@@ -266,9 +257,9 @@ module _ (t : Tx) (f : Frame) (fs : List Frame) {a : Scan} (ea : scan_frame t.sc
       let all : Answer ℕ = each_from t.base t.scan.messages (previous_of t.scan.messages t.last) ms in
       d
       ∙ ap (λ (b : Checked). pick (is_bad b) (of_checked b) (each_from t.base (scan_frame t.scan f).messages (previous_of (scan_frame t.scan f).messages (last_of t (scan_frame t.scan f))) ms)) bad_none
-      ∙ ap (λ (n : ℕ). pick (is_bad (pick (is_bad t.bad) t.bad Good)) (of_checked (pick (is_bad t.bad) t.bad Good)) (each_from t.base n (previous_of n (last_of t (scan_frame t.scan f))) ms)) messages_same
-      ∙ ap (λ (n : ℕ). pick (is_bad (pick (is_bad t.bad) t.bad Good)) (of_checked (pick (is_bad t.bad) t.bad Good)) (each_from t.base t.scan.messages (previous_of t.scan.messages n) ms)) last_none
-      ∙ first_stands t.bad Good all all refl
+      ∙ ap (λ (n : ℕ). pick (is_bad (pick (is_bad t.bad) t.bad (Ok tt))) (of_checked (pick (is_bad t.bad) t.bad (Ok tt))) (each_from t.base n (previous_of n (last_of t (scan_frame t.scan f))) ms)) messages_same
+      ∙ ap (λ (n : ℕ). pick (is_bad (pick (is_bad t.bad) t.bad (Ok tt))) (of_checked (pick (is_bad t.bad) t.bad (Ok tt))) (each_from t.base t.scan.messages (previous_of t.scan.messages n) ms)) last_none
+      ∙ first_stands t.bad (Ok tt) all all refl
 
 -- a frame that makes one whole
 module _ (t : Tx) (f : Frame) (fs : List Frame) {a : Scan} (ea : scan_frame t.scan f ≡ a) (m : BenchMessage) (more : a.messages ≡ t.scan.messages + 1)
@@ -338,7 +329,7 @@ module _ (t : Tx) (f : Frame) (fs : List Frame) (o : Option OpenMessage) (hold :
   none_all ea same (refuses k vs) d = tt
   none_all ea same (gives ms) d = none_tells t f fs ea same ms d
 
-  hold_next : {a : Scan} → scan_frame t.scan f ≡ a → (o' : Option OpenMessage) → a.fault ≡ Clear → Knows a o' → take (length (had o')) (buffer_of t f) ≡ had o' → Fits o' → Holds (tx_of t f) o'
+  hold_next : {a : Scan} → scan_frame t.scan f ≡ a → (o' : Option OpenMessage) → a.fault ≡ None → Knows a o' → take (length (had o')) (buffer_of t f) ≡ had o' → Fits o' → Holds (tx_of t f) o'
   unfolding tx_of
   hold_next ea o' c k b g = record {
     clear = ap (λ (u : Scan). u.fault) ea ∙ c;
@@ -424,20 +415,20 @@ module _ (e : Tx) (expected base : ℕ) where
   ran_stops : (k : ℕ) (vs : List ℕ) → Stops e.scan k vs → of_checked (ran_of e expected) ≡ refuses k vs
   unfolding ran_of of_checked
   ran_stops k vs (by_fault f g n v) =
-      let r : Faulty f ≡ ran_of e expected = when_true _ _ (ap is_faulty g) (sym (ap faulty_of g)) in
+      let r : Err (Faulty f) ≡ ran_of e expected = when_true _ _ (ap is_faulty g) (sym (ap faulty_of g)) in
       sym (ap of_checked r) ∙ rw (n, v)
   ran_stops k vs (by_end g m n v) =
-      let r : Open e.scan.announced ≡ ran_of e expected = when_false _ _ (ap is_faulty g) (when_lt _ _ {a = 0} {b = e.scan.missing} m refl) in
+      let r : Err (Open e.scan.announced) ≡ ran_of e expected = when_false _ _ (ap is_faulty g) (when_lt _ _ {a = 0} {b = e.scan.missing} m refl) in
       sym (ap of_checked r) ∙ rw (← n, ← v)
 
   -- 33, and then the messages
-  ran_ends : (ms : List BenchMessage) → e.scan.fault ≡ Clear → e.scan.missing ≡ 0 → e.scan.messages ≡ length ms → of_checked e.bad ≡ each_from base 0 none ms → of_checked (ran_of e expected) ≡ sent_of expected base (gives ms)
+  ran_ends : (ms : List BenchMessage) → e.scan.fault ≡ None → e.scan.missing ≡ 0 → e.scan.messages ≡ length ms → of_checked e.bad ≡ each_from base 0 none ms → of_checked (ran_of e expected) ≡ sent_of expected base (gives ms)
   unfolding ran_of sent_of of_checked
   ran_ends ms clear shut many each =
-      let r : pick (eqb e.scan.messages expected) e.bad (Count e.scan.messages) ≡ ran_of e expected = when_false _ _ (ap is_faulty clear) (when_ge _ _ {a = 0} {b = e.scan.missing} (omega arith) refl) in
-      sym (ap of_checked r) ∙ pushed of_checked (eqb e.scan.messages expected) e.bad (Count e.scan.messages)
-      ∙ ap (λ (x : Answer ℕ). pick (eqb e.scan.messages expected) x (of_checked (Count e.scan.messages))) each
-      ∙ ap (λ (n : ℕ). pick (eqb n expected) (each_from base 0 none ms) (of_checked (Count n))) many
+      let r : pick (eqb e.scan.messages expected) e.bad (Err (Count e.scan.messages)) ≡ ran_of e expected = when_false _ _ (ap is_faulty clear) (when_ge _ _ {a = 0} {b = e.scan.missing} (omega arith) refl) in
+      sym (ap of_checked r) ∙ pushed of_checked (eqb e.scan.messages expected) e.bad (Err (Count e.scan.messages))
+      ∙ ap (λ (x : Answer ℕ). pick (eqb e.scan.messages expected) x (of_checked (Err (Count e.scan.messages)))) each
+      ∙ ap (λ (n : ℕ). pick (eqb n expected) (each_from base 0 none ms) (of_checked (Err (Count n)))) many
 
   ran_tells : (s : Scan) (fs : List Frame) → e.scan ≡ scan_of s fs → s.messages ≡ 0 → (x : Answer (List BenchMessage)) → Tells s [] fs x
       → ((ms : List BenchMessage) → x ≡ gives ms → of_checked e.bad ≡ each_from base 0 none ms) → of_checked (ran_of e expected) ≡ sent_of expected base x
@@ -456,7 +447,7 @@ module _ (fs : List Frame) (source expected base : ℕ) where
 
   -- the code's answer after 30 and 31
   abbrev told : Answer ℕ
-  told = of_checked (pick (is_over last.scan.fault) (faulty_of last.scan.fault) (pick (is_unclaimed last.claim) NoClaim (ran_of last expected)))
+  told = of_checked (pick (is_over last.scan.fault) (faulty_of last.scan.fault) (pick (is_unclaimed last.claim) (Err NoClaim) (ran_of last expected)))
 
   module _ (narrow : AllNarrow fs) where
     each_told : (ms : List BenchMessage) → messages_of fs source 127489 ≡ gives ms → of_checked (tx_all (tx_start source base) fs).bad ≡ each_from base 0 none ms
@@ -466,10 +457,10 @@ module _ (fs : List Frame) (source expected base : ℕ) where
     ran_told : of_checked (ran_of last expected) ≡ sent_of expected base (messages_of fs source 127489)
     ran_told = ran_tells last expected base (start_of source 127489) fs (scan_kept fs t₀) refl (messages_of fs source 127489) (row_tells fs narrow (start_of source 127489) none refl refl) each_told
 
-    claimed_told : of_checked (pick (is_unclaimed last.claim) NoClaim (ran_of last expected)) ≡ transmission_of fs source expected base
+    claimed_told : of_checked (pick (is_unclaimed last.claim) (Err NoClaim) (ran_of last expected)) ≡ transmission_of fs source expected base
     unfolding of_checked transmission_of
     claimed_told =
-        pushed of_checked (is_unclaimed last.claim) NoClaim (ran_of last expected)
+        pushed of_checked (is_unclaimed last.claim) (Err NoClaim) (ran_of last expected)
         ∙ ap (λ (u : Bool). pick u (refuses 32 []) (of_checked (ran_of last expected))) (claims_tell fs t₀)
         ∙ turned (is_claimed source fs) (refuses 32 []) (of_checked (ran_of last expected))
         ∙ ap (λ (x : Answer ℕ). pick (is_claimed source fs) x (refuses 32 [])) ran_told
@@ -482,7 +473,7 @@ module _ (fs : List Frame) (source expected base : ℕ) where
   wide_told : (n : ℕ) → first_wide 0 fs ≡ some n → told ≡ refuses 29 (n ∷ [])
   unfolding of_checked fault_number fault_values
   wide_told n e =
-      let f : last.scan.fault ≡ WideAt n = ap (λ (s : Scan). s.fault) (scan_kept fs t₀) ∙ wide_found fs (start_of source 127489) refl e in
+      let f : last.scan.fault ≡ Some (TooWide n) = ap (λ (s : Scan). s.fault) (scan_kept fs t₀) ∙ wide_found fs (start_of source 127489) refl e in
       sym (ap of_checked (when_true _ _ (ap is_over f) refl)) ∙ ap (λ (x : Standing). of_checked (faulty_of x)) f
 
   width_told : (x : Option ℕ) → first_wide 0 fs ≡ x → told ≡ wide_first x (transmission_of fs source expected base)
@@ -493,10 +484,10 @@ module _ (fs : List Frame) (source expected base : ℕ) where
   pub check_tells : of_checked (checked_of (tx_all (tx_start source base) fs) expected) ≡ check_tx_of fs source expected base
   unfolding checked_of check_tx_of over_of of_checked
   check_tells =
-      let rest : Checked = pick (is_over last.scan.fault) (faulty_of last.scan.fault) (pick (is_unclaimed last.claim) NoClaim (ran_of last expected)) in
-      pushed of_checked (eqb expected 0) NoCount (pick (over_of last.base expected) Over rest)
+      let rest : Checked = pick (is_over last.scan.fault) (faulty_of last.scan.fault) (pick (is_unclaimed last.claim) (Err NoClaim) (ran_of last expected)) in
+      pushed of_checked (eqb expected 0) (Err NoCount) (pick (over_of last.base expected) (Err Over) rest)
       ∙ ap (pick (eqb expected 0) (refuses 30 []))
-      (pushed of_checked (over_of last.base expected) Over rest
+      (pushed of_checked (over_of last.base expected) (Err Over) rest
       ∙ ap (λ (b : ℕ). pick (over_of b expected) (refuses 31 []) (of_checked rest)) (base_kept fs t₀)
       ∙ ap (pick (ltb 4294967295 (base + (expected - 1))) (refuses 31 [])) (width_told (first_wide 0 fs) refl))
 

@@ -11,12 +11,12 @@ use native.Mathlib.Omega.{arith}
 use Rattle.base.proofs.Cases.{tested, pick_all, when_true, when_false}
 use Rattle.splitter.specs.Frames.{is_wide, frame_bytes}
 use Rattle.oracle.specs.Strict.{first_wide}
-use Rattle.oracle.specs.inner.Frames.{fault_at}
+use Rattle.oracle.specs.inner.Frames.{Standing, fault_at}
 use Rattle.oracle.specs.inner.Scan.{fault_of, taken, is_over, step_on, scan_frame, scan_of, refused_at}
 use Rattle.splitter.specs.declared.Frame.{Frame}
 use Rattle.oracle.specs.declared.Scan.{Scan}
-use Rattle.oracle.specs.declared.faults.Standing.{Standing}
-use Rattle.oracle.specs.declared.faults.Standing.TheVariants.{WideAt}
+use Rattle.std.specs.Prelude.{Some}
+use Rattle.oracle.specs.declared.Fault.TheVariants.{TooWide}
 
 -- ---- rows without such a frame
 abbrev pub AllNarrow : List Frame → Type 0
@@ -36,7 +36,7 @@ abbrev NotOver : Standing → Type 0
 NotOver x = is_over x ≡ false
 
 -- no other refusal is taken for it
-fault_not_over : (s : Scan) (bs : List ℕ) (len : ℕ) → is_over (fault_of s bs len) ≡ false
+pub fault_not_over : (s : Scan) (bs : List ℕ) (len : ℕ) → is_over (fault_of s bs len) ≡ false
 unfolding fault_at
 fault_not_over s bs len =
     pick_all NotOver _
@@ -47,7 +47,7 @@ fault_not_over s bs len =
 
 module _ (s : Scan) (f : Frame) (clear : is_over s.fault ≡ false) where
   -- one that is too wide stands from here on
-  finds_wide : is_wide f.id ≡ true → scan_frame s f ≡ refused_at s (WideAt s.n)
+  finds_wide : is_wide f.id ≡ true → scan_frame s f ≡ refused_at s (Some (TooWide s.n))
   unfolding step_on
   finds_wide e = sym (when_false _ _ clear (when_true _ _ e refl))
 
@@ -71,15 +71,15 @@ unfolding step_on
 wide_stays [] s e = refl
 wide_stays (f ∷ fs) s e = ap (λ (t : Scan). scan_of t fs) (sym (when_true _ _ e refl)) ∙ wide_stays fs s e
 
-pub wide_found : (fs : List Frame) (s : Scan) {n : ℕ} → is_over s.fault ≡ false → first_wide s.n fs ≡ some n → (scan_of s fs).fault ≡ WideAt n
+pub wide_found : (fs : List Frame) (s : Scan) {n : ℕ} → is_over s.fault ≡ false → first_wide s.n fs ≡ some n → (scan_of s fs).fault ≡ Some (TooWide n)
 unfolding first_wide
 wide_found [] s {n} clear e = let z : ◌≡◌ {A = ℕ} 0 1 = cc in absurd (omega arith)
 wide_found (f ∷ fs) s {n} clear e =
     tested (is_wide f.id)
     (λ h.
     let here : s.n ≡ n = let z : some s.n ≡ some n = when_true _ _ h refl ∙ e in cc in
-    let t : Scan = refused_at s (WideAt s.n) in
-    ap (λ (u : Scan). (scan_of u fs).fault) (finds_wide s f clear h) ∙ ap (λ (u : Scan). u.fault) (wide_stays fs t refl) ∙ ap WideAt here)
+    let t : Scan = refused_at s (Some (TooWide s.n)) in
+    ap (λ (u : Scan). (scan_of u fs).fault) (finds_wide s f clear h) ∙ ap (λ (u : Scan). u.fault) (wide_stays fs t refl) ∙ ap (λ (k : ℕ). Some (TooWide k)) here)
     (λ h.
     let c : ((scan_frame s f).n ≡ s.n + 1) × (is_over (scan_frame s f).fault ≡ false) = counts_narrow s f clear h in
     wide_found fs (scan_frame s f) c.1 (ap (λ (k : ℕ). first_wide k fs) c.0 ∙ when_false _ _ h refl ∙ e))

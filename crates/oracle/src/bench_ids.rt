@@ -2,7 +2,6 @@
 ghost use Rattle.std.specs.Prelude.{◌≡◌};
 ghost use Rattle.oracle.specs.Ids.{bench_pgn, is_other};
 ghost use Rattle.oracle.specs.inner.Tx.{claim_after};
-ghost use Rattle.oracle.specs.declared.bench_ids.Claim.TheVariants.{Awaited};
 
 use splitter::FRAME_BYTES;
 
@@ -14,6 +13,7 @@ const CLAIM_PGN: u32 = 60928;
 
 pub(crate) const ENGINE_PGN: u32 = 127489;
 
+#[tactic(auto, using(crate::proofs::StrictLaws::picking), unfolding(crate::specs::Ids::bench_pgn))]
 fn pgn_of(id: u32) -> u32
     ensures { result ≡ bench_pgn id }
 {
@@ -25,47 +25,41 @@ fn pgn_of(id: u32) -> u32
 }
 
 // Whether a frame is of another source or PGN.
+#[tactic(auto, using(crate::proofs::StrictLaws::picking), unfolding(crate::specs::Ids::is_other))]
 pub(crate) fn is_other(source: u8, pgn: u32, id: u32) -> bool
     ensures { result ≡ is_other source pgn id }
 {
-    let s = (id % 0x100) as u8;
-    if s != source {
+    if id % 0x100 != u32::from(source) {
         return true;
     }
-    let p = pgn_of(id);
-    if p == pgn { false } else { true }
+    pgn_of(id) != pgn
 }
 
 // Whether a source claimed its address before its first message, as far as some frames tell.
-#[derive(Clone, Copy)]
+#[derive(Debug, Clone, Copy, PartialEq, Eq)]
 pub(crate) enum Claim {
     Awaited,
     Made,
     Missed,
 }
 
-fn awaited(source: u8, id: u32, len: usize) -> Claim
-    ensures { result ≡ claim_after Awaited source id len }
-{
-    if is_other(source, ENGINE_PGN, id) {
-        if is_other(source, CLAIM_PGN, id) {
-            return Claim::Awaited;
-        }
-        if len == FRAME_BYTES {
-            return Claim::Made;
-        }
-        return Claim::Awaited;
-    }
-    Claim::Missed
-}
-
 // The same after one frame more.
+#[tactic(auto, using(crate::proofs::CheckLaws::claiming))]
 pub(crate) fn claim_after(claim: Claim, source: u8, id: u32, len: usize) -> Claim
     ensures { result ≡ claim_after claim source id len }
 {
-    match claim {
-        Claim::Awaited => awaited(source, id, len),
-        Claim::Made => Claim::Made,
-        Claim::Missed => Claim::Missed,
+    if claim != Claim::Awaited {
+        return claim;
+    }
+    if !is_other(source, ENGINE_PGN, id) {
+        return Claim::Missed;
+    }
+    if is_other(source, CLAIM_PGN, id) {
+        return Claim::Awaited;
+    }
+    if len == FRAME_BYTES {
+        Claim::Made
+    } else {
+        Claim::Awaited
     }
 }

@@ -1,61 +1,52 @@
 // Why the bench refuses a frame: it is judged by itself, beside what strict reassembly knows of the open message.
-ghost use Rattle.std.specs.Prelude.{◌≡◌, drop};
+ghost use Rattle.std.specs.Prelude.{◌≡◌, drop, None};
 ghost use Rattle.oracle.specs.Strict.{odd_of};
-ghost use Rattle.oracle.specs.inner.Frames.{padding_at, first_then, later_then, fault_then, message_end, fault_at};
+ghost use Rattle.oracle.specs.inner.Frames.{padding_at, first_then, later_then, message_end, fault_at};
 
 use crate::Fault;
 use splitter::{FILL, FRAME_BYTES, INDICES, MAX_FAST_PACKET_PAYLOAD};
 
-// Whether a row was refused so far: at a frame, or because a frame's identifier is too wide, which stands over all else.
-#[derive(Clone, Copy)]
-pub(crate) enum Standing {
-    Clear,
-    At(Fault),
-    WideAt(usize),
-}
-
-// The limit as the byte that announces a length.
-const MAX_ANNOUNCED: u8 = MAX_FAST_PACKET_PAYLOAD as u8;
-
 // The first byte from some place on that is not 0xFF; 0xFF if there is none.
+#[tactic(auto, using(crate::proofs::FaultLaws::oddness))]
 fn odd_byte(bytes: [u8; 8], from: usize) -> u8
     ensures { result ≡ odd_of (drop from bytes) }
 {
-    let mut i = from;
-    while i < FRAME_BYTES {
+    for i in from..FRAME_BYTES {
         if bytes[i] != FILL {
             return bytes[i];
         }
-        i = i + 1;
     }
     FILL
 }
 
-fn padding(n: usize, odd: u8) -> Standing
+#[tactic(auto, using(crate::proofs::StrictLaws::picking))]
+fn padding(n: usize, odd: u8) -> Option<Fault>
     ensures { result ≡ padding_at n odd }
 {
     if odd == FILL {
-        Standing::Clear
+        None
     } else {
-        Standing::At(Fault::Padding(n, odd))
+        Some(Fault::Padding(n, odd))
     }
 }
 
-fn first_fault(n: usize, missing: u8, size: u8, rest: Standing) -> Standing
-    ensures { result ≡ first_then n missing size rest }
+#[tactic(auto, using(crate::proofs::StrictLaws::picking))]
+fn first_fault(n: usize, missing: u8, size: u8) -> Option<Fault>
+    ensures { result ≡ first_then n missing size None }
 {
     if 0 < missing {
-        return Standing::At(Fault::Restarted(n));
+        return Some(Fault::Restarted(n));
     }
     if size == 0 {
-        return Standing::At(Fault::Announced(n, size));
+        return Some(Fault::Announced(n, size));
     }
-    if MAX_ANNOUNCED < size {
-        return Standing::At(Fault::Announced(n, size));
+    if MAX_FAST_PACKET_PAYLOAD < usize::from(size) {
+        return Some(Fault::Announced(n, size));
     }
-    rest
+    None
 }
 
+#[tactic(auto, using(crate::proofs::StrictLaws::picking))]
 fn later_fault(
     n: usize,
     missing: u8,
@@ -63,56 +54,30 @@ fn later_fault(
     next: u8,
     sequence: u8,
     index: u8,
-    rest: Standing,
-) -> Standing
-    ensures { result ≡ later_then n missing wanted next sequence index rest }
+) -> Option<Fault>
+    ensures { result ≡ later_then n missing wanted next sequence index None }
 {
     if missing == 0 {
-        return Standing::At(Fault::Stray(n));
+        return Some(Fault::Stray(n));
     }
     if sequence != wanted {
-        return Standing::At(Fault::Order(n, sequence, index, wanted, next));
+        return Some(Fault::Order(n, sequence, index, wanted, next));
     }
     if index != next {
-        return Standing::At(Fault::Order(n, sequence, index, wanted, next));
+        return Some(Fault::Order(n, sequence, index, wanted, next));
     }
-    rest
-}
-
-fn fault_then(
-    n: usize,
-    missing: u8,
-    wanted: u8,
-    next: u8,
-    first: u8,
-    second: u8,
-    rest: Standing,
-) -> Standing
-    ensures { result ≡ fault_then n missing wanted next first second rest }
-{
-    if first % INDICES == 0 {
-        first_fault(n, missing, second, rest)
-    } else {
-        later_fault(
-            n,
-            missing,
-            wanted,
-            next,
-            first / INDICES,
-            first % INDICES,
-            rest,
-        )
-    }
+    None
 }
 
 // From this place on the frame's bytes are no more the message's.
+#[tactic(auto, using(crate::proofs::StrictLaws::picking), unfolding(crate::specs::inner::Frames::message_end))]
 fn message_end(first: u8, second: u8, missing: u8) -> usize
     ensures { result ≡ message_end missing first second }
 {
     if first % INDICES == 0 {
-        2 + second as usize
+        2 + usize::from(second)
     } else {
-        1 + missing as usize
+        1 + usize::from(missing)
     }
 }
 
@@ -125,13 +90,24 @@ pub(crate) fn frame_fault(
     index: u8,
     bytes: [u8; 8],
     len: usize,
-) -> Standing
+) -> Option<Fault>
     ensures { result ≡ fault_at n missing sequence index bytes len }
 {
     if len != FRAME_BYTES {
-        return Standing::At(Fault::Length(n, len));
+        return Some(Fault::Length(n, len));
     }
     let end = message_end(bytes[0], bytes[1], missing);
     let rest = padding(n, odd_byte(bytes, end));
-    fault_then(n, missing, sequence, index, bytes[0], bytes[1], rest)
+    if bytes[0] % INDICES == 0 {
+        return first_fault(n, missing, bytes[1]).or(rest);
+    }
+    later_fault(
+        n,
+        missing,
+        sequence,
+        index,
+        bytes[0] / INDICES,
+        bytes[0] % INDICES,
+    )
+    .or(rest)
 }

@@ -1,9 +1,43 @@
-// A row of frames in separate slices: frame i has the identifier at i, the eight bytes from 8 * i on, and the length at i.
-ghost use Rattle.std.specs.Prelude.{◌≡◌, ◌≤◌, ◌+◌, length, drop};
+// A row of frames to be read: frame records as they are lent, or separate slices.
+ghost use Rattle.std.specs.Prelude.{◌≡◌, ◌≤◌, ◌<◌, ◌+◌, List, length, drop, get_or};
 ghost use Rattle.splitter.specs.Frames.{eight};
-ghost use Rattle.oracle.specs.inner.Frames.{frame_or_none};
+ghost use Rattle.splitter.specs.declared.Frame.{Frame};
+ghost use Rattle.oracle.specs.Rows.{row_in};
 
 use splitter::{FRAME_BYTES, Frame, frame_count};
+
+// A lent row of frames, whichever way its memory holds them.
+pub trait FrameRow {
+    ghost frames: { Self → List Frame };
+
+    // How many frames it has; no memory holds more than this of eight bytes each.
+    fn count(&self) -> usize
+        ensures { (result ≡ length (frames self.now)) × (result ≤ 0x2000_0000_0000_0000) };
+
+    fn frame(&self, i: usize) -> Frame
+        requires { i < length (frames self.now) }
+        ensures { result ≡ get_or (frames self.now) i result };
+}
+
+impl<'a> FrameRow for &'a [Frame] {
+    ghost frames = { λ s. s.now };
+
+    fn count(&self) -> usize {
+        self.len()
+    }
+
+    fn frame(&self, i: usize) -> Frame {
+        self[i]
+    }
+}
+
+// Separate slices: frame i has the identifier at i, the eight bytes from 8 * i on, and the length at i. The shortest decides how many there are.
+#[derive(Clone, Copy)]
+pub struct SliceRow<'a> {
+    pub ids: &'a [u32],
+    pub bytes: &'a [u8],
+    pub lens: &'a [usize],
+}
 
 fn eight_in(bytes: &[u8], at: usize) -> [u8; 8]
     requires { at + 8 ≤ length bytes.now }
@@ -21,21 +55,18 @@ fn eight_in(bytes: &[u8], at: usize) -> [u8; 8]
     ]
 }
 
-// Frame i of the row; zeros where the row has none there.
-pub(crate) fn frame_in(ids: &[u32], bytes: &[u8], lens: &[usize], i: usize) -> Frame
-    ensures { result ≡ frame_or_none ids.now bytes.now lens.now i }
-{
-    if frame_count(ids.len(), bytes.len(), lens.len()) <= i {
-        return Frame {
-            id: 0,
-            data: [0; 8],
-            len: 0,
-        };
+impl<'a> FrameRow for SliceRow<'a> {
+    ghost frames = { λ s. row_in s.ids.now s.bytes.now s.lens.now };
+
+    fn count(&self) -> usize {
+        frame_count(self.ids.len(), self.bytes.len(), self.lens.len())
     }
-    let data = eight_in(bytes, FRAME_BYTES * i);
-    Frame {
-        id: ids[i],
-        data: data,
-        len: lens[i],
+
+    fn frame(&self, i: usize) -> Frame {
+        Frame {
+            id: self.ids[i],
+            data: eight_in(self.bytes, FRAME_BYTES * i),
+            len: self.lens[i],
+        }
     }
 }

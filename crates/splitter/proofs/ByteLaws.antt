@@ -1,55 +1,53 @@
 -- Laws of the bytes of one frame, in the shape of the code's tests. Assumes nothing.
-use Rattle.std.proofs.Common.{◌≡◌, ℕ, zero, suc, ◌+◌, ◌-◌, ◌*◌, ◌%◌, ◌<◌, ◌≤◌, List, [], ◌∷◌, ◌++◌, length, get_or, take, drop, set, sym, refl, ap, ◌∙◌, le_of_suc-le-suc, not-suc-le-zero, arith, length-take, get_or-drop, get_or-take}
+use Rattle.std.proofs.Common.{◌≡◌, ℕ, zero, suc, ◌+◌, ◌-◌, ◌*◌, ◌%◌, ◌<◌, List, [], ◌∷◌, ◌++◌, length, drop, set, replicate, sym, refl, ap, ◌∙◌, arith, min, take}
+use Rattle.std.specs.List.{between}
+use Rattle.std.proofs.lemmas.Slice.{between_from_start, between_to_end}
+use Rattle.std.proofs.lemmas.List.{append-nil}
+use lib.Seq.{sets}
 use Rattle.base.specs.Lists.{fill}
-use Rattle.base.proofs.Fills.{get_or_in, pasted, fill_turn, fill_done}
 use Rattle.base.proofs.Cases.{when_eq, when_ne}
-use Rattle.splitter.specs.Bytes.{split_bytes, split_frame}
-use Rattle.splitter.specs.inner.Job.{job_frame}
-use Rattle.splitter.specs.declared.split_frame.Job.{Job}
+use Rattle.splitter.specs.Bytes.{split_bytes}
 
--- ---- a byte of the payload, or the filling
-get_d_past : (l : List ℕ) (i d : ℕ) → length l ≤ i → d ≡ get_or l i d
-get_d_past [] i d h = refl
-get_d_past (x ∷ l) zero d h = absurd (not-suc-le-zero h)
-get_d_past (x ∷ l) (suc i) d h = get_d_past l i d (le_of_suc-le-suc h)
+-- ---- bytes laid into a place that is filled with 0xFF
+sets_past : (x : ℕ) (l vs : List ℕ) (k : ℕ) → sets (x ∷ l) (suc k) vs ≡ x ∷ sets l k vs
+sets_past x l [] k = refl
+sets_past x l (v ∷ vs) k = sets_past x (set l k v) vs (suc k)
 
-pub byte_in : (p : List ℕ) (at size : ℕ) → at < size → at < length p → get_or p at 0 ≡ get_or (take size p) at 255
-byte_in p at size h k = get_or_in p at 0 255 k ∙ sym (get_or-take size p at 255 h)
+sets_none : (vs : List ℕ) (k : ℕ) → sets [] k vs ≡ []
+sets_none [] k = refl
+sets_none (v ∷ vs) k = sets_none vs (suc k)
 
-pub byte_past : (p : List ℕ) (at size : ℕ) → size ≤ at → 255 ≡ get_or (take size p) at 255
-byte_past p at size h = get_d_past (take size p) at 255 (rw length-take (omega arith))
+pub filled : (n : ℕ) (vs : List ℕ) → sets (replicate n 255) 0 vs ≡ fill n vs
+unfolding fill
+filled zero vs = sets_none vs 0
+filled (suc n) [] = ap (λ (l : List ℕ). 255 ∷ l) (filled n [])
+filled (suc n) (v ∷ vs) = sets_past v (replicate n 255) vs 0 ∙ ap (λ (l : List ℕ). v ∷ l) (filled n vs)
 
--- ---- a loop that lets the payload's bytes from `at` on follow in a frame, from place `from` on
-module _ (d : List ℕ) (from : ℕ) (p : List ℕ) (at : ℕ) where
-  pub follow_turn : (k i x : ℕ) (out : List ℕ) → length d ≡ 8 → from ≤ k → k < 8 → i + from ≡ at + k → out ≡ pasted d from (drop at p) k → x ≡ get_or p i 255
-      → set out k x ≡ pasted d from (drop at p) (k + 1)
-  follow_turn k i x out l h m s e g =
-      let a : at + (k - from) ≡ i = omega arith in
-      fill_turn d from (drop at p) k x out l h m e (g ∙ ap (λ (n : ℕ). get_or p n 255) (sym a) ∙ sym (get_or-drop at p (k - from) 255))
+laid_over : (l vs : List ℕ) (n : ℕ) → n ≡ min (length l) (length vs) → take n vs ++ drop n l ≡ sets l 0 vs
+laid_over [] vs n e = let z : n ≡ 0 = omega arith in rw z (sym (sets_none vs 0))
+laid_over (x ∷ l) [] n e = let z : n ≡ 0 = omega arith in rw z refl
+laid_over (x ∷ l) (v ∷ vs) zero e = absurd (omega arith)
+laid_over (x ∷ l) (v ∷ vs) (suc n) e = ap (λ (q : List ℕ). v ∷ q) (laid_over l vs n (omega arith)) ∙ sym (sets_past v l vs 0)
 
-  pub follow_done : (k : ℕ) (out : List ℕ) → length d ≡ 8 → from ≤ k → k ≤ 8 → 8 ≤ k → out ≡ pasted d from (drop at p) k → out ≡ take from d ++ fill (8 - from) (drop at p)
-  follow_done k out l h m n e = fill_done d from (drop at p) k out l h n (omega arith) e
+pub put_laid : (l vs : List ℕ) (n : ℕ) {x : List ℕ} → n ≡ min (length l) (length vs) → x ≡ between 0 n vs → x ++ drop n l ≡ sets l 0 vs
+put_laid l vs n e ex = ap (λ (q : List ℕ). q ++ drop n l) (ex ∙ between_from_start vs n) ∙ laid_over l vs n e
 
--- ---- a job's frame, from the bytes that follow
-module _ (j : Job) where
-  abbrev payload : List ℕ
-  payload = take j.size j.payload
-
+-- ---- the bytes of a frame, from what follows its header
+module _ (sequence : ℕ) (p : List ℕ) (index : ℕ) where
   abbrev header : ℕ
-  header = j.sequence % 8 * 32 + j.index % 32
+  header = sequence % 8 * 32 + index % 32
 
-  pub frame_first : {l : List ℕ} → length j.payload ≡ 256 → j.size < 256 → j.index ≡ 0 → l ≡ header ∷ j.size ∷ fill 6 payload
-      → record { id = j.id; «data» = l; len = 8 } ≡ job_frame j
-  unfolding job_frame split_frame split_bytes
-  frame_first n k i e =
-      let s : j.size ≡ length payload = rw length-take (omega arith) in
-      ap (λ (x : List ℕ). record { id = j.id; «data» = x; len = 8 }) e
-      ∙ ap (λ (x : List ℕ). record { id = j.id; «data» = header ∷ x; len = 8 }) (when_eq _ _ i (ap (λ (x : ℕ). x ∷ fill 6 payload) s))
+  pub bytes_first : {l : List ℕ} → index ≡ 0 → l ≡ sets (replicate 6 255) 0 (between 0 (length p) p) → header ∷ length p ∷ (l ++ []) ≡ split_bytes sequence p index
+  unfolding split_bytes
+  bytes_first {l} i e =
+      ap (λ (x : List ℕ). header ∷ length p ∷ x)
+      (append-nil l ∙ e ∙ ap (sets (replicate 6 255) 0) (between_to_end p 0 (length p) (omega arith)) ∙ filled 6 p)
+      ∙ ap (λ (x : List ℕ). header ∷ x) (when_eq _ _ i refl)
 
-  pub frame_later : {l : List ℕ} → 0 < j.index → l ≡ header ∷ fill 7 (drop (7 * j.index - 1) payload)
-      → record { id = j.id; «data» = l; len = 8 } ≡ job_frame j
-  unfolding job_frame split_frame split_bytes
-  frame_later i e =
-      let later : j.index ≡ 0 → ⊥ = λ y. omega arith in
-      ap (λ (x : List ℕ). record { id = j.id; «data» = x; len = 8 }) e
-      ∙ ap (λ (x : List ℕ). record { id = j.id; «data» = header ∷ x; len = 8 }) (when_ne _ _ later refl)
+  pub bytes_later : {l : List ℕ} {k : ℕ} → 0 < index → k ≡ index → l ≡ sets (replicate 7 255) 0 (between (7 * k - 1) (length p) p) → header ∷ (l ++ []) ≡ split_bytes sequence p index
+  unfolding split_bytes
+  bytes_later {l} {k} i ek e =
+      let later : index ≡ 0 → ⊥ = λ y. omega arith in
+      ap (λ (x : List ℕ). header ∷ x)
+      (append-nil l ∙ e ∙ ap (λ (n : ℕ). sets (replicate 7 255) 0 (between (7 * n - 1) (length p) p)) ek ∙ ap (sets (replicate 7 255) 0) (between_to_end p (7 * index - 1) (length p) (omega arith)) ∙ filled 7 (drop (7 * index - 1) p)
+      ∙ when_ne _ _ later refl)

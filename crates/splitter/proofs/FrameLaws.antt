@@ -1,7 +1,9 @@
 -- Laws of a frame's eight bytes. Assumes nothing.
-use Rattle.std.proofs.Common.{◌≡◌, ℕ, ◌+◌, ◌*◌, ◌<◌, ◌≤◌, List, [], length, get_or, drop, set, refl, arith, drop_of_length-le, drop-cons}
-use lib.Seq.{sets}
-use Rattle.base.proofs.Laying.{laid, lay_none, lay_turn, lay_done}
+use Rattle.std.proofs.Common.{◌≡◌, ℕ, suc, ◌+◌, ◌*◌, ◌≤◌, List, [], ◌∷◌, ◌++◌, length, set, take, drop, refl, sym, ap, ◌∙◌, arith, drop_of_length-le, drop-cons}
+use borrow.Rule.Slice.PartMut.{put_mid}
+use lib.Seq.{sets, take_all}
+use Rattle.std.proofs.lemmas.List.Edits.{sets-eq}
+use Rattle.std.proofs.lemmas.Slice.{put_mid-paste}
 use Rattle.splitter.specs.Frames.{eight, frame_bytes}
 use Rattle.splitter.specs.declared.Frame.{Frame}
 
@@ -19,11 +21,14 @@ pub eight_more : (i : ℕ) (f : Frame) → 8 * (i + 1) ≡ 8 * i + length (frame
 unfolding eight
 eight_more i f = omega arith
 
--- ---- a loop that lays them
-pub frame_turn : (o : List ℕ) (at : ℕ) (frame : List ℕ) (k : ℕ) (l : List ℕ) → k < 8 → length frame ≡ 8 → l ≡ laid o at frame k → set l (at + k) (get_or frame k 0) ≡ laid o at frame (k + 1)
-frame_turn o at frame k l h n e = lay_turn o at frame k l (omega arith) e
+-- ---- a part of a slice is written over
+pub mid_sets : (l vs : List ℕ) (a k : ℕ) → k ≡ length vs → a + length vs ≤ length l → put_mid a k l vs ≡ sets l a vs
+mid_sets l vs a k e h =
+    put_mid-paste a k l vs vs (length vs) refl (sym e) refl
+    ∙ ap (λ (q : List ℕ). take a l ++ q ++ drop (a + length vs) l) (take_all (length vs) vs (omega arith))
+    ∙ sym (sets-eq vs l a h)
 
-pub frame_done : (o : List ℕ) (at : ℕ) (frame : List ℕ) (k : ℕ) (l : List ℕ) → 8 ≤ k → length frame ≡ 8 → l ≡ laid o at frame k → l ≡ sets o at frame
-frame_done o at frame k l h n e = lay_done o at frame k l (omega arith) e
-
-pub ruleset laying_frame = (lay_none, frame_turn, frame_done)
+-- ---- one run of stores after another
+pub sets_more : {A : Type 0} (p q l : List A) (a : ℕ) → sets l a (p ++ q) ≡ sets (sets l a p) (a + length p) q
+sets_more [] q l a = let e : a ≡ a + 0 = omega arith in ap (λ (k : ℕ). sets l k q) e
+sets_more (x ∷ p) q l a = let e : suc a + length p ≡ a + suc (length p) = omega arith in sets_more p q (set l a x) (suc a) ∙ ap (λ (k : ℕ). sets (sets (set l a x) (suc a) p) k q) e

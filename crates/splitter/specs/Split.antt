@@ -1,13 +1,13 @@
 -- The splitter, as document 01 has it under "The bench": a payload is laid out by step 6 of "Building frames", index from 0.
-use Rattle.std.specs.Prelude.{◌≡◌, ℕ, zero, suc, List, [], ◌∷◌, ◌++◌, length, ◌==◌, nat_lt}
+use Rattle.std.specs.Prelude.{◌≡◌, ℕ, zero, suc, List, [], ◌∷◌, ◌++◌, length, ◌==◌, nat_lt, Result, Ok, Err}
 use Rattle.std.proofs.lemmas.List.Edits.{sets}
 use Rattle.base.specs.Answer.{Answer, gives, refuses, counted}
 use Rattle.base.specs.Pick.{pick}
 use Rattle.splitter.specs.Frames.{is_wide, frame_bytes, count_in}
 use Rattle.splitter.specs.declared.Frame.{Frame}
 use Rattle.splitter.specs.Bytes.{split_frame, count_of}
-use Rattle.splitter.specs.declared.Split.{Split}
-use Rattle.splitter.specs.declared.Split.TheVariants.{Frames, BadSplit, TooWide, Short}
+use Rattle.splitter.specs.declared.SplitError.{SplitError}
+use Rattle.splitter.specs.declared.SplitError.TheVariants.{BadSplit, TooWide, Short}
 
 -- n frames from an index on
 abbrev pub split_frames_from : ℕ → ℕ → List ℕ → ℕ → ℕ → List Frame
@@ -30,11 +30,11 @@ split_of id sequence payload room =
     (gives (split_frames id sequence payload))))))
 
 -- this paper's number and values for each answer: "27, 28: no room; bad split: nothing", and "8 too wide"
-unfoldable pub of_split : Split → Answer ℕ
-of_split (Frames n) = gives n
-of_split BadSplit = refuses 28 []
-of_split TooWide = refuses 8 []
-of_split Short = refuses 27 []
+unfoldable pub of_split : Result ℕ SplitError → Answer ℕ
+of_split (Ok n) = gives n
+of_split (Err BadSplit) = refuses 28 []
+of_split (Err TooWide) = refuses 8 []
+of_split (Err Short) = refuses 27 []
 
 -- "rows past them keep their contents"; a refusal writes nothing
 unfoldable pub row_with : Answer (List Frame) → List Frame → List Frame
@@ -42,7 +42,7 @@ row_with (gives fs) row = sets row 0 fs
 row_with (refuses k vs) row = row
 
 -- what `fast_packet_frames` promises: "Its answer is the number of frames", and what the lent row becomes
-pub record SplitsInto (id sequence : ℕ) (payload : List ℕ) (row : List Frame) (r : Split) (row' : List Frame) : Type 0 where
+pub record SplitsInto (id sequence : ℕ) (payload : List ℕ) (row : List Frame) (r : Result ℕ SplitError) (row' : List Frame) : Type 0 where
   pub answer : of_split r ≡ counted (split_of id sequence payload (length row))
   pub row_after : row' ≡ row_with (split_of id sequence payload (length row)) row
 
@@ -76,7 +76,7 @@ abbrev pub split_in : ℕ → ℕ → List ℕ → List ℕ → List ℕ → Lis
 split_in id sequence payload ids bytes lens = split_of id sequence payload (count_in (length ids) (length bytes) (length lens))
 
 -- what `fast_packet_rows` promises: the answer, and what each lent slice becomes
-pub record SplitsIntoSlices (id sequence : ℕ) (payload ids bytes lens : List ℕ) (r : Split) (ids' bytes' lens' : List ℕ) : Type 0 where
+pub record SplitsIntoSlices (id sequence : ℕ) (payload ids bytes lens : List ℕ) (r : Result ℕ SplitError) (ids' bytes' lens' : List ℕ) : Type 0 where
   pub answer : of_split r ≡ counted (split_in id sequence payload ids bytes lens)
   pub ids_after : ids' ≡ ids_with (split_in id sequence payload ids bytes lens) ids
   pub bytes_after : bytes' ≡ bytes_with (split_in id sequence payload ids bytes lens) bytes

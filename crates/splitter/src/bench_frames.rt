@@ -1,5 +1,5 @@
 // The bench's frame and its numbers, and how many frames separate slices have. The bench shares no code with what it judges.
-ghost use Rattle.std.specs.Prelude.{◌≡◌, min};
+ghost use Rattle.std.specs.Prelude.{◌≡◌};
 ghost use Rattle.splitter.specs.Frames.{count_in};
 
 // Maximum payload a Fast Packet can transport once reassembled. The bench has its own, as it shares no code with what it judges.
@@ -22,15 +22,9 @@ pub const SEQUENCES: u8 = 8;
 
 // ---- in separate slices frame i has the identifier at i, the eight bytes from 8 * i on, and the length at i
 
-fn lesser(a: usize, b: usize) -> usize
-    ensures { result ≡ min a b }
-{
-    if a < b { a } else { b }
-}
-
 // How many frames the slices have: the shortest decides.
 pub fn frame_count(ids: usize, bytes: usize, lens: usize) -> usize
     ensures { result ≡ count_in ids bytes lens }
 {
-    lesser(ids, lesser(bytes / FRAME_BYTES, lens))
+    ids.min((bytes / FRAME_BYTES).min(lens))
 }

@@ -1,95 +1,78 @@
 // One frame of the bench's splitter, byte by byte, and whether a payload can be split at all. Rows of frames are in lib.rt.
-ghost use Rattle.std.specs.Prelude.{◌≡◌, ◌-◌, ◌≤◌, ◌++◌, take, drop, slice_index_or};
-ghost use Rattle.base.specs.Lists.{fill};
-ghost use Rattle.splitter.specs.inner.Job.{told_of, job_frame};
+ghost use Rattle.std.specs.Prelude.{◌≡◌, ◌≤◌, ◌*◌, length};
+ghost use Rattle.std.proofs.lemmas.List.Edits.{sets};
+ghost use Rattle.splitter.specs.Bytes.{split_bytes, split_frame};
+ghost use Rattle.splitter.specs.inner.Told.{told_of};
 
 use crate::bench_frames::{
     FILL, FRAME_BYTES, INDICES, MAX_FAST_PACKET_PAYLOAD, SEQUENCES, TOO_WIDE,
 };
-use crate::{Frame, Split};
+use crate::{Frame, SplitError};
 
 // The greatest sequence.
 const LAST_SEQUENCE: u8 = 7;
 
 // A first frame has its length and six bytes; any other has up to this many.
-pub(crate) const LATER_BYTES: usize = 7;
+const LATER_BYTES: usize = 7;
 
-// A payload that is being laid out, with the index of its next frame.
-#[derive(Clone, Copy)]
-pub(crate) struct Job {
-    pub id: u32,
-    pub sequence: u8,
-    pub index: u8,
-    pub size: u8,
-    pub payload: [u8; 256],
-}
-
-// What the splitter answers, from the identifier, the sequence and the sizes.
-pub(crate) fn split_of(id: u32, sequence: u8, size: usize, room: usize) -> Split
+// How many frames the splitter lays, from the identifier, the sequence and the sizes.
+pub(crate) fn split_of(id: u32, sequence: u8, size: usize, room: usize) -> Result<usize, SplitError>
     ensures { result ≡ told_of id sequence size room }
 {
     if size == 0 {
-        return Split::BadSplit;
+        return Err(SplitError::BadSplit);
     }
     if MAX_FAST_PACKET_PAYLOAD < size {
-        return Split::BadSplit;
+        return Err(SplitError::BadSplit);
     }
     if LAST_SEQUENCE < sequence {
-        return Split::BadSplit;
+        return Err(SplitError::BadSplit);
     }
     let count = size / LATER_BYTES + 1;
     if TOO_WIDE <= id {
-        return Split::TooWide;
+        return Err(SplitError::TooWide);
     }
     if room < count {
-        return Split::Short;
+        return Err(SplitError::Short);
     }
-    Split::Frames(count)
+    Ok(count)
 }
 
-// The byte of a payload at `at`, or what fills its place.
-fn byte(bytes: [u8; 256], size: u8, at: usize) -> u8
-    ensures { result ≡ slice_index_or (take size bytes) at 255 }
+// The first of these bytes, as many as the place holds.
+#[tactic(auto, using(crate::proofs::ByteLaws::put_laid))]
+fn put(place: &mut [u8], bytes: &[u8])
+    ensures { place.new ≡ sets place.old 0 bytes.now }
 {
-    let count = size as usize;
-    if at < count { bytes[at] } else { FILL }
+    let count = place.len().min(bytes.len());
+    place[..count].copy_from_slice(&bytes[..count]);
 }
 
-// `start` up to place `from`; there the payload's bytes from `at` on follow.
-fn follow(start: [u8; 8], from: usize, bytes: [u8; 256], size: u8, at: usize) -> [u8; 8]
-    requires { (from ≤ 8) × (at ≤ 4096) }
-    ensures { result ≡ take from start ++ fill (8 - from) (drop at (take size bytes)) }
+// The bytes of a payload's frame: a first frame has its message's length and six of them, any other has seven.
+fn bytes_of(sequence: u8, payload: &[u8], index: u8) -> [u8; FRAME_BYTES]
+    requires { (length payload.now ≤ 223) × (7 * index ≤ length payload.now) }
+    ensures { result ≡ split_bytes sequence payload.now index }
 {
-    let mut data = start;
-    let mut k = from;
-    let mut i = at;
-    while k < FRAME_BYTES {
-        data[k] = byte(bytes, size, i);
-        k += 1;
-        i += 1;
+    let mut data = [FILL; FRAME_BYTES];
+    data[0] = sequence % SEQUENCES * INDICES + index % INDICES;
+    if index == 0 {
+        data[1] = payload.len() as u8;
+        put(&mut data[2..], &payload[0..]);
+        return data;
     }
+    let start = LATER_BYTES * usize::from(index) - 1;
+    put(&mut data[1..], &payload[start..]);
     data
 }
 
-// The next frame of a job: a first frame has its message's length and six bytes, any other has seven.
-pub(crate) fn frame_of(j: Job) -> Frame
-    ensures { result ≡ job_frame j }
+// A payload's frame.
+#[tactic(auto, unfolding(crate::specs::Bytes::split_frame))]
+pub(crate) fn frame_of(id: u32, sequence: u8, payload: &[u8], index: u8) -> Frame
+    requires { (length payload.now ≤ 223) × (7 * index ≤ length payload.now) }
+    ensures { result ≡ split_frame id sequence payload.now index }
 {
-    let b = j.payload;
-    let header = j.sequence % SEQUENCES * INDICES + j.index % INDICES;
-    if j.index == 0 {
-        let data = follow([header, j.size, 0, 0, 0, 0, 0, 0], 2, b, j.size, 0);
-        return Frame {
-            id: j.id,
-            data: data,
-            len: FRAME_BYTES,
-        };
-    }
-    let s = LATER_BYTES * (j.index as usize) - 1;
-    let data = follow([header; FRAME_BYTES], 1, b, j.size, s);
     Frame {
-        id: j.id,
-        data: data,
+        id,
+        data: bytes_of(sequence, payload, index),
         len: FRAME_BYTES,
     }
 }

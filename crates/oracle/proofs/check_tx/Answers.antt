@@ -1,7 +1,6 @@
--- `check_tx` meets its contract: the facts on its way pick the law. Assumes nothing.
-use Rattle.std.proofs.Common.{rules}
+-- `check_tx` meets its contract: it tells what the definition tells of the row. Assumes nothing.
 use Rattle.oracle.proofs.BridgeTx.{check_told}
 use Rattle.oracle.proofs.check_tx.Goals as goal
 
 pub returns : goal.returns
-returns c = search (rules, check_told)
+returns g c = check_told (g.R.FrameRow.frames c.args.frames) c.args.source c.args.expected c.args.hours_base c.tx_start.ensures c.scan_tx-last.ensures c.checked_of.ensures

@@ -1,11 +1,8 @@
--- `enter` meets its contract: what the rest of the row comes to, and what it leaves of the list, is what it was at the start. Assumes nothing.
-use Rattle.std.proofs.Common.{◌≡◌, ◌-◌, ◌≤◌, length, drop}
-use Rattle.oracle.specs.inner.Scan.{Counted, scan_of}
+-- `enter` meets its contract: what the rest of the row leaves of the list, from what is known at place i, is what the row leaves at the start. Assumes nothing.
+use Rattle.std.proofs.Common.{◌≡◌, drop}
+use Rattle.oracle.specs.inner.Scan.{Counted}
 use Rattle.oracle.proofs.RowLaws.{list_left}
 use Rattle.oracle.proofs.enter.Given as goal
 
 abbrev pub invariant-loop-i : goal.invariant-loop-i
-invariant-loop-i l = (l.i ≤ length l.frames) × Counted l.i l.st × (scan_of l.st (drop l.i l.frames) ≡ scan_of l.initial.st l.frames) × (list_left l.st l.list (drop l.i l.frames) ≡ list_left l.initial.st l.initial.list l.frames)
-
-abbrev pub decreases-loop-i : goal.decreases-loop-i
-decreases-loop-i l = length l.frames - l.i
+invariant-loop-i g l = Counted l.i l.scan × (list_left l.scan l.list (drop l.i (g.R.FrameRow.frames l.frames)) ≡ list_left l.initial.scan l.initial.list (g.R.FrameRow.frames l.frames))

@@ -1,10 +1,7 @@
 -- `scan_row` meets its contract: what the rest of the row comes to, from what is known at place i, is what the row came to at the start. Assumes nothing.
-use Rattle.std.proofs.Common.{◌≡◌, ◌-◌, ◌≤◌, length, drop}
+use Rattle.std.proofs.Common.{◌≡◌, drop}
 use Rattle.oracle.specs.inner.Scan.{Counted, scan_of}
 use Rattle.oracle.proofs.scan_row.Given as goal
 
 abbrev pub invariant-loop-i : goal.invariant-loop-i
-invariant-loop-i l = (l.i ≤ length l.frames) × Counted l.i l.st × (scan_of l.st (drop l.i l.frames) ≡ scan_of l.initial.st l.frames)
-
-abbrev pub decreases-loop-i : goal.decreases-loop-i
-decreases-loop-i l = length l.frames - l.i
+invariant-loop-i g l = Counted l.i l.scan × (scan_of l.scan (drop l.i (g.R.FrameRow.frames l.frames)) ≡ scan_of l.initial.scan (g.R.FrameRow.frames l.frames))

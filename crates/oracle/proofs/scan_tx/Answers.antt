@@ -1,7 +1,9 @@
--- `scan_tx` meets its contract: what the rest of the row comes to, from what is known at place i, is what the row came to at the start. Assumes nothing.
-use Rattle.std.proofs.Common.{rules}
-use Rattle.oracle.proofs.RowLaws.{checking_on}
+-- `scan_tx` meets its contract: one frame on. Assumes nothing.
+use Rattle.oracle.proofs.RowLaws.{tx_on, counts_tx}
 use Rattle.oracle.proofs.scan_tx.Goals as goal
 
 pub loop-i-preserved : goal.loop-i-preserved
-loop-i-preserved c = search (rules, checking_on)
+loop-i-preserved g c = (
+  counts_tx c.loop-i.i c.loop-i.t c.frame.result c.loop-i.invariant.0 c.step_tx-t.ensures,
+  tx_on (g.R.FrameRow.frames c.args.frames.now) c.loop-i.i c.frame.result c.count-i-end.ensures.0 c.loop-i-test.true c.frame.ensures c.args.start c.loop-i.t c.step_tx-t.ensures c.loop-i.invariant.1,
+)

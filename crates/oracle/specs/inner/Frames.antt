@@ -1,38 +1,32 @@
--- One frame, as the code reads it and judges it. Nobody needs to believe this: `proofs/Bridge` shows that it tells what specs/Strict says, `proofs/RowLaws` that
--- what is read is the row of specs/Rows.
-use Rattle.std.specs.Prelude.{ℕ, ◌+◌, ◌/◌, ◌%◌, List, length, get_or, drop, replicate, eqb, ltb}
+-- One frame, as the code judges it. Nobody needs to believe this: `proofs/Bridge` shows that it tells what specs/Strict says.
+use Rattle.std.specs.Prelude.{ℕ, ◌+◌, ◌/◌, ◌%◌, List, get_or, drop, eqb, ltb, Option, Some, None}
 use Rattle.base.specs.Pick.{pick}
-use Rattle.splitter.specs.Frames.{count_in}
-use Rattle.oracle.specs.Rows.{frame_in}
 use Rattle.oracle.specs.Strict.{odd_of}
-use Rattle.splitter.specs.declared.Frame.{Frame}
 use Rattle.oracle.specs.declared.Fault.TheVariants.{Length, Restarted, Announced, Stray, Order, Padding}
-use Rattle.oracle.specs.declared.faults.Standing.{Standing}
-use Rattle.oracle.specs.declared.faults.Standing.TheVariants.{Clear, At}
+use Rattle.oracle.specs.declared.Fault.{Fault}
 
--- what is read at place i: frame i of them, or zeros where the row has none there
-unfoldable pub frame_or_none : List ℕ → List ℕ → List ℕ → ℕ → Frame
-frame_or_none ids bytes lens i =
-    pick (ltb i (count_in (length ids) (length bytes) (length lens))) (frame_in ids bytes lens i) (record { id = 0; «data» = replicate 8 0; len = 0 })
+-- why a frame or a row is refused, if it is
+abbrev pub Standing : Type 0
+Standing = Option Fault
 
 -- ---- why it is refused, if it is: the tests in the document's order, of what is known of the open message by numbers
 -- "those after it must all be 0xFF (25, first bad byte)"
 abbrev pub padding_at : ℕ → ℕ → Standing
-padding_at n odd = pick (eqb odd 255) Clear (At (Padding n odd))
+padding_at n odd = pick (eqb odd 255) None (Some (Padding n odd))
 
 -- "index 0 while open (21); announced outside 1..223 (22)": a message is open while bytes of it are missing
 abbrev pub first_then : ℕ → ℕ → ℕ → Standing → Standing
 first_then n missing size rest =
-    pick (ltb 0 missing) (At (Restarted n))
-    (pick (eqb size 0) (At (Announced n size))
-    (pick (ltb 223 size) (At (Announced n size))
+    pick (ltb 0 missing) (Some (Restarted n))
+    (pick (eqb size 0) (Some (Announced n size))
+    (pick (ltb 223 size) (Some (Announced n size))
     rest))
 
 -- "continuation without open (23); wrong sequence or index (24)", which carries both as found and both as expected
 abbrev pub later_then : ℕ → ℕ → ℕ → ℕ → ℕ → ℕ → Standing → Standing
 later_then n missing wanted next sequence index rest =
-    let wrong : Standing = At (Order n sequence index wanted next) in
-    pick (eqb missing 0) (At (Stray n))
+    let wrong : Standing = Some (Order n sequence index wanted next) in
+    pick (eqb missing 0) (Some (Stray n))
     (pick (eqb sequence wanted) (pick (eqb index next) rest wrong) wrong)
 
 abbrev pub fault_then : ℕ → ℕ → ℕ → ℕ → ℕ → ℕ → Standing → Standing
@@ -49,4 +43,4 @@ unfoldable pub fault_at : ℕ → ℕ → ℕ → ℕ → List ℕ → ℕ → S
 fault_at n missing wanted next bs len =
     pick (eqb len 8)
     (fault_then n missing wanted next (get_or bs 0 0) (get_or bs 1 0) (padding_at n (odd_of (drop (message_end missing (get_or bs 0 0) (get_or bs 1 0)) bs))))
-    (At (Length n len))
+    (Some (Length n len))

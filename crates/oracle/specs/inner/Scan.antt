@@ -1,17 +1,16 @@
 -- What the code knows after some frames of a row: no bytes, only counts. Nobody needs to believe this: `proofs/Bridge` shows that it tells what specs/Strict says.
-use Rattle.std.specs.Prelude.{ℕ, ◌+◌, ◌-◌, ◌*◌, ◌/◌, ◌≤◌, Bool, true, false, List, [], ◌∷◌, ◌++◌, get_or, take, drop, eqb, ltb}
+use Rattle.std.specs.Prelude.{ℕ, ◌+◌, ◌-◌, ◌*◌, ◌/◌, ◌≤◌, Bool, true, false, List, [], ◌∷◌, ◌++◌, get_or, take, drop, eqb, ltb, Some, None, Result, Ok, Err}
 use Rattle.base.specs.Pick.{pick}
 use Rattle.splitter.specs.Frames.{is_wide, frame_bytes}
 use Rattle.oracle.specs.Ids.{is_other}
 use Rattle.oracle.specs.Strict.{bench_index, bench_sequence}
-use Rattle.oracle.specs.inner.Frames.{fault_at}
+use Rattle.oracle.specs.inner.Frames.{Standing, fault_at}
 use Rattle.splitter.specs.declared.Frame.{Frame}
 use Rattle.oracle.specs.declared.Scan.{Scan}
-use Rattle.oracle.specs.declared.Reassembled.{Reassembled}
-use Rattle.oracle.specs.declared.Reassembled.TheVariants.{Messages, Refused, Incomplete, NoRoom}
-use Rattle.oracle.specs.declared.Fault.TheVariants.{TooWide}
-use Rattle.oracle.specs.declared.faults.Standing.{Standing}
-use Rattle.oracle.specs.declared.faults.Standing.TheVariants.{Clear, At, WideAt}
+use Rattle.oracle.specs.declared.ReassembleError.{ReassembleError}
+use Rattle.oracle.specs.declared.ReassembleError.TheVariants.{Refused, Incomplete, NoRoom}
+use Rattle.oracle.specs.declared.Fault.{Fault}
+use Rattle.oracle.specs.declared.Fault.TheVariants.{Length, Restarted, Announced, Stray, Order, Padding, TooWide}
 
 -- how many of its bytes stand before the message's
 unfoldable pub header_bytes : List ℕ → ℕ
@@ -46,21 +45,28 @@ taken s bs =
     left_with s bs (pick (eqb (bench_index bs) 0) (get_or bs 1 0) s.announced) (m - room) (pick (ltb room m) s.messages (s.messages + 1)) (s.total + pick (ltb room m) room m)
 
 abbrev pub is_faulty : Standing → Bool
-is_faulty Clear = false
-is_faulty (At f) = true
-is_faulty (WideAt n) = true
+is_faulty None = false
+is_faulty (Some f) = true
 
 -- a frame's identifier was too wide
+abbrev pub is_width : Fault → Bool
+is_width (Length n len) = false
+is_width (Restarted n) = false
+is_width (Announced n size) = false
+is_width (Stray n) = false
+is_width (Order n sequence index wanted next) = false
+is_width (Padding n byte) = false
+is_width (TooWide n) = true
+
 abbrev pub is_over : Standing → Bool
-is_over Clear = false
-is_over (At f) = false
-is_over (WideAt n) = true
+is_over None = false
+is_over (Some f) = is_width f
 
 -- the first identifier that is too wide stands over all others, and else the first refusal stands
 unfoldable pub step_on : Scan → ℕ → List ℕ → ℕ → Scan
 step_on s id bs len =
     pick (is_over s.fault) s
-    (pick (is_wide id) (refused_at s (WideAt s.n))
+    (pick (is_wide id) (refused_at s (Some (TooWide s.n)))
     (pick (is_faulty s.fault) (skipped s)
     (pick (is_other s.source s.pgn id) (skipped s)
     (pick (is_faulty (fault_of s bs len)) (refused_at s (fault_of s bs len))
@@ -74,7 +80,7 @@ scan_of s [] = s
 scan_of s (f ∷ fs) = scan_of (scan_frame s f) fs
 
 abbrev pub start_of : ℕ → ℕ → Scan
-start_of source pgn = record { source = source; pgn = pgn; n = 0; fault = Clear; sequence = 0; announced = 0; index = 0; missing = 0; messages = 0; total = 0 }
+start_of source pgn = record { source = source; pgn = pgn; n = 0; fault = None; sequence = 0; announced = 0; index = 0; missing = 0; messages = 0; total = 0 }
 
 -- what i frames can have counted
 pub record Counted (i : ℕ) (s : Scan) : Type 0 where
@@ -108,24 +114,17 @@ rows_laid s (f ∷ fs) = row_of s f ++ rows_laid (scan_frame s f) fs
 
 -- ---- the answer, from the counts after the last frame
 -- of a row of which no frame is refused
-abbrev pub passed_with : ℕ → ℕ → ℕ → ℕ → ℕ → ℕ → Reassembled
+abbrev pub passed_with : ℕ → ℕ → ℕ → ℕ → ℕ → ℕ → Result ℕ ReassembleError
 passed_with missing announced messages total numbers space =
-    pick (ltb 0 missing) (Incomplete announced)
-    (pick (ltb (numbers / 3) messages) NoRoom
-    (pick (ltb space total) NoRoom
-    (Messages messages)))
+    pick (ltb 0 missing) (Err (Incomplete announced))
+    (pick (ltb (numbers / 3) messages) (Err NoRoom)
+    (pick (ltb space total) (Err NoRoom)
+    (Ok messages)))
 
 -- a refusal of a frame stands
-unfoldable pub verdict_at : Standing → ℕ → ℕ → ℕ → ℕ → ℕ → ℕ → Reassembled
-verdict_at (WideAt n) missing announced messages total numbers space = Refused (TooWide n)
-verdict_at (At why) missing announced messages total numbers space = Refused why
-verdict_at Clear missing announced messages total numbers space = passed_with missing announced messages total numbers space
+unfoldable pub verdict_at : Standing → ℕ → ℕ → ℕ → ℕ → ℕ → ℕ → Result ℕ ReassembleError
+verdict_at (Some why) missing announced messages total numbers space = Err (Refused why)
+verdict_at None missing announced messages total numbers space = passed_with missing announced messages total numbers space
 
-abbrev pub verdict_of : Scan → ℕ → ℕ → Reassembled
+abbrev pub verdict_of : Scan → ℕ → ℕ → Result ℕ ReassembleError
 verdict_of s numbers space = verdict_at s.fault s.missing s.announced s.messages s.total numbers space
-
-abbrev pub is_none : Reassembled → Bool
-is_none (Messages n) = false
-is_none (Refused f) = true
-is_none (Incomplete n) = true
-is_none NoRoom = true

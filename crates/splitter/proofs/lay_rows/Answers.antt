@@ -1,22 +1,16 @@
--- `lay_rows` meets its contract: after i turns what is left to lay is what was to be laid, less i frames. Assumes nothing.
-use Rattle.std.proofs.Common.{rules}
-use Rattle.splitter.proofs.SplitLaws.{bytes_turn, laying_frames}
+-- `lay_rows` meets its contract: after i turns the first i frames are laid. Assumes nothing.
+use Rattle.std.proofs.Common.{arith, refl, rules}
+use Rattle.splitter.specs.Split.{ids_of, bytes_all, lens_of}
+use Rattle.splitter.proofs.SplitLaws.{ids_turn, lens_turn, bytes_turn}
 use Rattle.splitter.proofs.lay_rows.Goals as goal
 
 pub loop-i-init : goal.loop-i-init
-loop-i-init c = search (rules, laying_frames)
+unfolding ids_of bytes_all lens_of
+loop-i-init c = (refl, refl, refl)
 
 pub loop-i-preserved : goal.loop-i-preserved
-loop-i-preserved c = (
-  search rules,
-  search rules,
-  search rules,
-  search rules,
-  search rules,
-  search (rules, laying_frames),
-  bytes_turn c.args.n c.loop-i.st c.loop-i.bytes c.loop-i.i (search rules) c.frame_of-f.ensures c.after_one-st.ensures c.put_frame.ensures c.loop-i.invariant.6,
-  search (rules, laying_frames),
+loop-i-preserved c = let f = c.frame_of-frame.ensures in let inv = c.loop-i.invariant in (
+  ids_turn _ _ _ _ f _ _ inv.0,
+  bytes_turn _ _ _ _ f _ _ _ (search rules) (omega arith) c.copy_from_slice.ensures.after (omega arith) inv.1,
+  lens_turn _ _ _ _ f _ _ inv.2,
 )
-
-pub returns : goal.returns
-returns c = search (rules, laying_frames)

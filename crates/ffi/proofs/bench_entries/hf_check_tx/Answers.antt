@@ -3,4 +3,4 @@ use Rattle.ffi.proofs.BenchLaws.{told_so}
 use Rattle.ffi.proofs.bench_entries.hf_check_tx.Goals as goal
 
 pub returns : goal.returns
-returns c = told_so c.check_tx_rows-c.ensures c.told_checked.ensures
+returns c = told_so c.check_tx-c.ensures c.told_checked.ensures

@@ -4,7 +4,7 @@ use Rattle.ffi.proofs.bench_entries.hf_reassemble.Goals as goal
 
 pub returns : goal.returns
 returns c = record {
-  answer = told_so c.reassemble_rows-r.ensures.answer c.told_reassembled.ensures;
-  list_after = c.reassemble_rows-r.ensures.list_after;
-  arena_after = c.reassemble_rows-r.ensures.arena_after;
+  answer = told_so c.reassemble-r.ensures.answer c.told_reassembled.ensures;
+  list_after = c.reassemble-r.ensures.list_after;
+  arena_after = c.reassemble-r.ensures.arena_after;
 }

@@ -1,5 +1,5 @@
 -- `off_pattern` meets its contract: what is left to look at decides. Assumes nothing.
-use borrow.Author.Rules.{rules}
+use Rattle.std.proofs.Common.{rules}
 use Rattle.oracle.proofs.CheckLaws.{offness}
 use Rattle.oracle.proofs.messages.off_pattern.Goals as goal
 

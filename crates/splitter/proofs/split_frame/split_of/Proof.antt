@@ -2,7 +2,7 @@
 use Rattle.std.proofs.Common.{rules}
 use Rattle.base.proofs.Cases.{cases}
 use Rattle.splitter.specs.Frames.{is_wide}
-use Rattle.splitter.specs.inner.Job.{told_of}
+use Rattle.splitter.specs.inner.Told.{told_of}
 use Rattle.splitter.proofs.split_frame.split_of.Statement.{statement}
 use Rattle.splitter.proofs.split_frame.split_of.Tie as tie
 
