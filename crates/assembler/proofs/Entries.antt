@@ -3,6 +3,7 @@ use Prim.Native.Nat.{ℕ, zero, suc, ◌+◌, ◌<◌, min}
 use mathlib.Core.Path.{◌≡◌, refl, sym, ap, ◌∙◌}
 use mathlib.Core.Bool.{Bool, true, false, not, ◌&&◌, true≢false}
 use mathlib.Core.List.{List, [], ◌∷◌}
+use Rattle.std.proofs.Common.{Option, Some, None}
 use lib.ListN.{length, get_or, take}
 use lib.Dec.{eqb, ltb, leb}
 use native.Mathlib.Omega.{arith}
@@ -12,8 +13,6 @@ use Rattle.base.specs.Pick.{pick}
 use Rattle.base.specs.Lists.{fill}
 use Rattle.base.proofs.Fills.{length_fill}
 use Rattle.fast_packet.specs.FastPacket.{filled_from}
-use Rattle.can_id.specs.declared.Destination.{Destination}
-use Rattle.can_id.specs.declared.Destination.TheVariants.{Nobody, To}
 use Rattle.can_id.specs.Layout.{pgn_pf, reserved_of, data_page_of, pf_of, ps_of, pgn_from, pgn_of, destination_of}
 use Rattle.can_id.specs.Read.{parts_of, read_of}
 use Rattle.session.specs.declared.Counters.{Counters}
@@ -142,7 +141,7 @@ part_fits_lem : (id : ℕ) → part_allowed Addressed (pgn_of id) (part_of (dest
 unfolding part_allowed
 part_fits_lem id = rw (pf_of_lem id) (unfold destination_of in go (ltb (pf_of id) 240))
   where
-    go : (b : Bool) → pick b (leb 1 (part_of (pick b (To (ps_of id)) Nobody)) && leb (part_of (pick b (To (ps_of id)) Nobody)) 256) (eqb (part_of (pick b (To (ps_of id)) Nobody)) 0) ≡ true
+    go : (b : Bool) → pick b (leb 1 (part_of (pick b (Some (ps_of id)) None)) && leb (part_of (pick b (Some (ps_of id)) None)) 256) (eqb (part_of (pick b (Some (ps_of id)) None)) 0) ≡ true
     go true = unfold pick part_of in rw (le-leb 1 (ps_of id + 1) (omega arith), le-leb (ps_of id + 1) 256 (omega arith))
     go false = unfold pick part_of in refl
 
@@ -164,11 +163,11 @@ ok_by_id_with_length p pgns x ok = go (leb 0x2000_0000 x.arrival.id.0)
 
 -- ---- the cases, as the code meets them: `search (needs, entering)` finds the case
 
-pub part_none : (d : Destination) → d ≡ Nobody → 0 ≡ part_of d
+pub part_none : (d : Option ℕ) → d ≡ None → 0 ≡ part_of d
 unfolding part_of
 part_none d e = rw e
 
-pub part_to : (d : Destination) (n : ℕ) → d ≡ To n → n + 1 ≡ part_of d
+pub part_to : (d : Option ℕ) (n : ℕ) → d ≡ Some n → n + 1 ≡ part_of d
 unfolding part_of
 part_to d n e = rw e
 

@@ -1,12 +1,13 @@
 -- A promise and the equation that it stands for: each gives the other. Assumes nothing.
 use Prim.Native.Nat.{ℕ}
 use mathlib.Core.List.{List, []}
+use Rattle.std.proofs.Common.{Result as ResultOf, Ok, Err}
 use mathlib.Core.Path.{◌≡◌, refl, sym, ap, subst, ◌∙◌}
 use Rattle.base.specs.Answer.{Answer, gives, refuses}
 use Rattle.base.specs.Pick.{pick}
 use Rattle.can_id.specs.declared.CanIdParts.{CanIdParts}
-use Rattle.can_id.specs.declared.Read.{Read}
-use Rattle.can_id.specs.declared.Read.TheVariants.{Parts, TooWide}
+use Rattle.can_id.specs.declared.CanIdReadError.{CanIdReadError}
+use Rattle.can_id.specs.declared.CanIdReadError.TheVariants.{TooWide}
 use Rattle.can_id.specs.Read.{of_read, read_of}
 use Rattle.session.specs.declared.Counters.{Counters}
 use Rattle.session.specs.declared.Heard.{Heard}
@@ -107,31 +108,31 @@ unfolding entered reply_kind pick
 refused_wide pgns entry p k = sym (answer_refused pgns p k 8 [])
 
 -- of a frame by its identifier
-heard_is : (read : Read) (a : ArrivalById) → of_read read ≡ read_of a.id.0 → heard_from a (of_read read) ≡ heard_by_id a
+heard_is : (read : ResultOf CanIdParts CanIdReadError) (a : ArrivalById) → of_read read ≡ read_of a.id.0 → heard_from a (of_read read) ≡ heard_by_id a
 unfolding heard_by_id
 heard_is read a es = ap (heard_from a) es
 
-cut_is : (read : Read) (x : ArrivalByIdWithLength) → of_read read ≡ read_of x.arrival.id.0 → all_cut_to x.length (heard_from x.arrival (of_read read)) ≡ heard_by_id_with_length x
+cut_is : (read : ResultOf CanIdParts CanIdReadError) (x : ArrivalByIdWithLength) → of_read read ≡ read_of x.arrival.id.0 → all_cut_to x.length (heard_from x.arrival (of_read read)) ≡ heard_by_id_with_length x
 unfolding heard_by_id_with_length
 cut_is read x es = ap (all_cut_to x.length) (heard_is read x.arrival es)
 
-module _ (pgns : List ℕ) (p : Pool) (k : Counters) (read : Read) where
+module _ (pgns : List ℕ) (p : Pool) (k : Counters) (read : ResultOf CanIdParts CanIdReadError) where
   module _ (a : ArrivalById) (es : of_read read ≡ read_of a.id.0) where
-    pub id_wide : {r : Received} → read ≡ TooWide → r ≡ refused_as kind.TooWide p k → ReceivesById pgns a p k r
-    id_wide e h =
+    pub id_wide : (f : CanIdReadError) {r : Received} → read ≡ Err f → r ≡ refused_as kind.TooWide p k → ReceivesById pgns a p k r
+    id_wide TooWide e h =
         let wide : refuses 8 [] ≡ heard_by_id a = unfold heard_from in rw e at (heard_is read a es) in
         promised_as pgns Addressed p k (known_by_id a) wide (h ∙ refused_wide pgns Addressed p k)
 
-    pub id_parts : (parts : CanIdParts) (f : Heard) {r : Received} → read ≡ Parts parts → gives f ≡ heard_from a (gives parts) → r ≡ answer_to pgns (entered Addressed p (gives f)) p k → ReceivesById pgns a p k r
+    pub id_parts : (parts : CanIdParts) (f : Heard) {r : Received} → read ≡ Ok parts → gives f ≡ heard_from a (gives parts) → r ≡ answer_to pgns (entered Addressed p (gives f)) p k → ReceivesById pgns a p k r
     id_parts parts f e ef h = promised_as pgns Addressed p k (known_by_id a) (ef ∙ (rw e at (heard_is read a es))) h
 
   module _ (x : ArrivalByIdWithLength) (es : of_read read ≡ read_of x.arrival.id.0) where
-    pub id_wide_with_length : {r : Received} → read ≡ TooWide → r ≡ refused_as kind.TooWide p k → ReceivesByIdWithLength pgns x p k r
-    id_wide_with_length e h =
+    pub id_wide_with_length : (f : CanIdReadError) {r : Received} → read ≡ Err f → r ≡ refused_as kind.TooWide p k → ReceivesByIdWithLength pgns x p k r
+    id_wide_with_length TooWide e h =
         let wide : refuses 8 [] ≡ heard_by_id_with_length x = unfold heard_from all_cut_to in rw e at (cut_is read x es) in
         promised_as pgns Addressed p k (known_by_id_with_length x) wide (h ∙ refused_wide pgns Addressed p k)
 
-    pub id_parts_with_length : (parts : CanIdParts) (f : Heard) {r : Received} → read ≡ Parts parts → gives f ≡ all_cut_to x.length (heard_from x.arrival (gives parts)) → r ≡ answer_to pgns (entered Addressed p (gives f)) p k
+    pub id_parts_with_length : (parts : CanIdParts) (f : Heard) {r : Received} → read ≡ Ok parts → gives f ≡ all_cut_to x.length (heard_from x.arrival (gives parts)) → r ≡ answer_to pgns (entered Addressed p (gives f)) p k
         → ReceivesByIdWithLength pgns x p k r
     id_parts_with_length parts f e ef h = promised_as pgns Addressed p k (known_by_id_with_length x) (ef ∙ (rw e at (cut_is read x es))) h
 

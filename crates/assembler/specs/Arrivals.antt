@@ -1,9 +1,7 @@
 -- A frame that arrived, as the steps hear it: of the old kind with no destination, of the new one by what its identifier says.
-use Rattle.std.specs.Prelude.{ℕ, ◌+◌, min}
+use Rattle.std.specs.Prelude.{ℕ, ◌+◌, min, Option, Some, None}
 use Rattle.base.specs.Answer.{Answer, gives, refuses}
 use Rattle.can_id.specs.declared.CanIdParts.{CanIdParts}
-use Rattle.can_id.specs.declared.Destination.{Destination}
-use Rattle.can_id.specs.declared.Destination.TheVariants.{Nobody, To}
 use Rattle.can_id.specs.Read.{read_of}
 use Rattle.fast_packet.specs.FastPacket.{filled_from}
 use Rattle.session.specs.declared.Heard.{Heard}
@@ -27,9 +25,9 @@ heard_with_length x = cut_to x.length (heard_of x.arrival)
 -- ---- document 02, No. 12: "a pool kind that is handed the identifier"
 
 -- "a fourth part: the destination, or none for PF 240 and above"
-unfoldable pub part_of : Destination → ℕ
-part_of Nobody = 0
-part_of (To d) = d + 1
+unfoldable pub part_of : Option ℕ → ℕ
+part_of None = 0
+part_of (Some d) = d + 1
 
 -- source, PGN and destination are the identifier's; "8 comes first in the new kind"
 unfoldable pub heard_from : ArrivalById → Answer CanIdParts → Answer Heard

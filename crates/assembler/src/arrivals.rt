@@ -4,7 +4,7 @@ ghost use Rattle.base.specs.Answer.{gives};
 ghost use Rattle.assembler.specs.Arrivals.{heard_of, cut_to, heard_with_length, part_of, heard_from, all_cut_to};
 
 use crate::{Arrival, ArrivalById, ArrivalByIdWithLength, ArrivalWithLength};
-use can_id::{CanIdParts, Destination};
+use can_id::CanIdParts;
 use fast_packet::fill_short;
 use session::Heard;
 
@@ -57,12 +57,13 @@ pub(crate) fn heard_with_length(x: ArrivalWithLength) -> Heard
 
 // ---- by the identifier
 
-fn part_of(destination: Destination) -> u16
+#[tactic(auto, unfolding(crate::specs::Arrivals::part_of))]
+fn part_of(destination: Option<u8>) -> u16
     ensures { result ≡ part_of destination }
 {
     match destination {
-        Destination::Nobody => 0,
-        Destination::To(address) => (address as u16) + 1,
+        None => 0,
+        Some(address) => u16::from(address) + 1,
     }
 }
 

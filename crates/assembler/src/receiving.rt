@@ -9,7 +9,7 @@ ghost use Rattle.assembler.specs.inner.Forms.{refused_as};
 use crate::arrivals::{heard_from, heard_from_with_length, heard_of, heard_with_length};
 use crate::bytes::{deliver, deliver_short, store};
 use crate::{Arrival, ArrivalById, ArrivalByIdWithLength, ArrivalWithLength, Pool, Received};
-use can_id::Read;
+use can_id::CanIdReadError;
 use fast_packet::{MAX_FAST_PACKET_PAYLOAD, is_listed};
 use session::{
     Counters, Heard, Kind, POOL_LIMIT, PoolKind, count, decide, look, nothing_found, place_for,
@@ -122,13 +122,12 @@ pub fn receive_by_id(pool: Pool, counters: Counters, pgns: &[u32], arrival: Arri
     ensures { ReceivesById pgns.now arrival pool counters result }
 {
     let id = arrival.id;
-    let read = id.read();
-    match read {
-        Read::Parts(parts) => {
+    match id.read() {
+        Ok(parts) => {
             let heard = heard_from(arrival, parts);
             receive_at(PoolKind::Addressed, pool, counters, pgns, heard)
         }
-        Read::TooWide => refused(Kind::TooWide, pool, counters),
+        Err(CanIdReadError::TooWide) => refused(Kind::TooWide, pool, counters),
     }
 }
 
@@ -143,12 +142,11 @@ pub fn receive_by_id_with_length(
 {
     let arrival = x.arrival;
     let id = arrival.id;
-    let read = id.read();
-    match read {
-        Read::Parts(parts) => {
+    match id.read() {
+        Ok(parts) => {
             let heard = heard_from_with_length(x, parts);
             receive_at(PoolKind::Addressed, pool, counters, pgns, heard)
         }
-        Read::TooWide => refused(Kind::TooWide, pool, counters),
+        Err(CanIdReadError::TooWide) => refused(Kind::TooWide, pool, counters),
     }
 }

@@ -1,24 +1,27 @@
 // Building: refusals 2, 4, 5, 6 and 7.
 use crate::say;
-use builder::{FastPacketBuilder, NextKind};
-use can_id::{CanIdBuildError, Destination};
+use builder::FastPacketBuilder;
+use can_id::{CanFrame, CanIdBuildError};
 use std::io::{self, Write};
 
 fn show<W: Write>(out: &mut W, error: CanIdBuildError) -> io::Result<()> {
+    let number = u64::from(error.number());
     match error {
-        CanIdBuildError::InvalidData => say::refusal(out, 2),
-        CanIdBuildError::InvalidForBroadcast => say::refusal(out, 4),
-        CanIdBuildError::InvalidForFocusedMessage { pgn } => say::refusal_with(out, 5, pgn as u64),
-        CanIdBuildError::PsFocusMessageMustBeNull => say::refusal(out, 6),
-        CanIdBuildError::EmptyPayload => say::refusal(out, 7),
+        CanIdBuildError::InvalidForFocusedMessage { pgn } => {
+            say::refusal_with(out, number, u64::from(pgn))
+        }
+        _ => say::refusal(out, number),
     }
 }
 
-fn show_kind<W: Write>(out: &mut W, kind: NextKind) -> io::Result<()> {
-    match kind {
-        NextKind::Frame => say::text(out, b"a frame\n"),
-        NextKind::End => say::text(out, b"End\n"),
-        NextKind::Refused(error) => show(out, error),
+fn show_answer<W: Write>(
+    out: &mut W,
+    answer: Result<Option<CanFrame>, CanIdBuildError>,
+) -> io::Result<()> {
+    match answer {
+        Ok(Some(_)) => say::text(out, b"a frame\n"),
+        Ok(None) => say::text(out, b"End\n"),
+        Err(error) => show(out, error),
     }
 }
 
@@ -26,23 +29,20 @@ fn first_answer<W: Write>(
     out: &mut W,
     words: &[u8],
     pgn: u32,
-    destination: Destination,
+    destination: Option<u8>,
     payload: &[u8],
 ) -> io::Result<()> {
     say::text(out, words)?;
     let made = FastPacketBuilder::new(pgn, 35, destination, payload, &[127489], 0);
-    let b = made.builder;
-    let next = b.next_frame(0, 0, payload);
-    let kind = next.kind;
-    show_kind(out, kind)
+    show_answer(out, made.builder.next_frame(0, 0, payload).answer)
 }
 
 fn to_nobody<W: Write>(out: &mut W, words: &[u8], pgn: u32, payload: &[u8]) -> io::Result<()> {
-    first_answer(out, words, pgn, Destination::Nobody, payload)
+    first_answer(out, words, pgn, None, payload)
 }
 
 fn directed<W: Write>(out: &mut W, words: &[u8], pgn: u32, address: u8) -> io::Result<()> {
-    first_answer(out, words, pgn, Destination::To(address), b"1")
+    first_answer(out, words, pgn, Some(address), b"1")
 }
 
 fn identifiers<W: Write>(out: &mut W) -> io::Result<()> {

@@ -3,7 +3,7 @@
 use crate::bench_calls::{CLAIM, ENGINE, as_frames, show_checked, show_reassembled, show_split};
 use crate::frame_rows::{blank_row, row_of};
 use crate::say;
-use can_id::{CanId, CanIdParts, Read};
+use can_id::{CanId, CanIdParts};
 use oracle::{check_tx_first, check_tx_rows, reassemble_first, reassemble_rows};
 use splitter::{fast_packet_frames_into, fast_packet_rows};
 use std::io::{self, Write};
@@ -26,8 +26,8 @@ fn show_parts<W: Write>(out: &mut W, parts: CanIdParts) -> io::Result<()> {
 fn read<W: Write>(out: &mut W, words: &[u8], id: u32) -> io::Result<()> {
     say::text(out, words)?;
     match CanId(id).read() {
-        Read::Parts(parts) => show_parts(out, parts),
-        Read::TooWide => say::refusal(out, 8),
+        Ok(parts) => show_parts(out, parts),
+        Err(error) => say::refusal(out, u64::from(error.number())),
     }
 }
 

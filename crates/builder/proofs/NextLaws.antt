@@ -1,13 +1,10 @@
 -- What the next frame is in each case, by plain facts: `search (needs, framing)` finds the case. Assumes nothing.
-use Rattle.std.proofs.Common.{◌≡◌, ℕ, ◌+◌, ◌%◌, ◌<◌, ◌≤◌, Bool, true, false, not, ◌&&◌, ◌||◌, eqb, ltb, List, [], length, sym, refl, ◌∙◌, arith, ltb-false, ne_eqb, le-leb}
+use Rattle.std.proofs.Common.{◌≡◌, ℕ, ◌+◌, ◌%◌, ◌<◌, ◌≤◌, Bool, true, false, not, ◌&&◌, ◌||◌, eqb, ltb, List, [], Option, Result, Ok, Err, length, sym, refl, ◌∙◌, arith, ltb-false, ne_eqb, le-leb}
 use borrow.Author.Tests.{lt-leb}
 use Rattle.base.specs.Pick.{pick}
 use Rattle.can_id.specs.Build.{of_built, error_number, error_carries, build_of}
-use Rattle.can_id.specs.declared.Built.{Built}
-use Rattle.can_id.specs.declared.Built.TheVariants.{Id, Refused}
 use Rattle.can_id.specs.declared.CanId.{CanId}
 use Rattle.can_id.specs.declared.CanIdBuildError.{CanIdBuildError}
-use Rattle.can_id.specs.declared.Destination.{Destination}
 use Rattle.fast_packet.specs.FastPacket.{listed_in, max_payload}
 use Rattle.builder.specs.inner.Laid.{laid_of, laid_step}
 use Rattle.builder.specs.declared.frame_bytes.Laid.{Laid}
@@ -16,7 +13,7 @@ use Rattle.builder.specs.Next.{Step, end_step, refused_step, framed_step, built_
 use Rattle.builder.specs.declared.FastPacketBuilder.{FastPacketBuilder}
 
 -- ---- a new builder, as the code comes by its framing
-pub made_with : (pgn source : ℕ) (to : Destination) (p l : List ℕ) (held : ℕ) (t : Bool) → t ≡ listed_in pgn l
+pub made_with : (pgn source : ℕ) (to : Option ℕ) (p l : List ℕ) (held : ℕ) (t : Bool) → t ≡ listed_in pgn l
     → record {
       builder = record { pgn = pgn; source_address = source; destination = to; priority = 6; sequence_id = held % 8; fast = t || ltb 8 (length p) };
       sequence_id = (held % 8 + 1) % 8;
@@ -88,15 +85,15 @@ module _ (b : FastPacketBuilder) (index sent : ℕ) (p : List ℕ) {x : Step} wh
   unfolding next_of pick
   next_end h k e = e ∙ over (eqb (length p) 0) (eqb index 0) _ _ _ h (simp (le-leb (length p) sent k))
 
-module _ (b : FastPacketBuilder) (index sent : ℕ) (p : List ℕ) (k : sent < length p) (r : Built) (a : of_built r ≡ build_of (id_builder b)) where
+module _ (b : FastPacketBuilder) (index sent : ℕ) (p : List ℕ) (k : sent < length p) (r : Result CanId CanIdBuildError) (a : of_built r ≡ build_of (id_builder b)) where
   built : next_of b index sent p ≡ built_step (of_built r) b index sent p
   unfolding next_of pick
   built =
       let z : length p ≡ 0 → ⊥ = λ h. omega arith in
       simp (ne_eqb (length p) 0 z, lt-leb (length p) sent k, ← a)
 
-  pub next_framed : {x : Step} (i : CanId) → r ≡ Id i → x ≡ framed_step i.0 b index sent p → x ≡ next_of b index sent p
+  pub next_framed : {x : Step} (i : CanId) → r ≡ Ok i → x ≡ framed_step i.0 b index sent p → x ≡ next_of b index sent p
   next_framed i q e = e ∙ rw (built, q)
 
-  pub next_refused : {x : Step} (f : CanIdBuildError) → r ≡ Refused f → x ≡ refused_step (error_number f) (error_carries f) index (length p) → x ≡ next_of b index sent p
+  pub next_refused : {x : Step} (f : CanIdBuildError) → r ≡ Err f → x ≡ refused_step (error_number f) (error_carries f) index (length p) → x ≡ next_of b index sent p
   next_refused f q e = e ∙ rw (built, q)

@@ -1,8 +1,6 @@
 -- The builder of a message's frames: a new one, with the number that the caller holds then, and its setters.
-use Rattle.std.specs.Prelude.{ℕ, ◌+◌, ◌%◌, Bool, ◌||◌, List, length, nat_lt}
+use Rattle.std.specs.Prelude.{ℕ, ◌+◌, ◌%◌, Bool, ◌||◌, List, Option, Some, length, nat_lt}
 use Rattle.can_id.specs.declared.CanIdBuilder.{CanIdBuilder}
-use Rattle.can_id.specs.declared.Destination.{Destination}
-use Rattle.can_id.specs.declared.Destination.TheVariants.{To}
 use Rattle.fast_packet.specs.FastPacket.{listed_in}
 use Rattle.builder.specs.declared.FastPacketBuilder.{FastPacketBuilder}
 use Rattle.builder.specs.declared.MadeBuilder.{MadeBuilder}
@@ -13,7 +11,7 @@ fast_of pgn pgns len = listed_in pgn pgns || nat_lt 8 len
 
 -- "A new builder takes the number the caller holds, uses it modulo 8 as its sequence, and hands back that plus 1 modulo 8.
 -- One number is spent on every builder, also for a single frame, a refusal to come, or an override. Priority starts at 6."
-abbrev pub new_builder : ℕ → ℕ → Destination → List ℕ → List ℕ → ℕ → MadeBuilder
+abbrev pub new_builder : ℕ → ℕ → Option ℕ → List ℕ → List ℕ → ℕ → MadeBuilder
 new_builder pgn source destination payload pgns held =
     record {
       builder =
@@ -56,7 +54,7 @@ with_destination b d =
     record {
       pgn = b.pgn;
       source_address = b.source_address;
-      destination = To d;
+      destination = Some d;
       priority = b.priority;
       sequence_id = b.sequence_id;
       fast = b.fast;

@@ -1,6 +1,6 @@
 -- The iterator over a message's frames: document 01, "`FrameIterator`: index and bytes sent by value, payload beside."
 use Rattle.std.specs.Prelude.{ℕ, List}
-use Rattle.builder.specs.Next.{Step, of_next_kind, next_of}
+use Rattle.builder.specs.Next.{Step, of_answer, frame_in, next_of}
 use Rattle.builder.specs.declared.FastPacketBuilder.{FastPacketBuilder}
 use Rattle.builder.specs.declared.FrameIterator.{FrameIterator}
 use Rattle.builder.specs.declared.Item.{Item}
@@ -16,8 +16,8 @@ turn_of r =
       builder = r.iterator.builder;
       answer =
           record {
-            kind = of_next_kind r.kind;
-            sent = r.frame;
+            kind = of_answer r.answer;
+            sent = frame_in r.answer;
             index = r.iterator.frame_index;
             bytes = r.iterator.bytes_sent;
           };

@@ -1,15 +1,14 @@
 -- The next frame: "depends on the builder, frame index and bytes sent, and is fixed for every value of those". Steps 1 to 6 of document 01.
-use Rattle.std.specs.Prelude.{ℕ, List, [], length, replicate, ◌==◌, nat_le, nat_lt}
+use Rattle.std.specs.Prelude.{ℕ, List, [], Option, Some, None, Result, Ok, Err, length, replicate, ◌==◌, nat_le, nat_lt}
 use Rattle.base.specs.Pick.{pick}
 use Rattle.base.specs.Answer.{Answer, gives, refuses}
 use Rattle.can_id.specs.Build.{error_number, error_carries, build_of}
 use Rattle.can_id.specs.declared.CanFrame.{CanFrame}
+use Rattle.can_id.specs.declared.CanIdBuildError.{CanIdBuildError}
 use Rattle.fast_packet.specs.FastPacket.{max_payload}
 use Rattle.builder.specs.FrameBytes.{raw_frame_bytes, first_frame_bytes, later_frame_bytes, sent_by_first, sent_by_later, index_after}
 use Rattle.builder.specs.Builder.{id_builder}
 use Rattle.builder.specs.declared.FastPacketBuilder.{FastPacketBuilder}
-use Rattle.builder.specs.declared.NextKind.{NextKind}
-use Rattle.builder.specs.declared.NextKind.TheVariants.{Frame, End, Refused}
 use Rattle.builder.specs.declared.Next.{Next}
 
 -- ---- an answer in document 01's words and numbers: a frame, End, or a refusal by its number with what it carries
@@ -25,15 +24,11 @@ pub record Step : Type 0 where
   pub index : ℕ
   pub bytes : ℕ
 
-abbrev pub of_next_kind : NextKind → NextAnswer
-of_next_kind Frame = frame
-of_next_kind End = end
-of_next_kind (Refused e) = refusal (error_number e) (error_carries e)
+abbrev pub of_answer : Result (Option CanFrame) CanIdBuildError → NextAnswer
+of_answer (Ok (Some f)) = frame
+of_answer (Ok None) = end
+of_answer (Err e) = refusal (error_number e) (error_carries e)
 
-abbrev pub of_next : Next → Step
-of_next r = record { kind = of_next_kind r.kind; sent = r.frame; index = r.frame_index; bytes = r.bytes_sent }
-
--- ---- the three answers
 abbrev pub frame_of : ℕ → List ℕ → ℕ → CanFrame
 frame_of id bytes len = record { id = record { 0 = id }; «data» = bytes; len = len }
 
@@ -41,6 +36,15 @@ frame_of id bytes len = record { id = record { 0 = id }; «data» = bytes; len =
 abbrev pub no_frame : CanFrame
 no_frame = frame_of 0 (replicate 8 0) 0
 
+abbrev pub frame_in : Result (Option CanFrame) CanIdBuildError → CanFrame
+frame_in (Ok (Some f)) = f
+frame_in (Ok None) = no_frame
+frame_in (Err e) = no_frame
+
+abbrev pub of_next : Next → Step
+of_next r = record { kind = of_answer r.answer; sent = frame_in r.answer; index = r.frame_index; bytes = r.bytes_sent }
+
+-- ---- the three answers
 abbrev pub sent_step : CanFrame → ℕ → ℕ → Step
 sent_step f index bytes = record { kind = frame; sent = f; index = index; bytes = bytes }
 

@@ -4,24 +4,23 @@
 ghost use Rattle.std.specs.Prelude.{◌≡◌};
 ghost use Rattle.can_id.specs.Build.{of_built, build_of, error_number, error_carries};
 ghost use Rattle.builder.specs.Builder.{new_builder, with_sequence, with_priority, with_destination, id_builder};
-ghost use Rattle.builder.specs.Next.{no_frame, of_next, next_of, end_step, refused_step, framed_step};
-ghost use Rattle.builder.specs.inner.Laid.{laid_step};
+ghost use Rattle.builder.specs.Next.{of_next, next_of, refused_step, framed_step};
 ghost use Rattle.builder.specs.Frames.{started, turn_of, next_turn};
 
 mod frame_bytes;
 
 use crate::frame_bytes::{Laid, lay_frame};
-use can_id::{Built, CanFrame, CanId, CanIdBuildError, CanIdBuilder, Destination};
-use fast_packet::MAX_FAST_PACKET_PAYLOAD;
+use can_id::{CanFrame, CanId, CanIdBuildError, CanIdBuilder};
+use fast_packet::{MAX_FAST_PACKET_PAYLOAD, is_listed};
 
 // ---- what goes in and what comes out
 
 // What all frames of one message share. The payload travels beside it.
-#[derive(Clone, Copy)]
+#[derive(Debug, Clone, Copy, PartialEq, Eq)]
 pub struct FastPacketBuilder {
     pub pgn: u32,
     pub source_address: u8,
-    pub destination: Destination,
+    pub destination: Option<u8>,
     pub priority: u8,
     pub sequence_id: u8,
     // Fast Packet framing: any listed PGN, or a payload over 8 bytes.
@@ -29,77 +28,28 @@ pub struct FastPacketBuilder {
 }
 
 // A builder, and the number that the caller holds from now on.
-#[derive(Clone, Copy)]
+#[derive(Debug, Clone, Copy, PartialEq, Eq)]
 pub struct MadeBuilder {
     pub builder: FastPacketBuilder,
     pub sequence_id: u8,
 }
 
-// What asking for the next frame found.
-#[derive(Clone, Copy)]
-pub enum NextKind {
-    Frame,
-    End,
-    Refused(CanIdBuildError),
-}
-
-// The answer, with the frame index and the bytes sent that the next question takes. Without a frame there are zeros in its place.
-#[derive(Clone, Copy)]
+// The answer, with the frame index and the bytes sent that the next question takes: a frame, or none once all were sent, or why none can be built.
+#[derive(Debug, Clone, Copy, PartialEq, Eq)]
 pub struct Next {
-    pub kind: NextKind,
-    pub frame: CanFrame,
+    pub answer: Result<Option<CanFrame>, CanIdBuildError>,
     pub frame_index: u8,
     pub bytes_sent: usize,
 }
 
-// Zeros in a frame's place.
-fn no_frame() -> CanFrame
-    ensures { result ≡ no_frame }
-{
-    CanFrame {
-        id: CanId(0),
-        data: [0; 8],
-        len: 0,
-    }
-}
-
 impl Next {
-    fn sent(id: CanId, laid: Laid) -> Self
-        ensures { of_next result ≡ laid_step id.0 laid }
-    {
-        let data = laid.data;
-        let frame = CanFrame {
-            id: id,
-            data: data,
-            len: laid.len,
-        };
-        Next {
-            kind: NextKind::Frame,
-            frame: frame,
-            frame_index: laid.frame_index,
-            bytes_sent: laid.bytes_sent,
-        }
-    }
-
-    fn end(frame_index: u8, bytes_sent: usize) -> Self
-        ensures { of_next result ≡ end_step frame_index bytes_sent }
-    {
-        Next {
-            kind: NextKind::End,
-            frame: no_frame(),
-            frame_index: frame_index,
-            bytes_sent: bytes_sent,
-        }
-    }
-
     fn refused(error: CanIdBuildError, frame_index: u8, bytes_sent: usize) -> Self
         ensures { of_next result ≡ refused_step (error_number error) (error_carries error) frame_index bytes_sent }
     {
         Next {
-            kind: NextKind::Refused(error),
-            frame: no_frame(),
-            frame_index: frame_index,
-            bytes_sent: bytes_sent,
+            answer: Err(error),
+            frame_index,
+            bytes_sent,
         }
     }
 }
@@ -111,24 +61,23 @@ impl FastPacketBuilder {
     pub fn new(
         pgn: u32,
         source_address: u8,
-        destination: Destination,
+        destination: Option<u8>,
         payload: &[u8],
         pgns: &[u32],
         sequence_id: u8,
     ) -> MadeBuilder
         ensures { result ≡ new_builder pgn source_address destination payload.now pgns.now sequence_id }
     {
-        let listed = fast_packet::is_listed(pgns, pgn);
         let builder = FastPacketBuilder {
-            pgn: pgn,
-            source_address: source_address,
-            destination: destination,
+            pgn,
+            source_address,
+            destination,
             priority: CanId::DEFAULT_PRIORITY,
             sequence_id: sequence_id % 8,
-            fast: listed | (payload.len() > 8),
+            fast: is_listed(pgns, pgn) || payload.len() > 8,
         };
         MadeBuilder {
-            builder: builder,
+            builder,
             sequence_id: (sequence_id % 8 + 1) % 8,
         }
     }
@@ -153,33 +102,25 @@ impl FastPacketBuilder {
     pub fn to_destination(mut self, destination_address: u8) -> Self
         ensures { result ≡ with_destination self destination_address }
     {
-        let next = Self {
-            pgn: self.pgn,
-            source_address: self.source_address,
-            destination: Destination::To(destination_address),
-            priority: self.priority,
-            sequence_id: self.sequence_id,
-            fast: self.fast,
-        };
-        self = next;
+        self.destination = Some(destination_address);
         self
     }
 
     // The identifier of the message's frames.
-    fn identifier(self) -> Built
+    fn identifier(self) -> Result<CanId, CanIdBuildError>
         ensures { of_built result ≡ build_of (id_builder self) }
     {
-        let destination = self.destination;
         let id_builder = CanIdBuilder {
             priority: self.priority % 8,
             pgn: self.pgn,
             source_address: self.source_address,
-            destination: destination,
+            destination: self.destination,
         };
         id_builder.build()
     }
 
     // The frame, with the identifier.
+    #[tactic(auto, using(crate::proofs::NextLaws::framed_refused, crate::proofs::NextLaws::framed_sent))]
     fn framed(self, id: CanId, frame_index: u8, bytes_sent: usize, payload: &[u8]) -> Next
         ensures { of_next result ≡ framed_step id.0 self frame_index bytes_sent payload.now }
     {
@@ -187,17 +128,27 @@ impl FastPacketBuilder {
         if (total_len > MAX_FAST_PACKET_PAYLOAD) | (!self.fast & (total_len > 8)) {
             return Next::refused(CanIdBuildError::InvalidData, frame_index, total_len);
         }
-        let laid = lay_frame(
+        let Laid {
+            data,
+            len,
+            frame_index,
+            bytes_sent,
+        } = lay_frame(
             self.fast,
             self.sequence_id,
             frame_index,
             bytes_sent,
             payload,
         );
-        Next::sent(id, laid)
+        Next {
+            answer: Ok(Some(CanFrame { id, data, len })),
+            frame_index,
+            bytes_sent,
+        }
     }
 
     // The next frame of a message with this payload, at a frame index and after some bytes sent.
+    #[tactic(auto, using(crate::proofs::NextLaws::next_empty, crate::proofs::NextLaws::next_end, crate::proofs::NextLaws::next_framed))]
     pub fn next_frame(self, frame_index: u8, bytes_sent: usize, payload: &[u8]) -> Next
         ensures { of_next result ≡ next_of self frame_index bytes_sent payload.now }
     {
@@ -207,12 +158,15 @@ impl FastPacketBuilder {
             return Next::refused(CanIdBuildError::EmptyPayload, 1, bytes_sent);
         }
         if bytes_sent >= total_len {
-            return Next::end(frame_index, bytes_sent);
+            return Next {
+                answer: Ok(None),
+                frame_index,
+                bytes_sent,
+            };
         }
-        let built = self.identifier();
-        match built {
-            Built::Id(id) => return self.framed(id, frame_index, bytes_sent, payload),
-            Built::Refused(error) => return Next::refused(error, frame_index, total_len),
+        match self.identifier() {
+            Ok(id) => self.framed(id, frame_index, bytes_sent, payload),
+            Err(error) => Next::refused(error, frame_index, total_len),
         }
     }
 
@@ -231,7 +185,7 @@ impl FastPacketBuilder {
 // ---- frame by frame, as a caller of the original writes it
 
 // Where the frames of a message have got to. It goes in by value, and comes back with the frame.
-#[derive(Clone, Copy)]
+#[derive(Debug, Clone, Copy, PartialEq, Eq)]
 pub struct FrameIterator {
     pub builder: FastPacketBuilder,
     pub frame_index: u8,
@@ -239,11 +193,10 @@ pub struct FrameIterator {
 }
 
 // An answer, and the iterator for the next question.
-#[derive(Clone, Copy)]
+#[derive(Debug, Clone, Copy, PartialEq, Eq)]
 pub struct Item {
     pub iterator: FrameIterator,
-    pub kind: NextKind,
-    pub frame: CanFrame,
+    pub answer: Result<Option<CanFrame>, CanIdBuildError>,
 }
 
 impl FrameIterator {
@@ -251,16 +204,14 @@ impl FrameIterator {
     pub fn next(mut self, payload: &[u8]) -> Item
         ensures { turn_of result ≡ next_turn self payload.now }
     {
-        let builder = self.builder;
-        let next = builder.next_frame(self.frame_index, self.bytes_sent, payload);
+        let next = self
+            .builder
+            .next_frame(self.frame_index, self.bytes_sent, payload);
         self.frame_index = next.frame_index;
         self.bytes_sent = next.bytes_sent;
-        let kind = next.kind;
-        let frame = next.frame;
         Item {
             iterator: self,
-            kind: kind,
-            frame: frame,
+            answer: next.answer,
         }
     }
 }

@@ -9,8 +9,8 @@
 // step 5 of document 01, by hand.
 #![tactic(auto)]
 
-use builder::{FastPacketBuilder, FrameIterator, NextKind};
-use can_id::{CanFrame, CanIdBuildError, Destination};
+use builder::{FastPacketBuilder, FrameIterator};
+use can_id::{CanFrame, CanId, CanIdBuildError};
 use fast_packet::MAX_FAST_PACKET_PAYLOAD;
 use std::io::{self, BufWriter, Write};
 
@@ -38,24 +38,38 @@ fn say_bytes<W: Write>(out: &mut W, data: [u8; 8]) -> io::Result<()> {
     Ok(())
 }
 
-fn say_kind<W: Write>(out: &mut W, kind: NextKind) -> io::Result<()> {
-    match kind {
-        NextKind::Frame => say(out, b"frame"),
-        NextKind::End => say(out, b"End"),
-        NextKind::Refused(error) => say_refusal(out, error),
+fn say_kind<W: Write>(
+    out: &mut W,
+    answer: Result<Option<CanFrame>, CanIdBuildError>,
+) -> io::Result<()> {
+    match answer {
+        Ok(Some(_)) => say(out, b"frame"),
+        Ok(None) => say(out, b"End"),
+        Err(error) => say_refusal(out, error),
     }
 }
 
 fn say_refusal<W: Write>(out: &mut W, error: CanIdBuildError) -> io::Result<()> {
+    say(out, b"refusal ")?;
+    say_number(out, usize::from(error.number()))?;
     match error {
-        CanIdBuildError::InvalidData => say(out, b"refusal 2"),
-        CanIdBuildError::InvalidForBroadcast => say(out, b"refusal 4"),
         CanIdBuildError::InvalidForFocusedMessage { pgn } => {
-            say(out, b"refusal 5, ")?;
-            say_number(out, pgn as usize)
+            say(out, b", ")?;
+            say_number(out, usize::from(pgn))
         }
-        CanIdBuildError::PsFocusMessageMustBeNull => say(out, b"refusal 6"),
-        CanIdBuildError::EmptyPayload => say(out, b"refusal 7"),
+        _ => Ok(()),
+    }
+}
+
+// Zeros where there is no frame.
+fn frame_in(answer: Result<Option<CanFrame>, CanIdBuildError>) -> CanFrame {
+    match answer {
+        Ok(Some(frame)) => frame,
+        _ => CanFrame {
+            id: CanId(0),
+            data: [0; 8],
+            len: 0,
+        },
     }
 }
 
@@ -71,14 +85,13 @@ fn say_frame<W: Write>(out: &mut W, frame: CanFrame) -> io::Result<()> {
 
 fn say_answer<W: Write>(
     out: &mut W,
-    kind: NextKind,
-    frame: CanFrame,
+    answer: Result<Option<CanFrame>, CanIdBuildError>,
     frame_index: u8,
     bytes_sent: usize,
 ) -> io::Result<()> {
-    say_kind(out, kind)?;
+    say_kind(out, answer)?;
     say(out, b": ")?;
-    say_frame(out, frame)?;
+    say_frame(out, frame_in(answer))?;
     say(out, b", then index ")?;
     say_number(out, frame_index as usize)?;
     say(out, b", sent ")?;
@@ -87,11 +100,10 @@ fn say_answer<W: Write>(
 }
 
 // Whether another answer follows that is worth writing.
-fn goes_on(kind: NextKind) -> bool {
-    match kind {
-        NextKind::Frame => true,
-        NextKind::End => false,
-        NextKind::Refused(_) => true,
+fn goes_on(answer: Result<Option<CanFrame>, CanIdBuildError>) -> bool {
+    match answer {
+        Ok(None) => false,
+        _ => true,
     }
 }
 
@@ -111,10 +123,8 @@ fn walk<W: Write>(out: &mut W, started: FrameIterator, payload: &[u8]) -> io::Re
     for turn in 0usize..40 {
         let item = frames.next(payload);
         frames = item.iterator;
-        let kind = item.kind;
-        let frame = item.frame;
-        say_answer(out, kind, frame, frames.frame_index, frames.bytes_sent)?;
-        if !goes_on(kind) {
+        say_answer(out, item.answer, frames.frame_index, frames.bytes_sent)?;
+        if !goes_on(item.answer) {
             return Ok(());
         }
     }
@@ -126,7 +136,7 @@ fn message<W: Write>(
     out: &mut W,
     title: &[u8],
     pgn: u32,
-    destination: Destination,
+    destination: Option<u8>,
     bytes: &[u8],
     len: usize,
     sequence_id: u8,
@@ -162,9 +172,7 @@ fn at<W: Write>(
     say(out, title)?;
     say(out, b"\n")?;
     let next = builder.next_frame(frame_index, bytes_sent, first(bytes, len));
-    let kind = next.kind;
-    let frame = next.frame;
-    say_answer(out, kind, frame, next.frame_index, next.bytes_sent)
+    say_answer(out, next.answer, next.frame_index, next.bytes_sent)
 }
 
 // The bytes 0, 1, 2 and so on.
@@ -179,7 +187,7 @@ fn counting() -> [u8; TOO_MANY] {
 // ---- the values
 
 fn messages<W: Write>(out: &mut W, bytes: &[u8]) -> io::Result<()> {
-    let nobody = Destination::Nobody;
+    let nobody = None;
     message(
         out,
         b"P8: listed, number 2, 01 02 03",
@@ -211,27 +219,11 @@ fn messages<W: Write>(out: &mut W, bytes: &[u8]) -> io::Result<()> {
 }
 
 fn refusals<W: Write>(out: &mut W, bytes: &[u8]) -> io::Result<()> {
-    let nobody = Destination::Nobody;
+    let nobody = None;
     message(out, b"empty payload", 127489, nobody, bytes, 0, 3)?;
     message(out, b"60928 to nobody", 60928, nobody, bytes, 8, 4)?;
-    message(
-        out,
-        b"127489 to 16",
-        127489,
-        Destination::To(16),
-        bytes,
-        9,
-        5,
-    )?;
-    message(
-        out,
-        b"60929 to 255",
-        60929,
-        Destination::To(255),
-        bytes,
-        8,
-        6,
-    )?;
+    message(out, b"127489 to 16", 127489, Some(16), bytes, 9, 5)?;
+    message(out, b"60929 to 255", 60929, Some(255), bytes, 8, 6)?;
     message(out, b"PGN 0x40000", 0x4_0000, nobody, bytes, 7, 8)?;
     message(out, b"224 bytes", 127489, nobody, bytes, TOO_MANY, 255)
 }
@@ -239,7 +231,7 @@ fn refusals<W: Write>(out: &mut W, bytes: &[u8]) -> io::Result<()> {
 // A sequence and a priority, of which three bits are kept, and a destination.
 fn setters<W: Write>(out: &mut W, bytes: &[u8]) -> io::Result<()> {
     let payload = first(bytes, 20);
-    let made = FastPacketBuilder::new(126208, 35, Destination::Nobody, payload, &[126208], 0);
+    let made = FastPacketBuilder::new(126208, 35, None, payload, &[126208], 0);
     let builder = made.builder;
     let set = builder
         .with_sequence_id(13)
@@ -254,7 +246,7 @@ fn steps<W: Write>(out: &mut W, bytes: &[u8]) -> io::Result<()> {
     let fast = FastPacketBuilder {
         pgn: 127489,
         source_address: 35,
-        destination: Destination::Nobody,
+        destination: None,
         priority: 6,
         sequence_id: 5,
         fast: true,
@@ -262,7 +254,7 @@ fn steps<W: Write>(out: &mut W, bytes: &[u8]) -> io::Result<()> {
     let raw = FastPacketBuilder {
         pgn: 127245,
         source_address: 35,
-        destination: Destination::Nobody,
+        destination: None,
         priority: 6,
         sequence_id: 0,
         fast: false,

@@ -1,11 +1,13 @@
--- The PGN of an identifier on both sides of PF 240: reserved bit, data page, PF and PS stand side by side. Assumes nothing.
+-- The PGN and the destination of an identifier on both sides of PF 240: reserved bit, data page, PF and PS stand side by side. Assumes nothing.
 use Prim.Native.Nat.{ℕ, ◌+◌, ◌*◌, ◌/◌, ◌%◌, ◌<◌, ◌≤◌}
-use mathlib.Core.Path.{◌≡◌, ◌∙◌}
+use mathlib.Core.Path.{◌≡◌, refl, ◌∙◌}
 use native.Mathlib.Nat.{div-add-mod', div-div-eq-div-mul}
 use native.Mathlib.Omega.{arith}
 use borrow.Author.Tests.{lt-ltb, le-ltb}
+use Rattle.std.proofs.Common.{Some, None}
 use Rattle.base.specs.Pick.{pick}
-use Rattle.can_id.specs.Layout.{reserved_of, data_page_of, pf_of, ps_of, pgn_of}
+use Rattle.base.proofs.Cases.{when_lt, when_ge}
+use Rattle.can_id.specs.Layout.{reserved_of, data_page_of, pf_of, ps_of, pgn_of, destination_of}
 
 -- the quotient by `a` has the quotient by `a * b` above its last digit
 pub digit : (x a b : ℕ) → x / (a * b) * b + x / a % b ≡ x / a
@@ -34,3 +36,11 @@ module _ (id : ℕ) where
   pgn_broadcast h =
       simp (le-ltb _ _ h)
       (more _ (id / 0x1_0000) _ (ps_of id) (omega arith) (digit id 256 256) upper ∙ omega arith)
+
+  pub destination_addressed : pf_of id < 240 → Some (ps_of id) ≡ destination_of id
+  unfolding destination_of
+  destination_addressed h = when_lt _ _ h refl
+
+  pub destination_broadcast : 240 ≤ pf_of id → None ≡ destination_of id
+  unfolding destination_of
+  destination_broadcast h = when_ge _ _ h refl

@@ -1,8 +1,6 @@
 -- The 29-bit identifier of SAE J1939-21. "Bits from the top of 29: priority 3, reserved 1, data page 1, PF 8, PS 8, source 8."
-use Rattle.std.specs.Prelude.{ℕ, ◌+◌, ◌*◌, ◌/◌, ◌%◌, ltb}
+use Rattle.std.specs.Prelude.{ℕ, ◌+◌, ◌*◌, ◌/◌, ◌%◌, Option, Some, None, ltb}
 use Rattle.base.specs.Pick.{pick}
-use Rattle.can_id.specs.declared.Destination.{Destination}
-use Rattle.can_id.specs.declared.Destination.TheVariants.{Nobody, To}
 
 -- ---- the fields of any number; which numbers are read at all is said in Read.antt
 abbrev pub priority_of : ℕ → ℕ
@@ -40,5 +38,5 @@ pgn_from reserved page pf low = reserved * 0x2_0000 + page * 0x1_0000 + pf * 256
 unfoldable pub pgn_of : ℕ → ℕ
 pgn_of id = pgn_from (reserved_of id) (data_page_of id) (pf_of id) (pick (ltb (pf_of id) 240) 0 (ps_of id))
 
-unfoldable pub destination_of : ℕ → Destination
-destination_of id = pick (ltb (pf_of id) 240) (To (ps_of id)) Nobody
+unfoldable pub destination_of : ℕ → Option ℕ
+destination_of id = pick (ltb (pf_of id) 240) (Some (ps_of id)) None

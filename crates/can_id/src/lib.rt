@@ -3,37 +3,40 @@
 
 ghost use Rattle.std.specs.Prelude.{◌≡◌, ◌<◌};
 ghost use Rattle.can_id.specs.Layout.{priority_of, pgn_of, destination_of, source_of};
-ghost use Rattle.can_id.specs.Read.{of_read, read_of};
-ghost use Rattle.can_id.specs.Build.{of_built, build_of, new_id_builder, id_with_priority, id_with_destination, id_with};
+ghost use Rattle.can_id.specs.Read.{read_number, of_read, read_of};
+ghost use Rattle.can_id.specs.Build.{error_number, of_built, build_of, new_id_builder, id_with_priority, id_with_destination, id_with};
 
 // ---- the identifier
 
 // An extended CAN identifier: 29 bits. A driver may have left flags in the three above, so `read` refuses a number that has any of them.
-#[derive(Clone, Copy)]
+#[derive(Debug, Clone, Copy, PartialEq, Eq)]
 pub struct CanId(pub u32);
 
-// The address that a message is sent to. A PGN with PF 240 or above goes to nobody in particular.
-#[derive(Clone, Copy)]
-pub enum Destination {
-    Nobody,
-    To(u8),
-}
-
-// What an identifier says.
-#[derive(Clone, Copy)]
+// What an identifier says. A PGN with PF 240 or above goes to nobody in particular, and then there is no destination.
+#[derive(Debug, Clone, Copy, PartialEq, Eq)]
 pub struct CanIdParts {
     pub priority: u8,
     pub pgn: u32,
     pub source_address: u8,
-    pub destination: Destination,
+    pub destination: Option<u8>,
 }
 
-// What reading gives.
-#[derive(Clone, Copy)]
-pub enum Read {
-    Parts(CanIdParts),
+// Why a number is not read.
+#[derive(Debug, Clone, Copy, PartialEq, Eq)]
+pub enum CanIdReadError {
     // The number is 2^29 or more: it is no identifier.
     TooWide,
+}
+
+impl CanIdReadError {
+    // The refusal's number.
+    pub fn number(self) -> u8
+        ensures { result ≡ read_number self }
+    {
+        match self {
+            CanIdReadError::TooWide => 8,
+        }
+    }
 }
 
 // The first number that 29 bits do not hold.
@@ -57,21 +60,18 @@ impl CanId {
     }
 
     // What the identifier says, or that it is too wide to say anything.
-    pub fn read(self) -> Read
+    #[tactic(auto, using(crate::proofs::ReadLaws::read_wide, crate::proofs::ReadLaws::read_parts))]
+    pub fn read(self) -> Result<CanIdParts, CanIdReadError>
         ensures { of_read result ≡ read_of self.0 }
     {
         if TOO_WIDE <= self.0 {
-            return Read::TooWide;
+            return Err(CanIdReadError::TooWide);
         }
-        let priority = self.priority();
-        let pgn = self.pgn();
-        let source_address = self.source_address();
-        let destination = self.destination();
-        Read::Parts(CanIdParts {
-            priority,
-            pgn,
-            source_address,
-            destination,
+        Ok(CanIdParts {
+            priority: self.priority(),
+            pgn: self.pgn(),
+            source_address: self.source_address(),
+            destination: self.destination(),
         })
     }
 
@@ -81,8 +81,7 @@ impl CanId {
     fn priority(self) -> u8
         ensures { result ≡ priority_of self.0 }
     {
-        let id = self.0;
-        ((id >> 26) % 8) as u8
+        ((self.0 >> 26) % 8) as u8
     }
 
     // The 18-bit PGN. With PF below 240 its low byte is 0, since PS is then the destination. Its fields stand side by side in the identifier,
@@ -91,39 +90,38 @@ impl CanId {
     fn pgn(self) -> u32
         ensures { result ≡ pgn_of self.0 }
     {
-        let id = self.0;
-        if (id >> 16) % 0x100 < 240 {
-            return (id >> 16) % 0x400 * 0x100;
+        if (self.0 >> 16) % 0x100 < 240 {
+            (self.0 >> 16) % 0x400 * 0x100
+        } else {
+            (self.0 >> 8) % 0x4_0000
         }
-        (id >> 8) % 0x4_0000
     }
 
     // The destination address, where the PGN has one.
-    fn destination(self) -> Destination
+    #[tactic(auto, using(crate::proofs::LayoutLaws::destination_addressed, crate::proofs::LayoutLaws::destination_broadcast))]
+    fn destination(self) -> Option<u8>
         ensures { result ≡ destination_of self.0 }
     {
-        let id = self.0;
-        let pf = (id >> 16) % 0x100;
+        let pf = (self.0 >> 16) % 0x100;
         if pf < 240 {
-            let ps = ((id >> 8) % 0x100) as u8;
-            return Destination::To(ps);
+            Some(((self.0 >> 8) % 0x100) as u8)
+        } else {
+            None
         }
-        Destination::Nobody
     }
 
     // The address of the sender.
     fn source_address(self) -> u8
         ensures { result ≡ source_of self.0 }
     {
-        let id = self.0;
-        (id % 0x100) as u8
+        (self.0 % 0x100) as u8
     }
 }
 
 // ---- the frame
 
 // A frame of the bus: `len` (0 to 8) of its eight bytes are valid.
-#[derive(Clone, Copy)]
+#[derive(Debug, Clone, Copy, PartialEq, Eq)]
 pub struct CanFrame {
     pub id: CanId,
     pub data: [u8; 8],
@@ -133,7 +131,7 @@ pub struct CanFrame {
 // ---- building an identifier
 
 // Why no identifier, or no frame, is built.
-#[derive(Clone, Copy)]
+#[derive(Debug, Clone, Copy, PartialEq, Eq)]
 pub enum CanIdBuildError {
     // The parameters make no identifier, or the payload no message.
     InvalidData,
@@ -147,20 +145,28 @@ pub enum CanIdBuildError {
     EmptyPayload,
 }
 
-// What building gives.
-#[derive(Clone, Copy)]
-pub enum Built {
-    Id(CanId),
-    Refused(CanIdBuildError),
+impl CanIdBuildError {
+    // The refusal's number.
+    pub fn number(self) -> u8
+        ensures { result ≡ error_number self }
+    {
+        match self {
+            CanIdBuildError::InvalidData => 2,
+            CanIdBuildError::InvalidForBroadcast => 4,
+            CanIdBuildError::InvalidForFocusedMessage { .. } => 5,
+            CanIdBuildError::PsFocusMessageMustBeNull => 6,
+            CanIdBuildError::EmptyPayload => 7,
+        }
+    }
 }
 
 // The parts of an identifier. They are public, so `build` looks at them again.
-#[derive(Clone, Copy)]
+#[derive(Debug, Clone, Copy, PartialEq, Eq)]
 pub struct CanIdBuilder {
     pub priority: u8,
     pub pgn: u32,
     pub source_address: u8,
-    pub destination: Destination,
+    pub destination: Option<u8>,
 }
 
 // The identifier of these parts; PS is the destination or the PGN's low byte.
@@ -178,9 +184,9 @@ impl CanIdBuilder {
     {
         Self {
             priority: CanId::DEFAULT_PRIORITY,
-            pgn: pgn,
-            source_address: source_address,
-            destination: Destination::Nobody,
+            pgn,
+            source_address,
+            destination: None,
         }
     }
 
@@ -196,60 +202,40 @@ impl CanIdBuilder {
     pub fn to_destination(mut self, destination_address: u8) -> Self
         ensures { result ≡ id_with_destination self destination_address }
     {
-        let next = Self {
-            priority: self.priority,
-            pgn: self.pgn,
-            source_address: self.source_address,
-            destination: Destination::To(destination_address),
-        };
-        self = next;
+        self.destination = Some(destination_address);
         self
     }
 
     // The same as `with_priority`, under the original's second name.
-    pub fn priority(mut self, priority: u8) -> Self
+    pub fn priority(self, priority: u8) -> Self
         ensures { result ≡ id_with_priority self priority }
     {
-        self = self.with_priority(priority);
-        self
+        self.with_priority(priority)
     }
 
     // The same as `to_destination`, under the original's second name.
-    pub fn destination(mut self, dest: u8) -> Self
+    pub fn destination(self, dest: u8) -> Self
         ensures { result ≡ id_with_destination self dest }
     {
-        self = self.to_destination(dest);
-        self
+        self.to_destination(dest)
     }
 
     // Builds the identifier, or says why these parts make none.
-    pub fn build(self) -> Built
+    #[tactic(auto, using(crate::proofs::BuildLaws::building))]
+    pub fn build(self) -> Result<CanId, CanIdBuildError>
         ensures { of_built result ≡ build_of self }
     {
-        let priority = self.priority;
-        let pgn = self.pgn;
-        if (pgn > CanId::MAX_PGN) | (priority > CanId::MAX_PRIORITY) {
-            return Built::Refused(CanIdBuildError::InvalidData);
+        if self.pgn > CanId::MAX_PGN || self.priority > CanId::MAX_PRIORITY {
+            return Err(CanIdBuildError::InvalidData);
         }
-        let pf = ((pgn >> 8) % 0x100) as u8;
-        let ps = (pgn % 0x100) as u8;
-        let destination = self.destination;
-        match destination {
-            Destination::Nobody => {
-                if pf < 240 {
-                    return Built::Refused(CanIdBuildError::InvalidForBroadcast);
-                }
-                return Built::Id(compose(priority, pgn, ps, self.source_address));
-            }
-            Destination::To(da) => {
-                if pf >= 240 {
-                    return Built::Refused(CanIdBuildError::InvalidForFocusedMessage { pgn: pf });
-                }
-                if ps != 0 {
-                    return Built::Refused(CanIdBuildError::PsFocusMessageMustBeNull);
-                }
-                return Built::Id(compose(priority, pgn, da, self.source_address));
-            }
+        let pf = ((self.pgn >> 8) % 0x100) as u8;
+        let ps = (self.pgn % 0x100) as u8;
+        match self.destination {
+            None if pf < 240 => Err(CanIdBuildError::InvalidForBroadcast),
+            None => Ok(compose(self.priority, self.pgn, ps, self.source_address)),
+            Some(_) if pf >= 240 => Err(CanIdBuildError::InvalidForFocusedMessage { pgn: pf }),
+            Some(_) if ps != 0 => Err(CanIdBuildError::PsFocusMessageMustBeNull),
+            Some(da) => Ok(compose(self.priority, self.pgn, da, self.source_address)),
         }
     }
 }

@@ -4,7 +4,7 @@ use crate::gateway::{Both, Gateway, after};
 use crate::{engine, gateway, say};
 use assembler::{Arrival, ArrivalById, Pool, Received, receive, receive_by_id};
 use builder::FastPacketBuilder;
-use can_id::{CanFrame, Destination};
+use can_id::{CanFrame, CanId};
 use session::{Mode, PoolKind};
 use std::io::{self, Write};
 
@@ -17,12 +17,18 @@ const SEQUENCE: u8 = 5;
 // The frame at an index up to 1 of the answer to a display, whose seven bytes are all the display's address, as the builder gives it.
 fn answer_frame(display: u8, index: u8) -> CanFrame {
     let payload = [display; 7];
-    let to = Destination::To(display);
-    let made = FastPacketBuilder::new(PGN, GATEWAY, to, &payload, &[PGN], SEQUENCE);
-    let b = made.builder;
-    let next = b.next_frame(index, engine::sent_before(index), &payload);
-    let frame = next.frame;
-    frame
+    let made = FastPacketBuilder::new(PGN, GATEWAY, Some(display), &payload, &[PGN], SEQUENCE);
+    let next = made
+        .builder
+        .next_frame(index, engine::sent_before(index), &payload);
+    match next.answer {
+        Ok(Some(frame)) => frame,
+        _ => CanFrame {
+            id: CanId(0),
+            data: [0; 8],
+            len: 0,
+        },
+    }
 }
 
 fn started_of(kind: PoolKind) -> Gateway {

@@ -2,7 +2,6 @@
 ghost use Rattle.std.specs.Prelude.{◌<◌};
 
 use builder::FastPacketBuilder;
-use can_id::Destination;
 use fast_packet::MAX_FAST_PACKET_PAYLOAD;
 
 pub(crate) const PGN: u32 = 127489;
@@ -34,12 +33,12 @@ pub(crate) fn hours(payload: [u8; MAX_FAST_PACKET_PAYLOAD]) -> u64 {
 // The eight bytes of the record's frame at an index up to 3, as the builder gives them.
 pub(crate) fn frame(hours: u32, source: u8, sequence: u8, index: u8) -> [u8; 8] {
     let payload = record(hours);
-    let made = FastPacketBuilder::new(PGN, source, Destination::Nobody, &payload, &[PGN], sequence);
-    let b = made.builder;
-    let next = b.next_frame(index, sent_before(index), &payload);
-    let frame = next.frame;
-    let data = frame.data;
-    data
+    let made = FastPacketBuilder::new(PGN, source, None, &payload, &[PGN], sequence);
+    let next = made.builder.next_frame(index, sent_before(index), &payload);
+    match next.answer {
+        Ok(Some(frame)) => frame.data,
+        _ => [0; 8],
+    }
 }
 
 // How many bytes of a message are sent before its frame at this index.

@@ -1,12 +1,12 @@
 // Identifiers: what is read of some, and what is built of their parts.
 use crate::say;
-use can_id::{Built, CanId, CanIdBuildError, CanIdBuilder, CanIdParts, Destination, Read};
+use can_id::{CanId, CanIdBuildError, CanIdBuilder, CanIdParts};
 use std::io::{self, Write};
 
-fn show_destination<W: Write>(out: &mut W, destination: Destination) -> io::Result<()> {
+fn show_destination<W: Write>(out: &mut W, destination: Option<u8>) -> io::Result<()> {
     match destination {
-        Destination::Nobody => say::text(out, b"to everybody"),
-        Destination::To(address) => say::told(out, b"to ", address as u64),
+        None => say::text(out, b"to everybody"),
+        Some(address) => say::told(out, b"to ", u64::from(address)),
     }
 }
 
@@ -15,8 +15,7 @@ fn show_parts<W: Write>(out: &mut W, parts: CanIdParts) -> io::Result<()> {
     say::told(out, b", PGN ", parts.pgn as u64)?;
     say::told(out, b", from ", parts.source_address as u64)?;
     say::text(out, b" ")?;
-    let destination = parts.destination;
-    show_destination(out, destination)
+    show_destination(out, parts.destination)
 }
 
 fn show_reading<W: Write>(out: &mut W, id: CanId) -> io::Result<()> {
@@ -24,30 +23,27 @@ fn show_reading<W: Write>(out: &mut W, id: CanId) -> io::Result<()> {
     say::identifier(out, id.0)?;
     say::text(out, b"  ")?;
     match id.read() {
-        Read::Parts(parts) => show_parts(out, parts)?,
-        Read::TooWide => say::refusal(out, 8)?,
+        Ok(parts) => show_parts(out, parts)?,
+        Err(error) => say::refusal(out, u64::from(error.number()))?,
     }
     say::text(out, b"\n")
 }
 
 fn show_refusal<W: Write>(out: &mut W, error: CanIdBuildError) -> io::Result<()> {
+    say::refusal(out, u64::from(error.number()))?;
     match error {
-        CanIdBuildError::InvalidData => say::refusal(out, 2),
-        CanIdBuildError::InvalidForBroadcast => say::refusal(out, 4),
         CanIdBuildError::InvalidForFocusedMessage { pgn } => {
-            say::refusal(out, 5)?;
-            say::told(out, b", PF ", pgn as u64)
+            say::told(out, b", PF ", u64::from(pgn))
         }
-        CanIdBuildError::PsFocusMessageMustBeNull => say::refusal(out, 6),
-        CanIdBuildError::EmptyPayload => say::refusal(out, 7),
+        _ => Ok(()),
     }
 }
 
-fn show_result<W: Write>(out: &mut W, built: Built) -> io::Result<()> {
+fn show_result<W: Write>(out: &mut W, built: Result<CanId, CanIdBuildError>) -> io::Result<()> {
     say::text(out, b": ")?;
     match built {
-        Built::Id(id) => say::identifier(out, id.0)?,
-        Built::Refused(error) => show_refusal(out, error)?,
+        Ok(id) => say::identifier(out, id.0)?,
+        Err(error) => show_refusal(out, error)?,
     }
     say::text(out, b"\n")
 }
@@ -56,8 +52,7 @@ fn show_built<W: Write>(out: &mut W, builder: CanIdBuilder) -> io::Result<()> {
     say::told(out, b"  PGN ", builder.pgn as u64)?;
     say::told(out, b" from ", builder.source_address as u64)?;
     say::text(out, b" ")?;
-    let destination = builder.destination;
-    show_destination(out, destination)?;
+    show_destination(out, builder.destination)?;
     show_result(out, builder.build())
 }
 

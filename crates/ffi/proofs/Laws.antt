@@ -1,12 +1,12 @@
 -- What an entry passes on: from what its calls say to what it says. Assumes nothing.
 use Prim.Native.Nat.{ℕ}
 use mathlib.Core.List.{List, [], ◌∷◌}
+use Rattle.std.proofs.Common.{Option}
 use mathlib.Core.Path.{◌≡◌, refl, sym, ap, subst, ◌∙◌}
 use Rattle.base.specs.Answer.{Answer, gives}
 use Rattle.can_id.specs.Build.{new_id_builder, build_of, id_with_priority, id_with_destination}
 use Rattle.can_id.specs.declared.CanIdBuilder.{CanIdBuilder}
 use Rattle.can_id.specs.declared.CanIdParts.{CanIdParts}
-use Rattle.can_id.specs.declared.Destination.{Destination}
 use Rattle.builder.specs.Builder.{new_builder, with_sequence, with_priority, with_destination}
 use Rattle.builder.specs.Next.{Step, next_of}
 use Rattle.builder.specs.Frames.{Turn, started, next_turn}
@@ -60,11 +60,11 @@ module _ (x : ℕ) (n : List ℕ) {r : List ℕ} {b c : FastPacketBuilder} (read
   destination_set_lem g h = h ∙ ap builder_numbers (g ∙ ap (λ (y : FastPacketBuilder). with_destination y x) read)
 
 -- ---- a builder made, and its place before the first frame
-pub made_with : (pgn source d : ℕ) (payload pgns : List ℕ) (held : ℕ) {to : Destination} {m : MadeBuilder} {r : ℕ} {v : List ℕ}
+pub made_with : (pgn source d : ℕ) (payload pgns : List ℕ) (held : ℕ) {to : Option ℕ} {m : MadeBuilder} {r : ℕ} {v : List ℕ}
     → to ≡ to_address d → m ≡ new_builder pgn source to payload pgns held → BuilderLeft m r v → NewBuilderLeft pgn source d payload pgns held r v
 unfolding new_builder_to
 made_with pgn source d payload pgns held {r = r} {v} f g h =
-    subst (λ (m : MadeBuilder). BuilderLeft m r v) (g ∙ ap (λ (x : Destination). new_builder pgn source x payload pgns held) f) h
+    subst (λ (m : MadeBuilder). BuilderLeft m r v) (g ∙ ap (λ (x : Option ℕ). new_builder pgn source x payload pgns held) f) h
 
 pub started_at : (n : List ℕ) {b : FastPacketBuilder} {t : FrameIterator} {r : List ℕ} → b ≡ builder_from n → t ≡ started b → r ≡ place_numbers t → r ≡ started_place n
 unfolding started_place
@@ -101,11 +101,11 @@ read_by {before = before} {after = after} {code = code} p e = subst (λ (x : Ans
 pub answered_by : {a b : Answer ℕ} {r v : ℕ} → Answered a r v → a ≡ b → Answered b r v
 answered_by {r = r} {v} h e = subst (λ (x : Answer ℕ). Answered x r v) e h
 
-pub parts_by : (priority pgn source d : ℕ) {to : Destination} {a : Answer ℕ}
+pub parts_by : (priority pgn source d : ℕ) {to : Option ℕ} {a : Answer ℕ}
     → to ≡ to_address d → a ≡ build_of (record { priority = priority; pgn = pgn; source_address = source; destination = to }) → a ≡ build_of (builder_of_parts priority pgn source d)
 unfolding builder_of_parts
 parts_by priority pgn source d f g =
-    g ∙ ap (λ (x : Destination). build_of (record { priority = priority; pgn = pgn; source_address = source; destination = x })) f
+    g ∙ ap (λ (x : Option ℕ). build_of (record { priority = priority; pgn = pgn; source_address = source; destination = x })) f
 
 pub set_by : (pgn source priority d : ℕ) {b c e : CanIdBuilder} → b ≡ new_id_builder pgn source → c ≡ set_priority b priority → e ≡ set_destination c d → e ≡ set_of pgn source priority d
 unfolding set_of

@@ -85,14 +85,10 @@ pub fn hf_raw_builder_build(builder: &[u64; 6], place: &mut [u64; 2])
 fn step_in(item: Item) -> Next
     ensures { of_next result ≡ (turn_of item).answer }
 {
-    let t = item.iterator;
-    let f = item.frame;
-    let kind = item.kind;
     Next {
-        kind: kind,
-        frame: f,
-        frame_index: t.frame_index,
-        bytes_sent: t.bytes_sent,
+        answer: item.answer,
+        frame_index: item.iterator.frame_index,
+        bytes_sent: item.iterator.bytes_sent,
     }
 }
 

@@ -4,7 +4,7 @@
 
 ghost use Rattle.std.specs.Prelude.{◌<◌};
 
-use can_id::{CanId, CanIdParts, Destination, Read};
+use can_id::{CanId, CanIdParts, CanIdReadError};
 use std::io::{self, BufReader, BufWriter, ErrorKind, Write};
 
 fn wide(x: u8) -> u32
@@ -43,26 +43,28 @@ fn write_number<W: Write>(out: &mut W, n: u32) -> io::Result<()> {
     write!(out, " {n}")
 }
 
-fn write_destination<W: Write>(out: &mut W, destination: Destination) -> io::Result<()> {
+fn write_destination<W: Write>(out: &mut W, destination: Option<u8>) -> io::Result<()> {
     match destination {
-        Destination::Nobody => write!(out, " -"),
-        Destination::To(address) => write_number(out, address as u32),
+        None => write!(out, " -"),
+        Some(address) => write_number(out, u32::from(address)),
     }
 }
 
 fn write_parts<W: Write>(out: &mut W, parts: CanIdParts) -> io::Result<()> {
     write_number(out, parts.priority as u32)?;
     write_number(out, parts.pgn)?;
-    let destination = parts.destination;
-    write_destination(out, destination)?;
+    write_destination(out, parts.destination)?;
     write_number(out, parts.source_address as u32)
 }
 
 // Every identifier of the list is below 2^29; one that is not would have no parts, and its line would differ.
-fn write_reading<W: Write>(out: &mut W, read: Read) -> io::Result<()> {
+fn write_reading<W: Write>(
+    out: &mut W,
+    read: Result<CanIdParts, CanIdReadError>,
+) -> io::Result<()> {
     match read {
-        Read::Parts(parts) => write_parts(out, parts),
-        Read::TooWide => write!(out, " too wide"),
+        Ok(parts) => write_parts(out, parts),
+        Err(CanIdReadError::TooWide) => write!(out, " too wide"),
     }
 }
 

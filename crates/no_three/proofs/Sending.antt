@@ -2,25 +2,23 @@
 -- Assumes nothing.
 use Prim.Native.Nat.{ℕ}
 use mathlib.Core.List.{List}
+use Rattle.std.proofs.Common.{Option, Some, None, Result, Ok, Err}
 use native.Mathlib.Omega.{arith}
 use Rattle.base.specs.Answer.{Answer, gives, refuses, code_of}
 use Rattle.base.proofs.Cases.{pick_all}
 use Rattle.can_id.specs.Read.{of_read, read_of}
 use Rattle.can_id.specs.Build.{error_number, of_built, build_to, build_of}
 use Rattle.can_id.specs.declared.CanIdBuilder.{CanIdBuilder}
-use Rattle.can_id.specs.declared.Destination.{Destination}
-use Rattle.can_id.specs.declared.Destination.TheVariants.{Nobody, To}
 use Rattle.can_id.specs.declared.CanIdBuildError.{CanIdBuildError}
 use Rattle.can_id.specs.declared.CanIdBuildError.TheVariants.{InvalidData, InvalidForBroadcast, InvalidForFocusedMessage, PsFocusMessageMustBeNull, EmptyPayload}
-use Rattle.can_id.specs.declared.Read.{Read}
-use Rattle.can_id.specs.declared.Read.TheVariants.{Parts, TooWide}
-use Rattle.can_id.specs.declared.Built.{Built}
-use Rattle.can_id.specs.declared.Built.TheVariants.{Id, Refused as NotBuilt}
+use Rattle.can_id.specs.declared.CanId.{CanId}
+use Rattle.can_id.specs.declared.CanFrame.{CanFrame}
+use Rattle.can_id.specs.declared.CanIdParts.{CanIdParts}
+use Rattle.can_id.specs.declared.CanIdReadError.{CanIdReadError}
+use Rattle.can_id.specs.declared.CanIdReadError.TheVariants.{TooWide}
 use Rattle.builder.specs.Builder.{id_builder}
-use Rattle.builder.specs.Next.{Step, of_next_kind, framed_step, built_step, next_of}
+use Rattle.builder.specs.Next.{Step, of_answer, framed_step, built_step, next_of}
 use Rattle.builder.specs.declared.FastPacketBuilder.{FastPacketBuilder}
-use Rattle.builder.specs.declared.NextKind.{NextKind}
-use Rattle.builder.specs.declared.NextKind.TheVariants.{Frame, End, Refused}
 use Rattle.numbers.specs.Frames.{next_code}
 use Rattle.no_three.specs.NoThree.{NotThree}
 
@@ -33,14 +31,14 @@ pub read_other : (id : ℕ) → Other (read_of id)
 unfolding read_of
 read_other id = pick_all Other _ (omega arith) (omega arith)
 
-pub read_case_other : (r : Read) → Other (of_read r)
-read_case_other (Parts p) = omega arith
-read_case_other TooWide = omega arith
+pub read_case_other : (r : Result CanIdParts CanIdReadError) → Other (of_read r)
+read_case_other (Ok p) = omega arith
+read_case_other (Err TooWide) = omega arith
 
 -- ---- building
-to_other : (t : Destination) (b : CanIdBuilder) → Other (build_to t b)
-to_other Nobody b = pick_all Other _ (omega arith) (omega arith)
-to_other (To d) b = pick_all Other _ (pick_all Other _ (omega arith) (omega arith)) (omega arith)
+to_other : (t : Option ℕ) (b : CanIdBuilder) → Other (build_to t b)
+to_other None b = pick_all Other _ (omega arith) (omega arith)
+to_other (Some d) b = pick_all Other _ (pick_all Other _ (omega arith) (omega arith)) (omega arith)
 
 pub build_other : (b : CanIdBuilder) → Other (build_of b)
 unfolding build_of
@@ -74,11 +72,11 @@ error_other (InvalidForFocusedMessage pf) = omega arith
 error_other PsFocusMessageMustBeNull = omega arith
 error_other EmptyPayload = omega arith
 
-pub built_case_other : (b : Built) → Other (of_built b)
-built_case_other (Id id) = omega arith
-built_case_other (NotBuilt e) = error_other e
+pub built_case_other : (b : Result CanId CanIdBuildError) → Other (of_built b)
+built_case_other (Ok id) = omega arith
+built_case_other (Err e) = error_other e
 
-pub next_case_other : (k : NextKind) → NotThree (next_code (of_next_kind k))
-next_case_other Frame = omega arith
-next_case_other End = omega arith
-next_case_other (Refused e) = error_other e
+pub next_case_other : (k : Result (Option CanFrame) CanIdBuildError) → NotThree (next_code (of_answer k))
+next_case_other (Ok (Some f)) = omega arith
+next_case_other (Ok None) = omega arith
+next_case_other (Err e) = error_other e

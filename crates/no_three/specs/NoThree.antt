@@ -1,14 +1,16 @@
 -- Document 02, No. 11: "The translators of the crew screen ask when number 3 appears. No path gives it: prove that for every input of every public call".
 -- A field has the name of the call that it is about. It says: whatever the call was asked, and whatever outcome its promise allows, the number by which the
 -- answer is told is not 3. A public call that is added joins, as a field or, if it tells no answer by a number, in the list at the end; `host/test` looks.
-use Rattle.std.specs.Prelude.{ℕ, ◌<◌, Bool, List, ◌≢◌, ◌≡◌, get_or, take}
+use Rattle.std.specs.Prelude.{ℕ, ◌<◌, Bool, List, Result, ◌≢◌, ◌≡◌, get_or, take}
 use Rattle.base.specs.Answer.{code_of}
 use Rattle.can_id.specs.Read.{of_read, read_of}
 use Rattle.can_id.specs.Build.{of_built, build_of}
 use Rattle.can_id.specs.declared.CanIdBuilder.{CanIdBuilder}
-use Rattle.can_id.specs.declared.Built.{Built}
-use Rattle.can_id.specs.declared.Read.{Read}
-use Rattle.builder.specs.Next.{of_next_kind, of_next, next_of}
+use Rattle.can_id.specs.declared.CanId.{CanId}
+use Rattle.can_id.specs.declared.CanIdBuildError.{CanIdBuildError}
+use Rattle.can_id.specs.declared.CanIdParts.{CanIdParts}
+use Rattle.can_id.specs.declared.CanIdReadError.{CanIdReadError}
+use Rattle.builder.specs.Next.{of_answer, of_next, next_of}
 use Rattle.builder.specs.Frames.{turn_of, next_turn}
 use Rattle.builder.specs.declared.FastPacketBuilder.{FastPacketBuilder}
 use Rattle.builder.specs.declared.FrameIterator.{FrameIterator}
@@ -66,11 +68,11 @@ NoneIsThree n kinds = (i : ℕ) → i < n → NotThree (get_or kinds i 0)
 
 pub record NoThree : Type 0 where
   -- ---- identifiers and frames, by the number of the refusal
-  pub can_id_read : (id : ℕ) (r : Read) → of_read r ≡ read_of id → NotThree (code_of (of_read r))
-  pub can_id_builder_build : (b : CanIdBuilder) (r : Built) → of_built r ≡ build_of b → NotThree (code_of (of_built r))
+  pub can_id_read : (id : ℕ) (r : Result CanIdParts CanIdReadError) → of_read r ≡ read_of id → NotThree (code_of (of_read r))
+  pub can_id_builder_build : (b : CanIdBuilder) (r : Result CanId CanIdBuildError) → of_built r ≡ build_of b → NotThree (code_of (of_built r))
   pub fast_packet_builder_next_frame : (b : FastPacketBuilder) (index sent : ℕ) (payload : List ℕ) (r : Next)
-      → of_next r ≡ next_of b index sent payload → NotThree (next_code (of_next_kind r.kind))
-  pub frame_iterator_next : (t : FrameIterator) (payload : List ℕ) (r : Item) → turn_of r ≡ next_turn t payload → NotThree (next_code (of_next_kind r.kind))
+      → of_next r ≡ next_of b index sent payload → NotThree (next_code (of_answer r.answer))
+  pub frame_iterator_next : (t : FrameIterator) (payload : List ℕ) (r : Item) → turn_of r ≡ next_turn t payload → NotThree (next_code (of_answer r.answer))
   -- ---- pools and the receive call
   pub pool_new : (wanted : ℕ) (r : MadePool) → MakesPool wanted r → NotThree (code_of (of_made r.result r.pool.size))
   pub pool_with_mode : (mode : Mode) (wanted : ℕ) (r : MadePool) → MakesPoolIn mode wanted r → NotThree (code_of (of_made r.result r.pool.size))
@@ -151,8 +153,8 @@ pub record NoThree : Type 0 where
   pub hf_check_tx : (ids bytes lens values : List ℕ) (source expected hours code : ℕ)
       → ChecksTxInNumbers ids bytes lens source expected hours code values → NotThree code
   -- ---- the functions below the entries that turn any answer into its number: a caller can write none that has number 3
-  pub told_read : (r : Read) (code : ℕ) (before after : List ℕ) → ReadLeft r before code after → NotThree code
-  pub answered : (b : Built) (code value : ℕ) → BuiltLeft b code value → NotThree code
+  pub told_read : (r : Result CanIdParts CanIdReadError) (code : ℕ) (before after : List ℕ) → ReadLeft r before code after → NotThree code
+  pub answered : (b : Result CanId CanIdBuildError) (code value : ℕ) → BuiltLeft b code value → NotThree code
   pub tell_next : (next : Next) (code : ℕ) (bytes numbers : List ℕ) → NextLeft next code bytes numbers → NotThree code
   pub told_reassembled : (r : Reassembled) (code : ℕ) (values : List ℕ) → ToldInFive (of_reassembled r) code values → NotThree code
   pub split_number : (s : Split) (code : ℕ) → code ≡ code_of (of_split s) → NotThree code

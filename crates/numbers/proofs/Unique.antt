@@ -3,11 +3,13 @@ use Prim.Native.Nat.{ℕ}
 use mathlib.Core.Path.{◌≡◌, ap, ◌∙◌}
 use Rattle.base.specs.Answer.{Answer, code_of}
 use Rattle.base.proofs.Cases.{determined}
-use Rattle.can_id.specs.declared.Built.{Built}
-use Rattle.can_id.specs.declared.Read.{Read}
-use Rattle.can_id.specs.declared.Destination.{Destination}
+use Rattle.can_id.specs.declared.CanId.{CanId}
+use Rattle.can_id.specs.declared.CanIdBuildError.{CanIdBuildError}
+use Rattle.can_id.specs.declared.CanIdParts.{CanIdParts}
+use Rattle.can_id.specs.declared.CanIdReadError.{CanIdReadError}
 use Rattle.numbers.specs.Numbers.{to_address, address_of, value_of, BuiltLeft, ReadLeft}
 use mathlib.Core.List.{List}
+use Rattle.std.proofs.Common.{Option, Result}
 use Rattle.builder.specs.declared.FastPacketBuilder.{FastPacketBuilder}
 use Rattle.builder.specs.declared.FrameIterator.{FrameIterator}
 use Rattle.builder.specs.declared.MadeBuilder.{MadeBuilder}
@@ -31,18 +33,18 @@ use Rattle.numbers.specs.Pool.{laid_over, mode_from, pool_kind_from, size_under,
 -- ---- numbers
 
 module _ (r s : ℕ) where
-  pub address_number_unique : (d : Destination) → r ≡ address_of d → s ≡ address_of d → r ≡ s
+  pub address_number_unique : (d : Option ℕ) → r ≡ address_of d → s ≡ address_of d → r ≡ s
   address_number_unique d = determined
 
-pub destination_from_unique : (n : ℕ) (r s : Destination) → r ≡ to_address n → s ≡ to_address n → r ≡ s
+pub destination_from_unique : (n : ℕ) (r s : Option ℕ) → r ≡ to_address n → s ≡ to_address n → r ≡ s
 destination_from_unique n r s = determined
 
 -- what is returned, and what the four parts become
-pub told_read_unique : (x : Read) (before : List ℕ) (r s : ℕ) (v w : List ℕ) → ReadLeft x before r v → ReadLeft x before s w → (r ≡ s) × (v ≡ w)
+pub told_read_unique : (x : Result CanIdParts CanIdReadError) (before : List ℕ) (r s : ℕ) (v w : List ℕ) → ReadLeft x before r v → ReadLeft x before s w → (r ≡ s) × (v ≡ w)
 told_read_unique x before r s v w p q = (determined p.told q.told, determined p.laid q.laid)
 
 -- what is returned and what is lent out
-pub answered_unique : (b : Built) (r s v w : ℕ) → BuiltLeft b r v → BuiltLeft b s w → (r ≡ s) × (v ≡ w)
+pub answered_unique : (b : Result CanId CanIdBuildError) (r s v w : ℕ) → BuiltLeft b r v → BuiltLeft b s w → (r ≡ s) × (v ≡ w)
 answered_unique b r s v w p q = (determined p.told q.told, determined p.given q.given)
 
 -- ---- the frame builder

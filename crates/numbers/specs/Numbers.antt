@@ -1,14 +1,13 @@
 -- The numbers that stand for what C does not have.
-use Rattle.std.specs.Prelude.{ℕ, List, [], ◌∷◌, Bool, not, ◌≡◌, ltb, eqb}
+use Rattle.std.specs.Prelude.{ℕ, List, [], ◌∷◌, Option, Some, None, Result, Bool, not, ◌≡◌, ltb, eqb}
 use Rattle.base.specs.Answer.{Answer, gives, refuses, code_of}
 use Rattle.base.specs.Pick.{pick}
 use Rattle.can_id.specs.Read.{of_read}
 use Rattle.can_id.specs.Build.{of_built}
 use Rattle.can_id.specs.declared.CanIdParts.{CanIdParts}
-use Rattle.can_id.specs.declared.Read.{Read}
-use Rattle.can_id.specs.declared.Built.{Built}
-use Rattle.can_id.specs.declared.Destination.{Destination}
-use Rattle.can_id.specs.declared.Destination.TheVariants.{Nobody, To}
+use Rattle.can_id.specs.declared.CanIdReadError.{CanIdReadError}
+use Rattle.can_id.specs.declared.CanId.{CanId}
+use Rattle.can_id.specs.declared.CanIdBuildError.{CanIdBuildError}
 
 -- a flag is any number but 0
 abbrev pub is_set : ℕ → Bool
@@ -19,12 +18,12 @@ unfoldable pub laid_on : ℕ → ℕ → ℕ → ℕ
 laid_on old read new = pick (eqb read new) old new
 
 -- a destination is an address below 256, and from 256 on there is none
-unfoldable pub to_address : ℕ → Destination
-to_address n = pick (ltb n 256) (To n) Nobody
+unfoldable pub to_address : ℕ → Option ℕ
+to_address n = pick (ltb n 256) (Some n) None
 
-abbrev pub address_of : Destination → ℕ
-address_of Nobody = 256
-address_of (To d) = d
+abbrev pub address_of : Option ℕ → ℕ
+address_of None = 256
+address_of (Some d) = d
 
 -- ---- what an identifier says: priority, PGN, source, and destination or 256
 abbrev pub part_numbers : CanIdParts → List ℕ
@@ -41,7 +40,7 @@ pub record ToldInFour (a : Answer CanIdParts) (before : List ℕ) (code : ℕ) (
   pub laid : after ≡ parts_with a before
 
 -- of what reading an identifier gave
-abbrev pub ReadLeft : Read → List ℕ → ℕ → List ℕ → Type 0
+abbrev pub ReadLeft : Result CanIdParts CanIdReadError → List ℕ → ℕ → List ℕ → Type 0
 ReadLeft r before code after = ToldInFour (of_read r) before code after
 
 -- ---- an answer that is one number
@@ -61,5 +60,5 @@ pub record Answered (a : Answer ℕ) (code value : ℕ) : Type 0 where
   pub given : value ≡ value_of a
 
 -- of what building an identifier gave
-abbrev pub BuiltLeft : Built → ℕ → ℕ → Type 0
+abbrev pub BuiltLeft : Result CanId CanIdBuildError → ℕ → ℕ → Type 0
 BuiltLeft b code value = Answered (of_built b) code value

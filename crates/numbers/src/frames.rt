@@ -1,16 +1,13 @@
 // The frame builder, its iterator and its answers, as numbers.
-ghost use Rattle.std.specs.Prelude.{◌≡◌, [], ◌∷◌};
-ghost use Rattle.builder.specs.Next.{of_next_kind};
-ghost use Rattle.numbers.specs.Frames.{builder_from, builder_numbers, BuilderLeft, iterator_from, place_numbers, next_code, kind_carries, NextLeft, after_next, place_on};
+ghost use Rattle.std.specs.Prelude.{◌≡◌};
+ghost use Rattle.numbers.specs.Frames.{builder_from, builder_numbers, BuilderLeft, iterator_from, place_numbers, NextLeft, after_next, place_on};
 
-use crate::numbers::{
-    address_number, byte_on, destination_from, error_carries, error_number, flag,
-};
-use builder::{FastPacketBuilder, FrameIterator, MadeBuilder, Next, NextKind};
-use can_id::CanFrame;
+use crate::numbers::{address_number, byte_on, destination_from, error_carries, flag};
+use builder::{FastPacketBuilder, FrameIterator, MadeBuilder, Next};
 
 // ---- a builder as numbers
 
+#[tactic(auto, unfolding(crate::specs::Frames::builder_from))]
 pub fn builder_from(n: &[u64; 6]) -> FastPacketBuilder
     ensures { result ≡ builder_from n.now }
 {
@@ -24,16 +21,16 @@ pub fn builder_from(n: &[u64; 6]) -> FastPacketBuilder
     }
 }
 
+#[tactic(auto, unfolding(crate::specs::Frames::builder_numbers))]
 pub fn builder_numbers(b: FastPacketBuilder) -> [u64; 6]
     ensures { result ≡ builder_numbers b }
 {
-    let destination = b.destination;
     [
-        b.pgn as u64,
-        b.source_address as u64,
-        address_number(destination) as u64,
-        b.priority as u64,
-        b.sequence_id as u64,
+        u64::from(b.pgn),
+        u64::from(b.source_address),
+        u64::from(address_number(b.destination)),
+        u64::from(b.priority),
+        u64::from(b.sequence_id),
         flag(b.fast),
     ]
 }
@@ -41,8 +38,7 @@ pub fn builder_numbers(b: FastPacketBuilder) -> [u64; 6]
 pub fn lay_made(made: MadeBuilder, builder: &mut [u64; 6]) -> u8
     ensures { BuilderLeft made result builder.new }
 {
-    let b = made.builder;
-    *builder = builder_numbers(b);
+    *builder = builder_numbers(made.builder);
     made.sequence_id
 }
 
@@ -51,73 +47,58 @@ pub fn lay_made(made: MadeBuilder, builder: &mut [u64; 6]) -> u8
 // The number of End, in the list of the kinds of answers.
 const END: u32 = 100;
 
-fn kind_number(kind: NextKind) -> u32
-    ensures { result ≡ next_code (of_next_kind kind) }
-{
-    match kind {
-        NextKind::Frame => 0,
-        NextKind::End => END,
-        NextKind::Refused(error) => error_number(error),
-    }
-}
-
-fn kind_carries(kind: NextKind) -> u32
-    ensures { result ≡ kind_carries (of_next_kind kind) }
-{
-    match kind {
-        NextKind::Frame => 0,
-        NextKind::End => 0,
-        NextKind::Refused(error) => error_carries(error),
-    }
-}
-
-fn frame_numbers(frame: CanFrame, kind: NextKind) -> [u64; 3]
-    ensures { result ≡ (frame.id.0 ∷ frame.len ∷ kind_carries (of_next_kind kind) ∷ []) }
-{
-    [
-        frame.id.0 as u64,
-        frame.len as u64,
-        kind_carries(kind) as u64,
-    ]
-}
-
+// Where there is no frame there are zeros in its place.
 pub fn tell_next(next: Next, data: &mut [u8; 8], frame: &mut [u64; 3]) -> u32
     ensures { NextLeft next result «data».new frame.new }
 {
-    let f = next.frame;
-    let kind = next.kind;
-    let bytes = f.data;
-    *data = bytes;
-    *frame = frame_numbers(f, kind);
-    kind_number(kind)
+    match next.answer {
+        Ok(Some(sent)) => {
+            let bytes = sent.data;
+            *data = bytes;
+            *frame = [u64::from(sent.id.0), sent.len as u64, 0];
+            0
+        }
+        Ok(None) => {
+            *data = [0; 8];
+            *frame = [0; 3];
+            END
+        }
+        Err(error) => {
+            *data = [0; 8];
+            *frame = [0, 0, u64::from(error_carries(error))];
+            u32::from(error.number())
+        }
+    }
 }
 
 pub fn after_numbers(next: Next) -> [u64; 2]
     ensures { result ≡ after_next next }
 {
-    [next.frame_index as u64, next.bytes_sent as u64]
+    [u64::from(next.frame_index), next.bytes_sent as u64]
 }
 
 // ---- frame by frame
 
+#[tactic(auto, unfolding(crate::specs::Frames::iterator_from))]
 pub fn iterator_from(builder: &[u64; 6], place: &[u64; 2]) -> FrameIterator
     ensures { result ≡ iterator_from builder.now place.now }
 {
-    let b = builder_from(builder);
     FrameIterator {
-        builder: b,
+        builder: builder_from(builder),
         frame_index: (place[0] % 0x100) as u8,
         bytes_sent: place[1] as usize,
     }
 }
 
+#[tactic(auto, unfolding(crate::specs::Frames::place_numbers))]
 pub fn place_numbers(t: FrameIterator) -> [u64; 2]
     ensures { result ≡ place_numbers t }
 {
-    [t.frame_index as u64, t.bytes_sent as u64]
+    [u64::from(t.frame_index), t.bytes_sent as u64]
 }
 
 // A place goes on; its frame index is written only where it changes.
+#[tactic(auto, unfolding(crate::specs::Frames::place_laid))]
 pub fn go_on(place: &mut [u64; 2], next: Next)
     ensures { place.new ≡ place_on place.old next }
 {

@@ -1,107 +1,93 @@
 // Numbers for what C does not have: a destination that may be missing, and a refusal.
 ghost use Rattle.std.specs.Prelude.{◌≡◌, ◌%◌};
 ghost use Rattle.base.specs.Pick.{pick};
-ghost use Rattle.can_id.specs.Build.{error_number, error_carries};
+ghost use Rattle.can_id.specs.Build.{error_carries};
 ghost use Rattle.numbers.specs.Numbers.{is_set, laid_on, to_address, address_of, carries_of, BuiltLeft, ReadLeft};
 
-use can_id::{Built, CanIdBuildError, Destination, Read};
+use can_id::{CanId, CanIdBuildError, CanIdParts, CanIdReadError};
 
+#[tactic(auto, using(crate::proofs::Laws::flag_is))]
 pub(crate) fn flag(x: bool) -> u64
     ensures { result ≡ pick x 1 0 }
 {
-    if x {
-        return 1;
-    }
-    0
+    u64::from(x)
 }
 
 // ---- a number to be written over the one that was read: that one itself, where the field that was read from it is still right
 
+#[tactic(auto, using(crate::proofs::Laws::flags))]
 pub(crate) fn flag_on(old: u64, x: bool) -> u64
     ensures { result ≡ laid_on old (pick (is_set old) 1 0) (pick x 1 0) }
 {
-    if flag(old != 0) == flag(x) {
-        return old;
-    }
-    flag(x)
+    if (old != 0) == x { old } else { flag(x) }
 }
 
+#[tactic(auto, using(base::proofs::Cases::when_eq, base::proofs::Cases::when_ne), unfolding(crate::specs::Numbers::laid_on))]
 pub(crate) fn byte_on(number: u64, x: u8) -> u64
     ensures { result ≡ laid_on number (number % 0x100) x }
 {
-    let new = x as u64;
-    if (number % 0x100) as u8 == x {
-        return number;
+    if number % 0x100 == u64::from(x) {
+        number
+    } else {
+        u64::from(x)
     }
-    new
 }
 
+#[tactic(auto, using(base::proofs::Cases::when_eq, base::proofs::Cases::when_ne), unfolding(crate::specs::Numbers::laid_on))]
 pub(crate) fn half_on(old: u64, x: u16) -> u64
     ensures { result ≡ laid_on old (old % 0x1_0000) x }
 {
-    if (old % 0x1_0000) as u16 == x {
-        return old;
+    if old % 0x1_0000 == u64::from(x) {
+        old
+    } else {
+        u64::from(x)
     }
-    x as u64
 }
 
+#[tactic(auto, using(base::proofs::Cases::when_eq, base::proofs::Cases::when_ne), unfolding(crate::specs::Numbers::laid_on))]
 pub(crate) fn word_on(old: u64, x: u32) -> u64
     ensures { result ≡ laid_on old (old % 0x1_0000_0000) x }
 {
-    if (old % 0x1_0000_0000) as u32 == x {
-        return old;
+    if old % 0x1_0000_0000 == u64::from(x) {
+        old
+    } else {
+        u64::from(x)
     }
-    x as u64
 }
 
 // An address, or none from 256 on.
-pub fn destination_from(n: u64) -> Destination
+#[tactic(auto, using(crate::proofs::Laws::address_is))]
+pub fn destination_from(n: u64) -> Option<u8>
     ensures { result ≡ to_address n }
 {
-    if n < 256 {
-        Destination::To(n as u8)
-    } else {
-        Destination::Nobody
-    }
+    u8::try_from(n).ok()
 }
 
-pub fn address_number(destination: Destination) -> u16
+pub fn address_number(destination: Option<u8>) -> u16
     ensures { result ≡ address_of destination }
 {
     match destination {
-        Destination::Nobody => 256,
-        Destination::To(address) => address as u16,
+        Some(address) => u16::from(address),
+        None => 256,
     }
 }
 
 // 8, or 0 and the four parts in their place.
-pub fn told_read(read: Read, parts: &mut [u32; 4]) -> u32
+#[tactic(auto, unfolding(crate::specs::Numbers::parts_with))]
+pub fn told_read(read: Result<CanIdParts, CanIdReadError>, parts: &mut [u32; 4]) -> u32
     ensures { ReadLeft read parts.old result parts.new }
 {
     match read {
-        Read::Parts(p) => {
-            let destination = p.destination;
+        Ok(p) => {
             *parts = [
-                p.priority as u32,
+                u32::from(p.priority),
                 p.pgn,
-                p.source_address as u32,
-                address_number(destination) as u32,
+                u32::from(p.source_address),
+                u32::from(address_number(p.destination)),
             ];
             0
         }
-        Read::TooWide => 8,
-    }
-}
-
-pub(crate) fn error_number(error: CanIdBuildError) -> u32
-    ensures { result ≡ error_number error }
-{
-    match error {
-        CanIdBuildError::InvalidData => 2,
-        CanIdBuildError::InvalidForBroadcast => 4,
-        CanIdBuildError::InvalidForFocusedMessage { pgn: _ } => 5,
-        CanIdBuildError::PsFocusMessageMustBeNull => 6,
-        CanIdBuildError::EmptyPayload => 7,
+        Err(error) => u32::from(error.number()),
     }
 }
 
@@ -109,26 +95,23 @@ pub(crate) fn error_carries(error: CanIdBuildError) -> u32
     ensures { result ≡ carries_of (error_carries error) }
 {
     match error {
-        CanIdBuildError::InvalidData => 0,
-        CanIdBuildError::InvalidForBroadcast => 0,
-        CanIdBuildError::InvalidForFocusedMessage { pgn } => pgn as u32,
-        CanIdBuildError::PsFocusMessageMustBeNull => 0,
-        CanIdBuildError::EmptyPayload => 0,
+        CanIdBuildError::InvalidForFocusedMessage { pgn } => u32::from(pgn),
+        _ => 0,
     }
 }
 
 // The refusal's number or 0; in `value` the identifier, or what the refusal carries.
-pub fn answered(built: Built, value: &mut u32) -> u32
+pub fn answered(built: Result<CanId, CanIdBuildError>, value: &mut u32) -> u32
     ensures { BuiltLeft built result value.new }
 {
     match built {
-        Built::Id(id) => {
+        Ok(id) => {
             *value = id.0;
             0
         }
-        Built::Refused(error) => {
+        Err(error) => {
             *value = error_carries(error);
-            error_number(error)
+            u32::from(error.number())
         }
     }
 }

@@ -12,8 +12,8 @@
 ghost use Rattle.std.specs.Prelude.{◌≡◌, ◌+◌, ◌<◌, ◌≤◌, length};
 
 use assembler::{Arrival, Pool, Received, process_frame_through};
-use builder::{FastPacketBuilder, Next, NextKind};
-use can_id::{CanIdBuildError, Destination};
+use builder::{FastPacketBuilder, Next};
+use can_id::{CanFrame, CanId};
 use fast_packet::MAX_FAST_PACKET_PAYLOAD;
 use session::{Counters, Kind, Mode};
 use std::io::{self, BufReader, BufWriter, ErrorKind, Read, Write};
@@ -233,36 +233,29 @@ fn hear<W: Write>(out: &mut W, s: State, line: &[u8; 44]) -> io::Result<State> {
 
 // ---- frames built
 
-fn destination(n: u64) -> Destination {
-    if n < 256 {
-        Destination::To(n as u8)
-    } else {
-        Destination::Nobody
-    }
-}
-
-fn refusal(error: CanIdBuildError) -> u64 {
-    match error {
-        CanIdBuildError::InvalidData => 2,
-        CanIdBuildError::InvalidForBroadcast => 4,
-        CanIdBuildError::InvalidForFocusedMessage { pgn: _ } => 5,
-        CanIdBuildError::PsFocusMessageMustBeNull => 6,
-        CanIdBuildError::EmptyPayload => 7,
+// Zeros where there is no frame.
+fn frame_in(next: Next) -> CanFrame {
+    match next.answer {
+        Ok(Some(frame)) => frame,
+        _ => CanFrame {
+            id: CanId(0),
+            data: [0; 8],
+            len: 0,
+        },
     }
 }
 
 fn write_next<W: Write>(out: &mut W, next: Next) -> io::Result<()> {
-    let kind = next.kind;
-    let frame = next.frame;
-    let data = frame.data;
-    match kind {
-        NextKind::Frame => out.write_all(b"Frame")?,
-        NextKind::End => out.write_all(b"End")?,
-        NextKind::Refused(error) => {
+    match next.answer {
+        Ok(Some(_)) => out.write_all(b"Frame")?,
+        Ok(None) => out.write_all(b"End")?,
+        Err(error) => {
             out.write_all(b"Refused")?;
-            write_number(out, refusal(error))?;
+            write_number(out, u64::from(error.number()))?;
         }
     }
+    let frame = frame_in(next);
+    let data = frame.data;
     write_number(out, frame.id.0 as u64)?;
     write_frame(out, data)?;
     write_number(out, frame.len as u64)?;
@@ -302,7 +295,7 @@ fn build<W: Write>(out: &mut W, line: &[u8; 44]) -> io::Result<()> {
     let b = FastPacketBuilder {
         pgn: word(line, 1),
         source_address: byte(line, 9),
-        destination: destination(four(line, 11)),
+        destination: u8::try_from(four(line, 11)).ok(),
         priority: byte(line, 15),
         sequence_id: byte(line, 17),
         fast: two(line, 19) != 0,

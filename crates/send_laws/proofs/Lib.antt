@@ -1,4 +1,3 @@
-pub mod BuildLaws
 pub mod RoundTrip
 pub mod SentFrames
 pub mod FrameCounts

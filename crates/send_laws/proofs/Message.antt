@@ -1,6 +1,7 @@
 -- Asked again and again from the start, a builder gives the frames of its message one by one, and then End. Assumes nothing.
 use Prim.Native.Nat.{ℕ, zero, suc, ◌+◌, ◌*◌, ◌-◌, ◌%◌, ◌<◌, ◌≤◌, min}
 use mathlib.Core.List.{List}
+use Rattle.std.proofs.Common.{Option}
 use mathlib.Core.Path.{◌≡◌, refl, ap, ◌∙◌}
 use mathlib.Core.Bool.{Bool, true, false, ◌||◌}
 use native.Mathlib.Numerals.{add-one}
@@ -12,7 +13,6 @@ use Rattle.base.specs.Pick.{pick}
 use Rattle.base.specs.Answer.{gives}
 use Rattle.base.proofs.Cases.{less?}
 use Rattle.can_id.specs.Build.{build_of}
-use Rattle.can_id.specs.declared.Destination.{Destination}
 use Rattle.fast_packet.specs.FastPacket.{max_payload, listed_in}
 use Rattle.builder.specs.Builder.{fast_of, new_builder, id_builder}
 use Rattle.builder.specs.FrameBytes.{later_frame_bytes}
@@ -144,7 +144,7 @@ module _ (b : FastPacketBuilder) (id : ℕ) (p : List ℕ) (g : build_of (id_bui
   longest f l = (fast_message f 31 ∙ rw l, fast_message f 32 ∙ rw l)
 
 -- ---- so of every new builder
-module _ (pgn source : ℕ) (to : Destination) (p pgns : List ℕ) (held : ℕ) where
+module _ (pgn source : ℕ) (to : Option ℕ) (p pgns : List ℕ) (held : ℕ) where
   abbrev new : FastPacketBuilder
   new = (new_builder pgn source to p pgns held).builder
 

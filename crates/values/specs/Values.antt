@@ -1,8 +1,7 @@
 -- The cases marked P of document 01's "Bench values", as one statement about the definitions that the contracts cite.
-use Rattle.std.specs.Prelude.{ℕ, true, List, [], ◌∷◌, ◌≡◌}
+use Rattle.std.specs.Prelude.{ℕ, true, List, [], ◌∷◌, None, ◌≡◌}
 use Rattle.base.specs.Answer.{gives, refuses}
 use Rattle.can_id.specs.Build.{build_of, new_id_builder, id_with_priority, id_with_destination}
-use Rattle.can_id.specs.declared.Destination.TheVariants.{Nobody}
 use Rattle.builder.specs.Builder.{new_builder}
 use Rattle.builder.specs.Next.{next_of, frame_of, sent_step}
 use Rattle.session.specs.declared.Counters.{Counters}
@@ -74,7 +73,7 @@ pub record Values : Type 0 where
   -- "P7: PGN 0x40000: 2"
   pub p7 : build_of (new_id_builder 0x4_0000 35) ≡ refuses 2 []
   -- "P8: listed, sequence 2, payload 01 02 03: 40 03 01 02 03 FF FF FF"
-  pub p8 : next_of (new_builder 127489 35 Nobody (1 ∷ 2 ∷ 3 ∷ []) (127489 ∷ []) 2).builder 0 0 (1 ∷ 2 ∷ 3 ∷ []) ≡ sent_step (frame_of 0x19F2_0123 (0x40 ∷ 3 ∷ 1 ∷ 2 ∷ 3 ∷ 0xFF ∷ 0xFF ∷ 0xFF ∷ []) 8) 1 3
+  pub p8 : next_of (new_builder 127489 35 None (1 ∷ 2 ∷ 3 ∷ []) (127489 ∷ []) 2).builder 0 0 (1 ∷ 2 ∷ 3 ∷ []) ≡ sent_step (frame_of 0x19F2_0123 (0x40 ∷ 3 ∷ 1 ∷ 2 ∷ 3 ∷ 0xFF ∷ 0xFF ∷ 0xFF ∷ []) 8) 1 3
   -- "P9: announced 0 or 224, listed: Ignored, rejected_frames 1 each"; by document 02's No. 2 this Ignored is Rejected
   pub p9_nothing : begin 0 (0 ∷ 0 ∷ 1 ∷ 2 ∷ 3 ∷ 4 ∷ 5 ∷ 6 ∷ []) ≡ record { kind = Rejected; payload = padded []; length = 0; pool = fresh_pool 4; counters = rejected_once }
   pub p9_too_much : begin 0 (0 ∷ 224 ∷ 1 ∷ 2 ∷ 3 ∷ 4 ∷ 5 ∷ 6 ∷ []) ≡ record { kind = Rejected; payload = padded []; length = 0; pool = fresh_pool 4; counters = rejected_once }

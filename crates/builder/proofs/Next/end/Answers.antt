@@ -1,5 +1,0 @@
--- `Next::end` meets its contract. Assumes nothing.
-use Rattle.builder.proofs.Next.end.Goals as goal
-
-pub returns : goal.returns
-returns c = rw c.no_frame.ensures
