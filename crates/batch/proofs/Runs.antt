@@ -181,11 +181,13 @@ module _ (R : Rules) (l : List ℕ) (w : Rows) (p : Pool) (k : Counters) (ks₀ 
 
     -- all frames were taken
     pub ends : length w.times ≤ i
-        → record { answer = gives i; used = used; counters = c; pool = q; kinds = ks; lengths = ls; arena = ar } ≡ leaves (run_of R l w (length ar₀) p k) ks₀ ls₀ ar₀
+        → record { answer = gives (length w.times); used = used; counters = c; pool = q; kinds = ks; lengths = ls; arena = ar } ≡ leaves (run_of R l w (length ar₀) p k) ks₀ ls₀ ar₀
     unfolding run_from
     ends past =
         let none_left : length w.times - i ≡ 0 = omega (arith, h.low) in
-        stopped (rw none_left at h.run)
+        let all : length w.times ≡ i = omega (arith, past, h.low) in
+        let left : ℕ → BatchLeft = λ n. record { answer = gives n; used = used; counters = c; pool = q; kinds = ks; lengths = ls; arena = ar } in
+        ap left all ∙ stopped (rw none_left at h.run)
 
     -- a frame by the plan d, whose message has n bytes
     module _ (lt : i < length w.times) (f : Heard) (ef : f ≡ frame_in_rows w i) (d : Plan) (g : ℕ) (does : Does f q c d g (receive_of R l f q c)) (n : ℕ) (en : n ≡ d.whole + d.short) (b : Bool) (eb : b ≡ ltb (length ar) (used + n)) where

@@ -5,15 +5,16 @@
 mod batching;
 mod bytes;
 mod list_memory;
-mod row_lengths;
+mod mirror;
+mod room;
 mod rows;
 mod search;
-mod taking;
 mod walks;
 mod ways;
 
 use assembler::Pool;
 pub use batching::process_frames;
+pub use rows::FrameRows;
 use session::Counters;
 
 // Why a batch is refused: an impossible pool, or one whose key has the destination, by 1, a row that is too short for its frames by 27.

@@ -1,7 +1,7 @@
 // A batch of one frame, and the batch's own refusals.
 use crate::{left, say};
 use assembler::{Arrival, Pool};
-use batch::{Batch, BatchError, Taken, process_frames};
+use batch::{Batch, BatchError, FrameRows, Taken, process_frames};
 use session::{Counters, Mode, PoolKind};
 use std::io::{self, Write};
 
@@ -26,14 +26,17 @@ fn batch_of(
     arena: &mut [u8],
 ) -> Batch {
     let data = arrival.data;
+    let frames = FrameRows {
+        times: &[arrival.now_ms],
+        pgns: &[arrival.pgn],
+        sources: &[arrival.source_address],
+        data: &data,
+    };
     process_frames(
         pool,
         counters,
         &[PGN, OTHER_PGN],
-        &[arrival.now_ms],
-        &[arrival.pgn],
-        &[arrival.source_address],
-        &data,
+        frames,
         kinds,
         lengths,
         arena,

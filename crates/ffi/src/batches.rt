@@ -6,7 +6,7 @@ ghost use Rattle.ffi.specs.Batches.{FramesLeft};
 ghost use Rattle.ffi.specs.inner.Batches.{PoolAfter};
 
 use assembler::POOL_BYTES;
-use batch::{Batch, BatchError, Taken, process_frames};
+use batch::{Batch, BatchError, FrameRows, Taken, process_frames};
 use numbers::{POOL_NUMBERS, counter_numbers, counters_from, pool_from, put_heads};
 use session::Kind;
 
@@ -82,8 +82,12 @@ pub fn hf_raw_process_frames(
 {
     let p = pool_from(size, mode, kind, heads, bytes);
     let c = counters_from(counters);
-    let r = process_frames(
-        p, c, pgns, times, frame_pgns, sources, data, kinds, lengths, arena,
-    );
+    let frames = FrameRows {
+        times,
+        pgns: frame_pgns,
+        sources,
+        data,
+    };
+    let r = process_frames(p, c, pgns, frames, kinds, lengths, arena);
     leave_batch(r, heads, bytes, counters, counts)
 }

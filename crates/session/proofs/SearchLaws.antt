@@ -1,10 +1,9 @@
 -- The cases of the search, as the code meets them: `search (needs, choices)` finds the case. Assumes nothing.
-use Prim.Native.Nat.{ℕ, ◌%◌, ◌≤◌, ◌<◌}
-use mathlib.Core.Path.{◌≡◌, refl, ◌∙◌}
+use Prim.Native.Nat.{ℕ, ◌≤◌, ◌<◌}
+use mathlib.Core.Path.{◌≡◌, refl}
 use mathlib.Core.Bool.{Bool, true, false, not, ◌&&◌, ◌||◌}
-use lib.ListN.{get_or}
 use lib.Dec.{eqb}
-use borrow.Author.Tests.{lt-ltb, le-ltb, eq-eqb, ne_eqb}
+use borrow.Author.Tests.{lt-ltb, le-ltb}
 use Rattle.base.specs.Pick.{pick}
 use Rattle.session.specs.declared.Head.{Head}
 use Rattle.session.specs.declared.Heard.{Heard}
@@ -13,9 +12,8 @@ use Rattle.session.specs.declared.Mode.{Mode}
 use Rattle.session.specs.declared.Mode.TheVariants.{AsOriginal}
 use Rattle.session.specs.declared.PoolKind.{PoolKind}
 use Rattle.session.specs.Rules.{pool_limit, silent_by, rules_by, base}
-use Rattle.session.specs.Frames.{index_of}
 use Rattle.session.specs.Heads.{impossible_head, has_key, is_silent, is_free, is_free_of_source, has_live_key}
-use Rattle.session.specs.inner.Search.{looked, first_of, place_of, within_limit}
+use Rattle.session.specs.inner.Search.{looked, first_of}
 
 pub either_yes : (b : Bool) (x y : ℕ) → b ≡ true → x ≡ pick b x y
 unfolding pick
@@ -33,23 +31,7 @@ pub first_there : (a b : ℕ) → pool_limit ≤ a → b ≡ first_of a b
 unfolding first_of pick
 first_there a b l = rw (le-ltb a pool_limit l)
 
-pub limit_low : (i : ℕ) → i < pool_limit → i ≡ within_limit i
-unfolding within_limit pick
-limit_low i l = rw (lt-ltb i pool_limit l)
-
-pub limit_high : (i : ℕ) → pool_limit ≤ i → 0 ≡ within_limit i
-unfolding within_limit pick
-limit_high i l = rw (le-ltb i pool_limit l)
-
-pub place_first : (f : Heard) (s : Found) (x y : ℕ) → get_or f.«data» 0 0 % 32 ≡ 0 → x ≡ first_of s.own s.free → y ≡ first_of s.key x → y ≡ place_of f s
-unfolding place_of index_of pick
-place_first f s x y z ex ey = ey ∙ rw (ex, eq-eqb (get_or f.«data» 0 0 % 32) 0 z)
-
-pub place_next : (f : Heard) (s : Found) → (get_or f.«data» 0 0 % 32 ≡ 0 → ⊥) → s.live ≡ place_of f s
-unfolding place_of index_of pick
-place_next f s z = rw (ne_eqb (get_or f.«data» 0 0 % 32) 0 z)
-
-pub ruleset choices = (either_yes, either_no, first_here, first_there, limit_low, limit_high, place_first, place_next)
+pub ruleset choices = (either_yes, either_no, first_here, first_there)
 
 -- ---- one head: what each of the calls gave, put together
 pub look_is : (d : PoolKind) (m : Mode) (f : Heard) (h : Head) (s : Found) (i : ℕ) (silent keyed bad : Bool) (key live own free : ℕ)

@@ -50,7 +50,7 @@ pub enum PoolKind {
 }
 
 // A session but for its buffer. The part of its key that is the destination is 0 for none, and the destination plus 1 else.
-#[derive(Debug, Clone, Copy, PartialEq, Eq)]
+#[derive(Debug, Clone, Copy, PartialEq, Eq, Default)]
 pub struct Head {
     pub in_progress: bool,
     pub source_address: u8,

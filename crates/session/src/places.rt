@@ -6,11 +6,12 @@ ghost use Rattle.session.specs.inner.Search.{nothing_found, first_of, place_of, 
 use crate::{Found, Heard, POOL_LIMIT};
 
 // Where the walk begins: `bad` says that the pool itself is too large.
+#[tactic(auto, unfolding(crate::specs::inner::Search::nothing_found))]
 pub fn nothing_found(bad: bool) -> Found
     ensures { result ≡ nothing_found bad }
 {
     Found {
-        bad: bad,
+        bad,
         key: POOL_LIMIT,
         live: POOL_LIMIT,
         own: POOL_LIMIT,
@@ -18,6 +19,7 @@ pub fn nothing_found(bad: bool) -> Found
     }
 }
 
+#[tactic(auto, unfolding(crate::specs::inner::Search::first_of, base::specs::Pick::pick))]
 fn first_of(a: usize, b: usize) -> usize
     ensures { result ≡ first_of a b }
 {
@@ -25,11 +27,11 @@ fn first_of(a: usize, b: usize) -> usize
 }
 
 // The place that the frame takes, or POOL_LIMIT: a first frame's own key, live or not, before a free slot of its source, before any free slot.
+#[tactic(auto, unfolding(crate::specs::inner::Search::place_of, base::specs::Pick::pick))]
 pub fn place_for(s: Found, heard: Heard) -> usize
     ensures { result ≡ place_of heard s }
 {
-    let data = heard.data;
-    if data[0] % 32 == 0 {
+    if heard.index() == 0 {
         first_of(s.key, first_of(s.own, s.free))
     } else {
         s.live
@@ -37,6 +39,7 @@ pub fn place_for(s: Found, heard: Heard) -> usize
 }
 
 // A place to look at, where none was found.
+#[tactic(auto, unfolding(crate::specs::inner::Search::within_limit, base::specs::Pick::pick))]
 pub fn within_limit(i: usize) -> usize
     ensures { (result ≡ within_limit i) × (result < pool_limit) }
 {
