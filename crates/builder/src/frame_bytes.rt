@@ -15,6 +15,7 @@ pub(crate) struct Laid {
 }
 
 // A frame of eight bytes: two and 0xFF after them, with as much of the payload from `bytes_sent` on as there is room for in the bytes from `at` on.
+#[tactic(auto, using(crate::proofs::Copies::placed_row))]
 fn placed(head: u8, size: u8, at: usize, frame_index: u8, bytes_sent: usize, payload: &[u8]) -> Laid
     requires { (at ≤ 8) × (drop at (headed head size) ≡ replicate (8 - at) 255) }
     ensures { result ≡ laid_at head size at frame_index bytes_sent payload.now }

@@ -1,30 +1,23 @@
--- The laws that the proofs of `fast_packet` go by: the fold over the list, and the bytes of a frame cut short. Assumes nothing.
-use Rattle.std.proofs.Common.{◌≡◌, ℕ, zero, suc, ◌≤◌, min, Bool, true, false, ◌||◌, eqb, List, [], ◌∷◌, ◌++◌, length, take, drop, replicate, fold, refl, ap, ◌∙◌, arith}
+-- The laws that the proofs of `fast_packet` go by: what the list has, and the bytes of a frame cut short. Assumes nothing.
+use Rattle.std.proofs.Common.{◌≡◌, ℕ, zero, suc, ◌≤◌, min, Bool, eqb, List, [], ◌∷◌, ◌++◌, length, take, drop, replicate, sym, refl, ap, ◌∙◌, arith, ne_eqb}
+use Rattle.std.specs.List.{list_any}
+use Rattle.base.proofs.Cases.{same?}
 use Rattle.base.specs.Lists.{any, fill}
 use Rattle.fast_packet.specs.FastPacket.{listed_in, filled_from}
 
 -- ---- the list
-or_assoc : (a b c : Bool) → ((a || b) || c) ≡ (a || (b || c))
-or_assoc true b c = refl
-or_assoc false b c = refl
-
-or_none : (a : Bool) → a ≡ (a || false)
-or_none true = refl
-or_none false = refl
+same_way : (a b : ℕ) → eqb a b ≡ eqb b a
+same_way a b = same? a b (λ h. rw h refl) (λ h. ne_eqb a b h ∙ sym (ne_eqb b a (λ g. h (sym g))))
 
 module _ (pgn : ℕ) where
-  -- what the list's walk does at each number
-  abbrev pub hit_by : Bool → ℕ → Bool
-  hit_by hit x = hit || eqb pgn x
-
-  folded : (l : List ℕ) (hit : Bool) → fold hit_by hit l ≡ (hit || any (eqb pgn) l)
+  found : (l : List ℕ) → list_any (λ y. eqb y pgn) l ≡ any (eqb pgn) l
   unfolding any
-  folded [] hit = or_none hit
-  folded (x ∷ l) hit = folded l (hit_by hit x) ∙ or_assoc hit (eqb pgn x) (any (eqb pgn) l)
+  found [] = refl
+  found (x ∷ l) = rw (same_way x pgn, found l) refl
 
-  pub listed_fold : (l : List ℕ) {r : Bool} → r ≡ fold hit_by false l → r ≡ listed_in pgn l
+  pub listed_found : (l : List ℕ) {r : Bool} → r ≡ list_any (λ y. eqb y pgn) l → r ≡ listed_in pgn l
   unfolding listed_in
-  listed_fold l e = e ∙ folded l false
+  listed_found l e = e ∙ found l
 
 -- ---- a row of 0xFF whose first places are written is the filled row
 fill_nil : (m : ℕ) → replicate m 255 ≡ fill m []

@@ -6,7 +6,7 @@ use Rattle.std.proofs.Common.{Option, Some, None, Result, Ok, Err}
 use native.Mathlib.Omega.{arith}
 use Rattle.base.specs.Answer.{Answer, gives, refuses, code_of}
 use Rattle.base.proofs.Cases.{pick_all}
-use Rattle.can_id.specs.Read.{of_read, read_of}
+use Rattle.can_id.specs.Read.{read_number, of_read, read_of}
 use Rattle.can_id.specs.Build.{error_number, of_built, build_to, build_of}
 use Rattle.can_id.specs.declared.CanIdBuilder.{CanIdBuilder}
 use Rattle.can_id.specs.declared.CanIdBuildError.{CanIdBuildError}
@@ -31,9 +31,12 @@ pub read_other : (id : ℕ) → Other (read_of id)
 unfolding read_of
 read_other id = pick_all Other _ (omega arith) (omega arith)
 
+pub wide_other : (e : CanIdReadError) → NotThree (read_number e)
+wide_other TooWide = omega arith
+
 pub read_case_other : (r : Result CanIdParts CanIdReadError) → Other (of_read r)
 read_case_other (Ok p) = omega arith
-read_case_other (Err TooWide) = omega arith
+read_case_other (Err e) = wide_other e
 
 -- ---- building
 to_other : (t : Option ℕ) (b : CanIdBuilder) → Other (build_to t b)
@@ -65,7 +68,7 @@ module _ (b : FastPacketBuilder) (index sent : ℕ) (p : List ℕ) where
       (pick_all OtherStep _ (omega arith) (built (build_of (id_builder b)) (build_other (id_builder b))))
 
 -- ---- any answer of the code
-error_other : (e : CanIdBuildError) → NotThree (error_number e)
+pub error_other : (e : CanIdBuildError) → NotThree (error_number e)
 error_other InvalidData = omega arith
 error_other InvalidForBroadcast = omega arith
 error_other (InvalidForFocusedMessage pf) = omega arith

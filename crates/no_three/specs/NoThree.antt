@@ -3,8 +3,8 @@
 -- answer is told is not 3. A public call that is added joins, as a field or, if it tells no answer by a number, in the list at the end; `host/test` looks.
 use Rattle.std.specs.Prelude.{ℕ, ◌<◌, Bool, List, ◌≢◌, ◌≡◌, get_or, Result}
 use Rattle.base.specs.Answer.{code_of}
-use Rattle.can_id.specs.Read.{of_read, read_of}
-use Rattle.can_id.specs.Build.{of_built, build_of}
+use Rattle.can_id.specs.Read.{read_number, of_read, read_of}
+use Rattle.can_id.specs.Build.{error_number, of_built, build_of}
 use Rattle.can_id.specs.declared.CanIdBuilder.{CanIdBuilder}
 use Rattle.can_id.specs.declared.CanId.{CanId}
 use Rattle.can_id.specs.declared.CanIdBuildError.{CanIdBuildError}
@@ -69,6 +69,8 @@ pub record NoThree : Type 0 where
   -- ---- identifiers and frames, by the number of the refusal
   pub can_id_read : (id : ℕ) (r : Result CanIdParts CanIdReadError) → of_read r ≡ read_of id → NotThree (code_of (of_read r))
   pub can_id_builder_build : (b : CanIdBuilder) (r : Result CanId CanIdBuildError) → of_built r ≡ build_of b → NotThree (code_of (of_built r))
+  pub can_id_read_error_number : (e : CanIdReadError) (r : ℕ) → r ≡ read_number e → NotThree r
+  pub can_id_build_error_number : (e : CanIdBuildError) (r : ℕ) → r ≡ error_number e → NotThree r
   pub fast_packet_builder_next_frame : (b : FastPacketBuilder) (index sent : ℕ) (payload : List ℕ) (r : Next)
       → of_next r ≡ next_of b index sent payload → NotThree (next_code (of_answer r.answer))
   pub frame_iterator_next : (t : FrameIterator) (payload : List ℕ) (r : Item) → turn_of r ≡ next_turn t payload → NotThree (next_code (of_answer r.answer))
