@@ -1,4 +1,3 @@
-pub mod MemoryLaws
 pub mod LengthLaws
 pub mod RowLaws
 pub mod SearchLaws

@@ -1,17 +1,12 @@
 -- The rows beside the heads, and the memory of the list, after a store. Assumes nothing.
-use Rattle.std.proofs.Common.{◌≡◌, ℕ, zero, suc, ◌+◌, ◌%◌, ◌<◌, Bool, false, List, [], ◌∷◌, length, get_or, set, replicate, sym, refl, ◌∙◌, subst, le_of_suc-le-suc, not-suc-le-zero, arith, length-set, get_or-set_other, get_or-set_same}
-use lib.ListN.{length-replicate, get_or-replicate}
+use Rattle.std.proofs.Common.{◌≡◌, ℕ, zero, suc, ◌+◌, ◌<◌, List, [], ◌∷◌, length, get_or, set, refl, le_of_suc-le-suc, not-suc-le-zero, arith, length-set, get_or-set_other, get_or-set_same}
 use lib.Seq.{set-get_or}
 use Rattle.base.proofs.Cases.{same?}
-use Rattle.fast_packet.specs.FastPacket.{listed_in}
 use Rattle.session.specs.declared.Head.{Head}
 use Rattle.session.specs.declared.Heard.{Heard}
 use Rattle.session.specs.Rules.{pool_limit}
 use Rattle.session.specs.Heads.{copied_head}
-use Rattle.batch.specs.inner.Looked.{Looked, recalled, learnt, looked_of}
-use Rattle.batch.proofs.MemoryLaws.{looked_known, looked_new}
 use Rattle.batch.specs.inner.Mirror.{key_number, Shows, Mirrors}
-use Rattle.batch.specs.inner.Memory.{places, Remembers}
 
 -- within a list the default does not matter
 get_d_any : {A : Type 0} (l : List A) (i : ℕ) (d e : A) → i < length l → get_or l i d ≡ get_or l i e
@@ -58,43 +53,3 @@ module _ (hs : List Head) (ks os ts : List ℕ) where
     mirrors_run i lt t et long m =
         rw (set-get_or ks i 0, set-get_or os i 0) at
         (mirrors_set i lt (get_or ks i 0) (get_or os i 0) f.now_ms t long m (rw et (shows_copied (get_or hs i d) _ _ _ (m.at i d lt))))
-
--- ---- the memory
-
-pub remembers_none : (list : List ℕ) (b : Bool) → b ≡ listed_in 0 list → Remembers list (replicate 64 0) (replicate 64 b)
-remembers_none list b e =
-    record {
-      asked = length-replicate {A = ℕ} 64 0;
-      known = length-replicate {A = Bool} 64 b;
-      right = λ k h. rw (get_or-replicate {A = Bool} 64 k b false h, get_or-replicate {A = ℕ} 64 k 0 0 h) e;
-    }
-
-module _ (list ps : List ℕ) (bs : List Bool) (m : Remembers list ps bs) (i : ℕ) (lt : i < places) (p : ℕ) where
-  pub remembered : get_or ps i 0 ≡ p → get_or bs i false ≡ listed_in p list
-  remembered e = m.right i lt ∙ rw e
-
-  pub remembers_turn : (b : Bool) → b ≡ listed_in p list → Remembers list (set ps i p) (set bs i b)
-  remembers_turn b e =
-      record {
-        asked = simp length-set m.asked;
-        known = simp length-set m.known;
-        right = λ k h.
-            same? k i
-            (λ q. rw (q, get_or-set_same ps i p 0 (omega (arith, m.asked)), get_or-set_same bs i b false (omega (arith, m.known))) e)
-            (λ q. rw (get_or-set_other ps i k p 0 q, get_or-set_other bs i k b false q) (m.right k h));
-      }
-
--- a memory that is right answers as the list does, and is right after it
-module _ (list ps : List ℕ) (bs : List Bool) (m : Remembers list ps bs) (p : ℕ) where
-  abbrev Right : Looked → Type 0
-  Right x = (x.answer ≡ listed_in p list) × Remembers list x.asked x.known
-
-  right_looked : Right (looked_of list ps bs p)
-  unfolding recalled learnt
-  right_looked =
-      same? (get_or ps (p % 64) 0) p
-      (λ e. subst Right (looked_known list ps bs p e) (remembered list ps bs m (p % 64) (omega arith) p e, m))
-      (λ n. subst Right (looked_new list ps bs p n) (refl, remembers_turn list ps bs m (p % 64) (omega arith) p (listed_in p list) refl))
-
-  pub looked_right : (r : Bool) (ps' : List ℕ) (bs' : List Bool) → record { answer = r; asked = ps'; known = bs' } ≡ looked_of list ps bs p → (r ≡ listed_in p list) × Remembers list ps' bs'
-  looked_right r ps' bs' e = subst Right (sym e) right_looked

@@ -1,5 +1,6 @@
 -- The promise of `process_frames` and the equation that it stands for: each gives the other. Assumes nothing.
-use Rattle.std.proofs.Common.{◌≡◌, ℕ, true, eqb, List, sym, refl, ap, ◌∙◌, true≢false}
+use Rattle.std.proofs.Common.{◌≡◌, ℕ, eqb, List, sym, refl, ap, ◌∙◌}
+use Rattle.std.specs.Prelude.{Result, Ok, Err}
 use Rattle.base.specs.Answer.{Answer, gives, refuses}
 use Rattle.base.specs.Pick.{pick}
 use Rattle.session.specs.declared.Counters.{Counters}
@@ -7,30 +8,36 @@ use Rattle.session.specs.Rules.{rules_by}
 use Rattle.assembler.specs.declared.Pool.{Pool}
 use Rattle.assembler.specs.Promises.{rules_of}
 use Rattle.batch.specs.declared.Batch.{Batch}
-use Rattle.batch.specs.declared.Batched.{Batched}
-use Rattle.batch.specs.declared.Batched.TheVariants.{Done, ImpossiblePool, NoRoom}
-use Rattle.batch.specs.Rows.{BatchLeft, batch_of, of_batched, taken_in, AreLeft, Batches}
-use Rattle.batch.specs.inner.Ways.{is_refused}
+use Rattle.batch.specs.declared.BatchError.{BatchError}
+use Rattle.batch.specs.declared.BatchError.TheVariants.{ImpossiblePool, NoRoom}
+use Rattle.batch.specs.declared.Taken.{Taken}
+use Rattle.batch.specs.Rows.{BatchLeft, batch_of, of_batched, frames_in, bytes_in, taken_in, AreLeft, Batches}
 
 -- an answer and lent rows as what a batch leaves
 abbrev pub left_by : Batch → List ℕ → List ℕ → List ℕ → BatchLeft
-left_by r kinds lengths arena = record { answer = of_batched r.result r.taken; used = r.used; counters = r.counters; pool = r.pool; kinds = kinds; lengths = lengths; arena = arena }
+left_by r kinds lengths arena = record { answer = of_batched r.result; used = bytes_in r.result; counters = r.counters; pool = r.pool; kinds = kinds; lengths = lengths; arena = arena }
 
 -- ---- the case that 01's answer names
 
-unfoldable pub case_of : Answer ℕ → Batched
-case_of (gives taken) = Done
-case_of (refuses n carried) = pick (eqb n 1) ImpossiblePool NoRoom
+unfoldable pub case_of : Answer ℕ → ℕ → Result Taken BatchError
+case_of (gives frames) bytes = Ok (record { frames = frames; bytes = bytes })
+case_of (refuses n carried) bytes = pick (eqb n 1) (Err ImpossiblePool) (Err NoRoom)
 
-case_back : (b : Batched) (taken : ℕ) → case_of (of_batched b taken) ≡ b
-unfolding case_of of_batched pick
-case_back Done taken = refl
-case_back ImpossiblePool taken = refl
-case_back NoRoom taken = refl
+case_back : (b : Result Taken BatchError) → case_of (of_batched b) (bytes_in b) ≡ b
+unfolding case_of of_batched bytes_in pick
+case_back (Ok taken) = refl
+case_back (Err ImpossiblePool) = refl
+case_back (Err NoRoom) = refl
+
+frames_back : (b : Result Taken BatchError) → frames_in b ≡ taken_in (of_batched b)
+unfolding frames_in of_batched taken_in
+frames_back (Ok taken) = refl
+frames_back (Err ImpossiblePool) = refl
+frames_back (Err NoRoom) = refl
 
 -- the answer that is read off what a batch leaves
 unfoldable pub answer_from : BatchLeft → Batch
-answer_from l = record { result = case_of l.answer; taken = taken_in l.answer; used = l.used; counters = l.counters; pool = l.pool }
+answer_from l = record { result = case_of l.answer l.used; counters = l.counters; pool = l.pool }
 
 module _ {l : BatchLeft} {r : Batch} {kinds lengths arena : List ℕ} (h : AreLeft l r kinds lengths arena) where
   left_is : left_by r kinds lengths arena ≡ l
@@ -39,21 +46,21 @@ module _ {l : BatchLeft} {r : Batch} {kinds lengths arena : List ℕ} (h : AreLe
   pub answer_is : r ≡ answer_from l
   unfolding answer_from
   answer_is =
-      let case : r.result ≡ case_of l.answer = sym (case_back r.result r.taken) ∙ ap case_of h.answer in
-      rw (case, h.taken, h.used, h.counted, h.left) refl
+      let case : r.result ≡ case_of l.answer l.used = sym (case_back r.result) ∙ rw (h.answer, h.used) refl in
+      rw (case, h.counted, h.left) refl
 
 -- ---- the promise
 
 module _ {list times pgns sources bytes : List ℕ} {p : Pool} {k : Counters} {kinds lengths arena : List ℕ} {r : Batch} {kinds' lengths' arena' : List ℕ} where
   promised : left_by r kinds' lengths' arena' ≡ batch_of (rules_by p.kind p.mode) list (record { times = times; pgns = pgns; sources = sources; bytes = bytes }) p k kinds lengths arena
-      → r.taken ≡ taken_in (of_batched r.result r.taken) → Batches list times pgns sources bytes p k kinds lengths arena r kinds' lengths' arena'
+      → Batches list times pgns sources bytes p k kinds lengths arena r kinds' lengths' arena'
   unfolding rules_of
-  promised e t =
+  promised e =
       record {
         leaves_these =
             record {
               answer = ap (λ (x : BatchLeft). x.answer) e;
-              taken = t ∙ ap (λ (x : BatchLeft). taken_in x.answer) e;
+              taken = frames_back r.result ∙ ap (λ (x : BatchLeft). taken_in x.answer) e;
               used = ap (λ (x : BatchLeft). x.used) e;
               counted = ap (λ (x : BatchLeft). x.counters) e;
               left = ap (λ (x : BatchLeft). x.pool) e;
@@ -72,16 +79,14 @@ module _ {list times pgns sources bytes : List ℕ} {p : Pool} {k : Counters} {k
   pub batched : {taken used : ℕ} {c : Counters} {q : Pool} {kinds' lengths' arena' : List ℕ}
       → record { answer = gives taken; used = used; counters = c; pool = q; kinds = kinds'; lengths = lengths'; arena = arena' }
       ≡ batch_of (rules_by p.kind p.mode) list (record { times = times; pgns = pgns; sources = sources; bytes = bytes }) p k kinds lengths arena
-      → Batches list times pgns sources bytes p k kinds lengths arena (record { result = Done; taken = taken; used = used; counters = c; pool = q }) kinds' lengths' arena'
-  unfolding of_batched
-  batched e = promised e (unfold taken_in in refl)
+      → Batches list times pgns sources bytes p k kinds lengths arena (record { result = Ok (record { frames = taken; bytes = used }); counters = c; pool = q }) kinds' lengths' arena'
+  unfolding of_batched bytes_in
+  batched e = promised e
 
   -- and of one that was refused
-  pub batch_refused : (b : Batched) → is_refused b ≡ true
-      → record { answer = of_batched b 0; used = 0; counters = k; pool = p; kinds = kinds; lengths = lengths; arena = arena }
+  pub batch_refused : (e : BatchError)
+      → record { answer = of_batched (Err e); used = 0; counters = k; pool = p; kinds = kinds; lengths = lengths; arena = arena }
       ≡ batch_of (rules_by p.kind p.mode) list (record { times = times; pgns = pgns; sources = sources; bytes = bytes }) p k kinds lengths arena
-      → Batches list times pgns sources bytes p k kinds lengths arena (record { result = b; taken = 0; used = 0; counters = k; pool = p }) kinds lengths arena
-  unfolding is_refused of_batched taken_in
-  batch_refused Done y e = absurd (true≢false (sym y))
-  batch_refused ImpossiblePool y e = promised e refl
-  batch_refused NoRoom y e = promised e refl
+      → Batches list times pgns sources bytes p k kinds lengths arena (record { result = Err e; counters = k; pool = p }) kinds lengths arena
+  unfolding bytes_in
+  batch_refused e h = promised h

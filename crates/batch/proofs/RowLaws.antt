@@ -1,8 +1,9 @@
 -- The cases of the tests on rows, as the code meets them. Assumes nothing.
 use Rattle.std.proofs.Common.{◌≡◌, ℕ, ◌+◌, ◌-◌, ◌*◌, ◌<◌, ◌≤◌, Bool, true, false, ltb, sym, ◌∙◌, arith, ltb-false}
+use Rattle.std.specs.Prelude.{Ok, Err}
 use Rattle.base.specs.Pick.{pick}
 use Rattle.session.specs.Rules.{pool_limit}
-use Rattle.batch.specs.declared.Batched.TheVariants.{Done, ImpossiblePool, NoRoom}
+use Rattle.batch.specs.declared.BatchError.TheVariants.{ImpossiblePool, NoRoom}
 use Rattle.batch.specs.inner.Ways.{refusal_of}
 
 -- a message that has room fits
@@ -11,16 +12,16 @@ has_room room used n b eb y = ltb-false room (used + n) (sym eb ∙ y)
 
 -- the refusal, by what the code's two tests say
 module _ (bad short b : Bool) (eb : b ≡ bad) where
-  pub refused_bad : b ≡ true → ImpossiblePool ≡ refusal_of bad short
+  pub refused_bad : b ≡ true → Err ImpossiblePool ≡ refusal_of bad short
   unfolding refusal_of pick
   refused_bad y = rw (← eb, y)
 
   module _ (y : b ≡ false) (s : Bool) (es : s ≡ short) where
-    pub refused_short : s ≡ true → NoRoom ≡ refusal_of bad short
+    pub refused_short : s ≡ true → Err NoRoom ≡ refusal_of bad short
     unfolding refusal_of pick
     refused_short z = rw (← eb, y, ← es, z)
 
-    pub refused_none : s ≡ false → Done ≡ refusal_of bad short
+    pub refused_none : s ≡ false → Ok tt ≡ refusal_of bad short
     unfolding refusal_of pick
     refused_none z = rw (← eb, y, ← es, z)
 

@@ -31,8 +31,9 @@ use Rattle.assembler.specs.Promises.{same_kind}
 use Rattle.assembler.proofs.Views.{Whole, any_view}
 use Rattle.assembler.proofs.Carries.{carried, Does, slot_long}
 use Rattle.batch.proofs.WayLaws.{short_plan, run_plan}
-use Rattle.batch.specs.declared.Batched.{Batched}
-use Rattle.batch.specs.inner.Ways.{refusal_of, is_refused}
+use Rattle.std.specs.Prelude.{Result, Ok, Err, is_err}
+use Rattle.batch.specs.declared.BatchError.{BatchError}
+use Rattle.batch.specs.inner.Ways.{refusal_of}
 use Rattle.batch.specs.Lengths.{too_short}
 use Rattle.batch.specs.Rows.{Rows, frame_in_rows, refuses_pool, Run, empty_run, took, answer_in, run_from, run_of, BatchLeft, over, leaves, refused_by, batch_of, of_batched}
 
@@ -180,11 +181,13 @@ module _ (R : Rules) (l : List ℕ) (w : Rows) (p : Pool) (k : Counters) (ks₀ 
 
     -- all frames were taken
     pub ends : length w.times ≤ i
-        → record { answer = gives i; used = used; counters = c; pool = q; kinds = ks; lengths = ls; arena = ar } ≡ leaves (run_of R l w (length ar₀) p k) ks₀ ls₀ ar₀
+        → record { answer = gives (length w.times); used = used; counters = c; pool = q; kinds = ks; lengths = ls; arena = ar } ≡ leaves (run_of R l w (length ar₀) p k) ks₀ ls₀ ar₀
     unfolding run_from
     ends past =
         let none_left : length w.times - i ≡ 0 = omega (arith, h.low) in
-        stopped (rw none_left at h.run)
+        let all : length w.times ≡ i = omega (arith, past, h.low) in
+        let left : ℕ → BatchLeft = λ n. record { answer = gives n; used = used; counters = c; pool = q; kinds = ks; lengths = ls; arena = ar } in
+        ap left all ∙ stopped (rw none_left at h.run)
 
     -- a frame by the plan d, whose message has n bytes
     module _ (lt : i < length w.times) (f : Heard) (ef : f ≡ frame_in_rows w i) (d : Plan) (g : ℕ) (does : Does f q c d g (receive_of R l f q c)) (n : ℕ) (en : n ≡ d.whole + d.short) (b : Bool) (eb : b ≡ ltb (length ar) (used + n)) where
@@ -333,6 +336,16 @@ module _ (R : Rules) (l : List ℕ) (w : Rows) (p : Pool) (k : Counters) (ks₀ 
 
 -- ---- the call's ways out
 
+err_same : {d e : BatchError} → ◌≡◌ {A = Result Unit BatchError} (Err d) (Err e) → d ≡ e
+err_same {d} h = ap (λ (r : Result Unit BatchError). either r) h
+  where
+    either : Result Unit BatchError → BatchError
+    either (Ok u) = d
+    either (Err e) = e
+
+err≢ok : {d : BatchError} → ◌≡◌ {A = Result Unit BatchError} (Err d) (Ok tt) → ⊥
+err≢ok h = true≢false (ap is_err h)
+
 is_original : (kind : PoolKind) → not (same_kind Original kind) ≡ false → kind ≡ Original
 unfolding same_kind
 is_original Original e = refl
@@ -347,26 +360,26 @@ module _ (R : Rules) (l : List ℕ) (w : Rows) (p : Pool) (k : Counters) (ks ls 
   abbrev short : Bool
   short = too_short (length w.times) (length w.pgns) (length w.sources) (length w.bytes) (length ks) (length ls)
 
-  module _ (limit : R.limit ≡ pool_limit) (f : Heard) (r : Batched) (said : r ≡ refusal_of (not (same_kind Original p.kind) || (found_in R f p.size p.heads).bad) short) where
+  module _ (limit : R.limit ≡ pool_limit) (f : Heard) (r : Result Unit BatchError) (said : r ≡ refusal_of (not (same_kind Original p.kind) || (found_in R f p.size p.heads).bad) short) where
     er : r ≡ refusal_of (refuses_pool R p) short
     unfolding refuses_pool
     er = said ∙ rw (looked_at R f p limit)
 
-    pub gives_refused : is_refused r ≡ true → record { answer = of_batched r 0; used = 0; counters = k; pool = p; kinds = ks; lengths = ls; arena = ar } ≡ batch_of R l w p k ks ls ar
-    unfolding batch_of refused_by refusal_of is_refused of_batched pick
-    gives_refused y = go (refuses_pool R p) short er
+    pub gives_refused : (e : BatchError) → r ≡ Err e → record { answer = of_batched (Err e); used = 0; counters = k; pool = p; kinds = ks; lengths = ls; arena = ar } ≡ batch_of R l w p k ks ls ar
+    unfolding batch_of refused_by refusal_of of_batched pick
+    gives_refused err y = go (refuses_pool R p) short (sym y ∙ er)
       where
-        go : (b s : Bool) → r ≡ refusal_of b s
-            → record { answer = of_batched r 0; used = 0; counters = k; pool = p; kinds = ks; lengths = ls; arena = ar } ≡ pick b (refused_by 1 p k ks ls ar) (pick s (refused_by 27 p k ks ls ar) (leaves (run_of R l w (length ar) p k) ks ls ar))
-        go true s e = rw e
-        go false true e = rw e
-        go false false e = absurd (true≢false (sym y ∙ ap is_refused e))
+        go : (b s : Bool) → Err err ≡ refusal_of b s
+            → record { answer = of_batched (Err err); used = 0; counters = k; pool = p; kinds = ks; lengths = ls; arena = ar } ≡ pick b (refused_by 1 p k ks ls ar) (pick s (refused_by 27 p k ks ls ar) (leaves (run_of R l w (length ar) p k) ks ls ar))
+        go true s e = rw (err_same e)
+        go false true e = rw (err_same e)
+        go false false e = absurd (err≢ok e)
 
-    module _ (z : is_refused r ≡ false) where
+    module _ (z : (e : BatchError) → r ≡ Err e → ⊥) where
       unrefused : (b s : Bool) → r ≡ refusal_of b s → (b ≡ false) × (s ≡ false)
-      unfolding refusal_of is_refused pick
-      unrefused true s e = absurd (true≢false (sym (ap is_refused e) ∙ z))
-      unrefused false true e = absurd (true≢false (sym (ap is_refused e) ∙ z))
+      unfolding refusal_of pick
+      unrefused true s e = absurd (z _ e)
+      unrefused false true e = absurd (z _ e)
       unrefused false false e = (refl, refl)
 
       pub possible : impossible R (slots_of p) ≡ false

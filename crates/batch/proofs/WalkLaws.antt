@@ -1,5 +1,6 @@
 -- The cases of the tests of one place, how far a walk has come, and that the one walk's choice is that of three. Assumes nothing.
-use Rattle.std.proofs.Common.{◌≡◌, ℕ, zero, suc, ◌+◌, ◌-◌, ◌%◌, ◌<◌, ◌≤◌, Bool, true, false, not, ◌&&◌, ◌||◌, eqb, ltb, List, get_or, sym, refl, ap, ◌∙◌, true≢false, add-zero, zero-add, arith, le-ltb, lt-ltb, eq-eqb, ne_eqb}
+use Rattle.std.proofs.Common.{◌≡◌, ℕ, zero, suc, ◌+◌, ◌-◌, ◌%◌, ◌<◌, ◌≤◌, Bool, true, false, not, ◌&&◌, ◌||◌, eqb, ltb, List, get_or, sym, refl, ap, ◌∙◌, add-zero, zero-add, arith, le-ltb, lt-ltb, eq-eqb, ne_eqb}
+use Rattle.std.specs.Prelude.{Option, Some, None, unwrap_or, IfSome}
 use Rattle.base.specs.Pick.{pick}
 use Rattle.base.proofs.Bools.{or_left, or_right}
 use Rattle.base.proofs.Cases.{less?}
@@ -8,9 +9,9 @@ use Rattle.session.specs.declared.Mode.TheVariants.{AsOriginal, SetBackIsSilence
 use Rattle.session.specs.Rules.{pool_limit, silence, silent_by}
 use Rattle.session.specs.inner.Search.{first_of}
 use Rattle.session.proofs.SearchLaws.{first_here}
-use Rattle.batch.specs.declared.walks.Stop.{Stop}
+use Rattle.batch.specs.declared.walks.Stop.TheVariants.{Keyed, Other, Nowhere}
 use Rattle.batch.specs.inner.Mirror.{first_from, key_at, open_at, own_at, live_at, chosen_in}
-use Rattle.batch.specs.inner.Walks.{clock_end, heard_within, owner_at, in_four, Past, Stops, keyed, other, nowhere}
+use Rattle.batch.specs.inner.Walks.{clock_end, heard_within, owner_at, in_four, Past, Stops}
 
 -- ---- tests of one place
 
@@ -34,10 +35,16 @@ module _ (time last : ℕ) where
         (λ y. lt-ltb (time - (time - 500)) d (omega (arith, round)) ∙ sym (lt-ltb time last y))
         (λ n. le-ltb (time - (time - 500)) d (omega (arith, round)) ∙ sym (le-ltb time last n))))
 
-    pub silent_is : (mode : Mode) (c : ℕ) → c ≡ heard_within mode time → ltb c d ≡ silent_by mode time last
+    silent_from : (mode : Mode) (c : ℕ) → c ≡ heard_within mode time → ltb c d ≡ silent_by mode time last
     unfolding silent_by heard_within
-    silent_is AsOriginal c e = rw e to_the_end
-    silent_is SetBackIsSilence c e = rw e up_to_now
+    silent_from AsOriginal c e = rw e to_the_end
+    silent_from SetBackIsSilence c e = rw e up_to_now
+
+  -- as the code has it: the wrapping difference of the last time and the silence's end
+  pub silent_is : time ≤ clock_end → last ≤ clock_end → (s : ℕ) → s ≡ time - 500 → (mode : Mode) (c : ℕ) → c ≡ heard_within mode time
+      → ltb c ((last + (clock_end + 1 - s)) % (clock_end + 1)) ≡ silent_by mode time last
+  silent_is early small s es mode c e =
+      silent_from early small ((last + (clock_end + 1 - s)) % (clock_end + 1)) (omega arith) (omega (arith, early, small, es)) mode c e
 
   module _ (mode : Mode) where
     pub open_is : (k : ℕ) (b : Bool) → b ≡ silent_by mode time last → (eqb k 0 || b) ≡ (eqb k 0 || silent_by mode time last)
@@ -129,8 +136,8 @@ module _ (mode : Mode) (keys owners lasts : List ℕ) (source time : ℕ) (i s r
       past_join t i (s + 1) r (past_turn t i s p e) (past_with (owner_at owners source) t (s + 1) r (λ j. own_owner mode keys owners lasts source time j) q)
 
 -- a walk that came to the end
-pub past_all : (k t : ℕ → Bool) (i s n : ℕ) → s ≤ n → n ≤ s → Past k i s → Past t i s → Stops k t i n (record { at = pool_limit; keyed = false })
-past_all k t i s n l h p q = let all : s ≡ n = omega arith in nowhere refl refl (rw all at p) (rw all at q)
+pub past_end : (t : ℕ → Bool) (i s n : ℕ) → s ≤ n → n ≤ s → Past t i s → Past t i n
+past_end t i s n l h p = let all : s ≡ n = omega arith in rw all at p
 
 -- ---- the first place that passes, from what was passed by
 
@@ -178,45 +185,15 @@ module _ (t : ℕ → Bool) where
   pub all_missed : (s n : ℕ) → n ≤ s → s ≤ n → Past t 0 s → pool_limit ≡ first_from t 0 n
   all_missed s n l h p = let all : s ≡ n = omega arith in sym (first_none n (rw all at p))
 
--- ---- what the place where a walk stopped says
+-- ---- a place that was found, if one was, is one of n
 
-module _ (k t : ℕ → Bool) (i n : ℕ) (small : n ≤ pool_limit) (r : Stop) where
-  record AtKey : Type 0 where
-    low : r.at < n
-    keys : Past k i r.at
-    key : k r.at ≡ true
+pub low_within : (o : Option ℕ) (n : ℕ) → n ≤ pool_limit → IfSome o (λ (s : ℕ). s < n) → IfSome o (λ (s : ℕ). s < pool_limit)
+low_within None n small l = l
+low_within (Some s) n small l = omega (arith, small, l)
 
-  record AtOther : Type 0 where
-    low : r.at < n
-    keys : Past k i (r.at + 1)
-    others : Past t i r.at
-    here : t r.at ≡ true
-
-  record Nowhere : Type 0 where
-    keys : Past k i n
-    others : Past t i n
-
-  at_key : Stops k t i n r → r.keyed ≡ true → AtKey
-  at_key (keyed e l p y) h = record { low = l; keys = p; key = y }
-  at_key (other e l p q y) h = absurd (true≢false (sym h ∙ e))
-  at_key (nowhere e l p q) h = absurd (true≢false (sym h ∙ e))
-
-  at_other : Stops k t i n r → r.keyed ≡ false → r.at < pool_limit → AtOther
-  at_other (keyed e l p y) h m = absurd (true≢false (sym e ∙ h))
-  at_other (other e l p q y) h m = record { low = l; keys = p; others = q; here = y }
-  at_other (nowhere e l p q) h m = absurd (omega arith)
-
-  at_none : Stops k t i n r → r.keyed ≡ false → pool_limit ≤ r.at → Nowhere
-  at_none (keyed e l p y) h m = absurd (true≢false (sym e ∙ h))
-  at_none (other e l p q y) h m = absurd (omega arith)
-  at_none (nowhere e l p q) h m = record { keys = p; others = q }
-
-  -- it goes on from there
-  pub stop_low : Stops k t i n r → r.keyed ≡ false → r.at < pool_limit → r.at < n
-  stop_low st h m = (at_other st h m).low
-
-  pub stop_other : Stops k t i n r → r.keyed ≡ false → r.at < pool_limit → k r.at ≡ false
-  stop_other st h m = let at = at_other st h m in at.keys.fails r.at at.others.low (omega arith)
+pub own_low : (o : Option ℕ) (n b : ℕ) → b < n → IfSome o (λ (s : ℕ). s < n) → unwrap_or o b < n
+own_low None n b low l = low
+own_low (Some s) n b low l = l
 
 -- ---- the one walk's choice is that of a walk for each candidate
 
@@ -241,43 +218,40 @@ module _ (mode : Mode) (keys owners lasts : List ℕ) (n key source time : ℕ) 
   unfolding chosen_in
   at_first_key s l p y = first_here s (first_of (first_from o 0 n) (first_from v 0 n)) (omega arith) ∙ rw (first_is k s n l p y)
 
-  module _ (a : Stop) (first : Stops k v 0 n a) where
-    pub chosen_key : a.keyed ≡ true → a.at ≡ chosen
-    chosen_key h = let at = at_key k v 0 n small a first h in at_first_key a.at at.low at.keys at.key
+  pub chosen_key : (s : ℕ) → Stops k v 0 n (Keyed s) → s ≡ chosen
+  chosen_key s at = at_first_key s at.0 at.1 at.2
 
-    pub chosen_none : a.keyed ≡ false → pool_limit ≤ a.at → pool_limit ≡ chosen
+  pub chosen_none : Stops k v 0 n Nowhere → pool_limit ≡ chosen
+  unfolding chosen_in first_of pick
+  chosen_none at = rw (first_none k n at.0, first_none o n (own_past 0 n at.1), first_none v n at.1)
+
+  module _ (a : ℕ) (free : Stops k v 0 n (Other a)) where
+    pub free_unkeyed : k a ≡ false
+    free_unkeyed = free.1.fails a (omega arith) (omega arith)
+
+    -- what the first part of the walk passed by, the second need not look at
+    keys_on : (r : ℕ) → Past k a r → Past k 0 r
+    keys_on r p = past_join k 0 a r (record { low = omega arith; fails = λ j l h. free.1.fails j l (omega arith) }) p
+
+    owns_on : (r : ℕ) → Past o a r → Past o 0 r
+    owns_on r p = past_join o 0 a r (own_past 0 a free.2) p
+
+    pub chosen_later_key : (b : ℕ) → Stops k o a n (Keyed b) → b ≡ chosen
+    chosen_later_key b at = at_first_key b at.0 (keys_on b at.1) at.2
+
+    pub chosen_free : Stops k o a n Nowhere → a ≡ chosen
     unfolding chosen_in first_of pick
-    chosen_none h m =
-        let at = at_none k v 0 n small a first h m in
-        rw (first_none k n at.keys, first_none o n (own_past 0 n at.others), first_none v n at.others)
+    chosen_free at = rw (first_none k n (keys_on n at.0), first_none o n (owns_on n at.1), first_is v a n free.0 free.2 free.3)
 
-    module _ (unkeyed : a.keyed ≡ false) (some : a.at < pool_limit) (b : Stop) (second : Stops k o a.at n b) where
-      free : AtOther k v 0 n small a
-      free = at_other k v 0 n small a first unkeyed some
-
-      -- what the first part of the walk passed by, the second need not look at
-      keys_on : (r : ℕ) → Past k a.at r → Past k 0 r
-      keys_on r p = past_join k 0 a.at r (record { low = omega arith; fails = λ j l h. free.keys.fails j l (omega arith) }) p
-
-      owns_on : (r : ℕ) → Past o a.at r → Past o 0 r
-      owns_on r p = past_join o 0 a.at r (own_past 0 a.at free.others) p
-
-      pub chosen_later_key : b.keyed ≡ true → b.at ≡ chosen
-      chosen_later_key h = let at = at_key k o a.at n small b second h in at_first_key b.at at.low (keys_on b.at at.keys) at.key
-
-      pub chosen_free : b.keyed ≡ false → pool_limit ≤ b.at → a.at ≡ chosen
-      unfolding chosen_in first_of pick
-      chosen_free h m =
-          let at = at_none k o a.at n small b second h m in
-          rw (first_none k n (keys_on n at.keys), first_none o n (owns_on n at.others), first_is v a.at n free.low free.others free.here)
-
-      pub chosen_own : b.keyed ≡ false → b.at < pool_limit → (c : ℕ) → c ≡ first_from k (b.at + 1) (n - (b.at + 1)) → (r : ℕ) → r ≡ first_of c b.at → r ≡ chosen
-      unfolding chosen_in
-      chosen_own h m c ec r er =
-          let at = at_other k o a.at n small b second h m in
-          let all : n - 0 ≡ n = omega arith in
-          let key : first_from k 0 n ≡ c = (rw all at (first_on k 0 (b.at + 1) n (omega (arith, at.low)) (keys_on (b.at + 1) at.keys))) ∙ sym ec in
-          let here : first_from o 0 n ≡ b.at = first_is o b.at n at.low (owns_on b.at at.others) at.here in
-          er ∙ rw (key, here, ← first_here b.at (first_from v 0 n) m)
-
-pub ruleset choosing = (chosen_key, chosen_none, chosen_later_key, chosen_free, chosen_own)
+    -- the key after the own place, if there is one
+    pub chosen_own : (b : ℕ) → Stops k o a n (Other b) → (c : Option ℕ) → unwrap_or c pool_limit ≡ first_from k (b + 1) (n - (b + 1)) → IfSome c (λ (s : ℕ). s < n) → unwrap_or c b ≡ chosen
+    unfolding chosen_in first_of pick
+    chosen_own b at c ec low =
+        let all : n - 0 ≡ n = omega arith in
+        let key : first_from k 0 n ≡ unwrap_or c pool_limit = (rw all at (first_on k 0 (b + 1) n (omega (arith, at.0)) (keys_on (b + 1) at.1))) ∙ sym ec in
+        let here : first_from o 0 n ≡ b = first_is o b n at.0 (owns_on b at.2) at.3 in
+        key_or_own c low ∙ rw (key, here, ← first_here b (first_from v 0 n) (omega (arith, at.0)))
+      where
+        key_or_own : (c : Option ℕ) → IfSome c (λ (s : ℕ). s < n) → unwrap_or c b ≡ first_of (unwrap_or c pool_limit) b
+        key_or_own None l = refl
+        key_or_own (Some s) l = first_here s b (omega (arith, l))

@@ -1,69 +1,56 @@
 -- The cases of the ways that most frames go, as the code meets them, and the plans that they stand for. Assumes nothing.
-use Rattle.std.proofs.Common.{◌≡◌, ℕ, ◌+◌, ◌-◌, ◌%◌, ◌<◌, ◌≤◌, Bool, true, false, not, eqb, ltb, leb, get_or, sym, refl, ◌∙◌, true≢false, arith, ltb-true, le-ltb, lt-ltb, eq-eqb, ne_eqb, eqb-true, le-leb, leb-true}
-use borrow.Author.Tests.{not-true, not-false, lt-leb}
+use Rattle.std.proofs.Common.{◌≡◌, ℕ, ◌+◌, ◌-◌, ◌%◌, ◌<◌, ◌≤◌, Bool, true, false, eqb, ltb, leb, get_or, sym, refl, ◌∙◌, true≢false, arith, ltb-true, le-ltb, eq-eqb, ne_eqb, eqb-true, le-leb, leb-true}
+use borrow.Author.Tests.{lt-leb}
 use Rattle.base.specs.Pick.{pick}
 use Rattle.session.specs.declared.Heard.{Heard}
 use Rattle.session.specs.declared.Head.{Head}
 use Rattle.session.specs.declared.Plan.{Plan}
-use Rattle.session.specs.declared.Counters.{Counters}
 use Rattle.session.specs.declared.Kind.TheVariants.{NotListed, Rejected, PoolFull, Lost, FragmentConsumed, MessageComplete}
 use Rattle.std.specs.Prelude.{Some, None}
 use Rattle.session.specs.declared.Counter.TheVariants as counter
 use Rattle.session.specs.Frames.{index_of, size_of, bad_size}
 use Rattle.session.specs.Heads.{in_turn, wanted, copied_head, all_there}
-use Rattle.session.specs.Counting.{raised}
-use Rattle.session.specs.Kinds.{kind_number}
 use Rattle.session.specs.inner.Plan.{Silent, idle, plan_open, plan_short, plan_sized, plan_first, plan_copy, plan_turn, plan_next, plan_index, plan_sent, plan_listed, plan_of}
 use Rattle.base.proofs.Bools.{and_left, and_right}
 use Rattle.session.proofs.Cuts.{eight_sent, eight_bad, eight_next}
-use Rattle.batch.specs.declared.ways.Untaken.{Untaken}
 use Rattle.batch.specs.inner.Ways.{short_in, miss_kind, miss_mark, runs_on}
 
 -- ---- the code's tests
 
--- what `ways::missed` promises
-abbrev MissedBy : Bool → Heard → Counters → Untaken → Type 0
-MissedBy listed f c r = (r.number ≡ kind_number (miss_kind listed f)) × (r.counters ≡ raised (miss_mark listed f) c)
-
 module _ (listed : Bool) (f : Heard) where
-  pub short_unlisted : not listed ≡ true → (0 ≡ short_in listed f) × (0 ≤ 6)
+  pub short_unlisted : listed ≡ false → (0 ≡ short_in listed f) × (0 ≤ 6)
   unfolding short_in pick
-  short_unlisted e = (rw (not-true listed e), omega arith)
+  short_unlisted e = (rw (e), omega arith)
 
-  pub miss_unlisted : (c : Counters) (r : Untaken) → not listed ≡ true → (r.number ≡ kind_number NotListed) × (r.counters ≡ raised (Some counter.Unknown) c) → MissedBy listed f c r
-  unfolding miss_kind miss_mark kind_number pick
-  miss_unlisted c r e er = rw (not-true listed e) er
+  pub miss_unlisted : listed ≡ false → (NotListed ≡ miss_kind listed f) × (Some counter.Unknown ≡ miss_mark listed f)
+  unfolding miss_kind miss_mark pick
+  miss_unlisted e = (rw e, rw e)
 
-  module _ (e : not listed ≡ false) where
+  module _ (e : listed ≡ true) where
     pub short_next : (get_or f.«data» 0 0 % 32 ≡ 0 → ⊥) → (0 ≡ short_in listed f) × (0 ≤ 6)
     unfolding short_in pick index_of
-    short_next z = (rw (not-false listed e, ne_eqb (get_or f.«data» 0 0 % 32) 0 z), omega arith)
+    short_next z = (rw (e, ne_eqb (get_or f.«data» 0 0 % 32) 0 z), omega arith)
 
-    pub miss_next : (c : Counters) (r : Untaken) → (get_or f.«data» 0 0 % 32 ≡ 0 → ⊥) → (r.number ≡ kind_number Lost) × (r.counters ≡ raised (Some counter.Lost) c) → MissedBy listed f c r
-    unfolding miss_kind miss_mark kind_number pick index_of
-    miss_next c r z er = rw (not-false listed e, ne_eqb (get_or f.«data» 0 0 % 32) 0 z) er
+    pub miss_next : (get_or f.«data» 0 0 % 32 ≡ 0 → ⊥) → (Lost ≡ miss_kind listed f) × (Some counter.Lost ≡ miss_mark listed f)
+    unfolding miss_kind miss_mark pick index_of
+    miss_next z = (rw (e, ne_eqb (get_or f.«data» 0 0 % 32) 0 z), rw (e, ne_eqb (get_or f.«data» 0 0 % 32) 0 z))
 
     module _ (z : get_or f.«data» 0 0 % 32 ≡ 0) where
       pub short_here : get_or f.«data» 1 0 ≤ 6 → (get_or f.«data» 1 0 ≡ short_in listed f) × (get_or f.«data» 1 0 ≤ 6)
       unfolding short_in pick index_of size_of
-      short_here l = (rw (not-false listed e, eq-eqb (get_or f.«data» 0 0 % 32) 0 z, le-leb (get_or f.«data» 1 0) 6 l), l)
+      short_here l = (rw (e, eq-eqb (get_or f.«data» 0 0 % 32) 0 z, le-leb (get_or f.«data» 1 0) 6 l), l)
 
       pub short_over : 6 < get_or f.«data» 1 0 → (0 ≡ short_in listed f) × (0 ≤ 6)
       unfolding short_in pick index_of size_of
-      short_over l = (rw (not-false listed e, eq-eqb (get_or f.«data» 0 0 % 32) 0 z, lt-leb (get_or f.«data» 1 0) 6 l), omega arith)
+      short_over l = (rw (e, eq-eqb (get_or f.«data» 0 0 % 32) 0 z, lt-leb (get_or f.«data» 1 0) 6 l), omega arith)
 
-      module _ (c : Counters) (r : Untaken) where
-        pub miss_none : get_or f.«data» 1 0 ≡ 0 → (r.number ≡ kind_number Rejected) × (r.counters ≡ raised (Some counter.Rejected) c) → MissedBy listed f c r
-        unfolding miss_kind miss_mark kind_number pick index_of bad_size size_of
-        miss_none s er = rw (not-false listed e, eq-eqb (get_or f.«data» 0 0 % 32) 0 z, eq-eqb (get_or f.«data» 1 0) 0 s) er
+      pub miss_bad : bad_size f ≡ true → (Rejected ≡ miss_kind listed f) × (Some counter.Rejected ≡ miss_mark listed f)
+      unfolding miss_kind miss_mark pick index_of
+      miss_bad b = (rw (e, eq-eqb (get_or f.«data» 0 0 % 32) 0 z, b), rw (e, eq-eqb (get_or f.«data» 0 0 % 32) 0 z, b))
 
-        pub miss_over : (get_or f.«data» 1 0 ≡ 0 → ⊥) → 223 < get_or f.«data» 1 0 → (r.number ≡ kind_number Rejected) × (r.counters ≡ raised (Some counter.Rejected) c) → MissedBy listed f c r
-        unfolding miss_kind miss_mark kind_number pick index_of bad_size size_of
-        miss_over s l er = rw (not-false listed e, eq-eqb (get_or f.«data» 0 0 % 32) 0 z, ne_eqb (get_or f.«data» 1 0) 0 s, lt-ltb 223 (get_or f.«data» 1 0) l) er
-
-        pub miss_full : (get_or f.«data» 1 0 ≡ 0 → ⊥) → get_or f.«data» 1 0 ≤ 223 → (r.number ≡ kind_number PoolFull) × (r.counters ≡ raised (Some counter.Exhausted) c) → MissedBy listed f c r
-        unfolding miss_kind miss_mark kind_number pick index_of bad_size size_of
-        miss_full s l er = rw (not-false listed e, eq-eqb (get_or f.«data» 0 0 % 32) 0 z, ne_eqb (get_or f.«data» 1 0) 0 s, le-ltb 223 (get_or f.«data» 1 0) l) er
+      pub miss_full : bad_size f ≡ false → (PoolFull ≡ miss_kind listed f) × (Some counter.Exhausted ≡ miss_mark listed f)
+      unfolding miss_kind miss_mark pick index_of
+      miss_full b = (rw (e, eq-eqb (get_or f.«data» 0 0 % 32) 0 z, b), rw (e, eq-eqb (get_or f.«data» 0 0 % 32) 0 z, b))
 
 module _ (f : Heard) (h : Head) where
   pub runs_other : (get_or f.«data» 0 0 % 32 ≡ h.last_frame_index + 1 → ⊥) → false ≡ runs_on f h
@@ -75,11 +62,7 @@ module _ (f : Heard) (h : Head) where
     unfolding runs_on in_turn index_of
     runs_next = rw (eq-eqb (get_or f.«data» 0 0 % 32) (h.last_frame_index + 1) e)
 
-    pub runs_past : h.expected_size < h.current_size → false ≡ runs_on f h
-    unfolding runs_on in_turn index_of
-    runs_past l = rw (eq-eqb (get_or f.«data» 0 0 % 32) (h.last_frame_index + 1) e) (sym (le-ltb 7 (h.expected_size - h.current_size) (omega arith)))
-
-pub ruleset ways = (short_unlisted, miss_unlisted, short_next, miss_next, short_here, short_over, miss_none, miss_over, miss_full, runs_other, runs_next, runs_past)
+pub ruleset ways = (short_unlisted, miss_unlisted, short_next, miss_next, short_here, short_over, miss_bad, miss_full, runs_other, runs_next)
 
 -- ---- the plans of these ways
 

@@ -1,5 +1,5 @@
 -- A batch: the rows of frames that a caller lends, taken one after the other by the single call, as long as the arena has room for their messages.
-use Rattle.std.specs.Prelude.{◌≡◌, ℕ, zero, suc, ◌+◌, ◌*◌, Bool, not, ◌||◌, List, [], ◌∷◌, ◌++◌, length, take, drop, nat_lt, slice_index}
+use Rattle.std.specs.Prelude.{◌≡◌, ℕ, zero, suc, ◌+◌, ◌*◌, Bool, not, ◌||◌, List, [], ◌∷◌, ◌++◌, length, take, drop, nat_lt, slice_index, Result, Ok, Err}
 use Rattle.base.specs.Answer.{Answer, gives, refuses}
 use Rattle.base.specs.Pick.{pick}
 use Rattle.session.specs.declared.Heard.{Heard}
@@ -14,8 +14,9 @@ use Rattle.assembler.specs.View.{slots_of, receive_of}
 use Rattle.assembler.specs.Promises.{rules_of, same_kind}
 use Rattle.batch.specs.Lengths.{too_short}
 use Rattle.batch.specs.declared.Batch.{Batch}
-use Rattle.batch.specs.declared.Batched.{Batched}
-use Rattle.batch.specs.declared.Batched.TheVariants.{Done, ImpossiblePool, NoRoom}
+use Rattle.batch.specs.declared.BatchError.{BatchError}
+use Rattle.batch.specs.declared.BatchError.TheVariants.{ImpossiblePool, NoRoom}
+use Rattle.batch.specs.declared.Taken.{Taken}
 
 -- ---- the frames
 
@@ -115,10 +116,19 @@ batch_of R pgns w p k kinds lengths arena =
     (leaves (run_of R pgns w (length arena) p k) kinds lengths arena))
 
 -- 01's number of each case; what is given is how many frames were taken
-unfoldable pub of_batched : Batched → ℕ → Answer ℕ
-of_batched Done taken = gives taken
-of_batched ImpossiblePool taken = refuses 1 []
-of_batched NoRoom taken = refuses 27 []
+unfoldable pub of_batched : Result Taken BatchError → Answer ℕ
+of_batched (Ok taken) = gives taken.frames
+of_batched (Err ImpossiblePool) = refuses 1 []
+of_batched (Err NoRoom) = refuses 27 []
+
+-- how many frames an answer says were taken, and how many bytes; none with a refusal
+unfoldable pub frames_in : Result Taken BatchError → ℕ
+frames_in (Ok taken) = taken.frames
+frames_in (Err e) = 0
+
+unfoldable pub bytes_in : Result Taken BatchError → ℕ
+bytes_in (Ok taken) = taken.bytes
+bytes_in (Err e) = 0
 
 -- none with a refusal
 unfoldable pub taken_in : Answer ℕ → ℕ
@@ -127,9 +137,9 @@ taken_in (refuses n carried) = 0
 
 -- an answer and lent rows are what the batch leaves
 pub record AreLeft (l : BatchLeft) (r : Batch) (kinds lengths arena : List ℕ) : Type 0 where
-  pub answer : of_batched r.result r.taken ≡ l.answer
-  pub taken : r.taken ≡ taken_in l.answer
-  pub used : r.used ≡ l.used
+  pub answer : of_batched r.result ≡ l.answer
+  pub taken : frames_in r.result ≡ taken_in l.answer
+  pub used : bytes_in r.result ≡ l.used
   pub counted : r.counters ≡ l.counters
   pub left : r.pool ≡ l.pool
   pub told : kinds ≡ l.kinds

@@ -1,7 +1,5 @@
 -- How the code goes about a batch. Nobody needs to believe these: the public contract does not cite them.
 pub mod Mirror
 pub mod Walks
-pub mod Memory
 pub mod Ways
-pub mod Looked
 pub mod Room

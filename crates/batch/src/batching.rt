@@ -1,24 +1,23 @@
 // The batch call.
-ghost use Rattle.std.specs.Prelude.{◌≡◌, not, ◌||◌};
+ghost use Rattle.std.specs.Prelude.{◌≡◌, not, ◌||◌, length};
 ghost use Rattle.session.specs.declared.PoolKind.TheVariants.{Original};
 ghost use Rattle.session.specs.Rules.{rules_by};
 ghost use Rattle.session.specs.inner.Search.{found_in};
 ghost use Rattle.assembler.specs.Promises.{same_kind};
 ghost use Rattle.batch.specs.Lengths.{too_short};
 ghost use Rattle.batch.specs.Rows.{Batches};
-ghost use Rattle.batch.specs.inner.Ways.{blank_heard, refusal_of, is_refused};
+ghost use Rattle.batch.specs.inner.Ways.{blank_heard, refusal_of};
 
-use crate::bytes::{deliver_short, keep};
-use crate::list_memory::{PLACES, looked_up};
-use crate::row_lengths::{no_room, too_short};
-use crate::rows::frame_at;
-use crate::search::{key_of, key_of_frame, mirror_of, seek, walk};
-use crate::taking::take;
+use crate::bytes::{carry, copy, keep};
+use crate::list_memory::ListMemory;
+use crate::mirror::Mirror;
+use crate::room::no_room;
+use crate::rows::FrameRows;
+use crate::search::walk;
 use crate::ways::{missed, ran_on, runs_on, short_in};
-use crate::{Batch, Batched};
+use crate::{Batch, BatchError, Taken};
 use assembler::Pool;
-use fast_packet::is_listed;
-use session::{Counters, Head, Heard, Kind, Mode, POOL_LIMIT, PoolKind, decide};
+use session::{Counters, FIRST_DATA, Head, Heard, Kind, Mode, POOL_LIMIT, PoolKind, count, decide};
 
 // A blank frame: what the pool is looked at with, before the first.
 fn blank() -> Heard
@@ -34,39 +33,26 @@ fn blank() -> Heard
     }
 }
 
-// The refusal, if there is one: of an impossible pool, or one that is handed identifiers, before that of a row that is too short for its n frames.
+// The refusal, if there is one: of an impossible pool, or one that is handed identifiers, before that of a row that is too short.
 fn refusal(
     kind: PoolKind,
     mode: Mode,
     heads: [Head; POOL_LIMIT],
     size: usize,
-    n: usize,
-    pgns: usize,
-    sources: usize,
-    bytes: usize,
+    frames: FrameRows,
     kinds: usize,
     lengths: usize,
-) -> Batched
-    ensures { result ≡ refusal_of (not (same_kind Original kind) || (found_in (rules_by kind mode) blank_heard size heads).bad) (too_short n pgns sources bytes kinds lengths) }
+) -> Result<(), BatchError>
+    ensures { result ≡ refusal_of (not (same_kind Original kind) || (found_in (rules_by kind mode) blank_heard size heads).bad) (too_short (length frames.entry.times.now) (length frames.entry.pgns.now) (length frames.entry.sources.now) (length frames.entry.«data».now) kinds lengths) }
 {
     let before = walk(kind, mode, heads, size, blank());
     if (kind != PoolKind::Original) | before.bad {
-        return Batched::ImpossiblePool;
+        return Err(BatchError::ImpossiblePool);
     }
-    if too_short(n, pgns, sources, bytes, kinds, lengths) {
-        return Batched::NoRoom;
+    if frames.too_short(kinds, lengths) {
+        return Err(BatchError::NoRoom);
     }
-    Batched::Done
-}
-
-fn is_refused(res: Batched) -> bool
-    ensures { result ≡ is_refused res }
-{
-    match res {
-        Batched::Done => false,
-        Batched::ImpossiblePool => true,
-        Batched::NoRoom => true,
-    }
+    Ok(())
 }
 
 // Takes frames one after the other, as long as the arena has room for their messages.
@@ -74,15 +60,12 @@ pub fn process_frames(
     pool: Pool,
     counters: Counters,
     pgns: &[u32],
-    times: &[u64],
-    frame_pgns: &[u32],
-    sources: &[u8],
-    data: &[u8],
+    frames: FrameRows,
     kinds: &mut [u8],
     lengths: &mut [u8],
     arena: &mut [u8],
 ) -> Batch
-    ensures { Batches pgns.now times.now frame_pgns.now sources.now «data».now pool counters
+    ensures { Batches pgns.now frames.entry.times.now frames.entry.pgns.now frames.entry.sources.now frames.entry.«data».now pool counters
         kinds.old lengths.old arena.old result kinds.new lengths.new arena.new }
 {
     let mut q = pool;
@@ -90,109 +73,94 @@ pub fn process_frames(
     let kind = q.kind;
     let mode = q.mode;
     let heads = q.heads;
-    let n = times.len();
-    let result = refusal(
+    if let Err(error) = refusal(
         kind,
         mode,
         heads,
         q.size,
-        n,
-        frame_pgns.len(),
-        sources.len(),
-        data.len(),
+        frames,
         kinds.len(),
         lengths.len(),
-    );
-    if is_refused(result) {
+    ) {
         return Batch {
-            result: result,
-            taken: 0,
-            used: 0,
-            counters: counters,
+            result: Err(error),
+            counters,
             pool: q,
         };
     }
     // what is searched in stands beside the heads, and what the list said is remembered
-    let m = mirror_of(heads);
-    let mut keys = m.keys;
-    let mut owners = m.owners;
-    let mut lasts = m.lasts;
-    let zero = is_listed(pgns, 0);
-    let mut asked = [0u32; PLACES];
-    let mut known = [zero; PLACES];
+    let mut mirror = Mirror::of(heads, q.size);
+    let mut list = ListMemory::of(pgns);
     let mut c = counters;
-    let mut used: usize = 0;
-    let mut i: usize = 0;
-    while i < n {
-        let heard = frame_at(times, frame_pgns, sources, data, i);
-        let listed = looked_up(pgns, &mut asked, &mut known, heard.pgn);
-        let key = key_of_frame(heard);
-        let g = seek(mode, &keys, &owners, &lasts, q.size, listed, key, heard);
+    let mut used = 0;
+    let n = frames.times.len();
+    for i in 0..n {
+        let heard = frames.frame_at(i);
         let frame = heard.data;
-        // a frame that takes no slot leaves the pool as it is
-        if POOL_LIMIT <= g {
+        let listed = list.has(heard.pgn);
+        let Some(g) = mirror.seek(mode, listed, heard) else {
+            // a frame that takes no slot leaves the pool as it is
             let short = short_in(listed, heard);
             if short == 0 {
-                let m = missed(c, listed, heard);
-                c = m.counters;
-                kinds[i] = m.number;
+                let (kind, mark) = missed(listed, heard);
+                c = count(c, mark);
+                kinds[i] = kind.number();
                 lengths[i] = 0;
-                i += 1;
                 continue;
             }
             if no_room(arena.len(), used, short) {
+                let taken = Taken {
+                    frames: i,
+                    bytes: used,
+                };
                 return Batch {
-                    result: Batched::Done,
-                    taken: i,
-                    used: used,
+                    result: Ok(taken),
                     counters: c,
                     pool: q,
                 };
             }
-            deliver_short(arena, used, frame, short);
+            copy(arena, used, &frame, FIRST_DATA, short);
             kinds[i] = Kind::MessageComplete.number();
             lengths[i] = short as u8;
             used += short;
-            i += 1;
             continue;
-        }
+        };
         let h = q.heads[g];
         // nearly every frame of a longer message: seven bytes more, and the message is not there yet
         if runs_on(h, heard) {
             q.heads[g] = ran_on(h, heard);
-            lasts[g] = heard.now_ms;
+            mirror.hear(g, heard.now_ms);
             keep(&mut q.bytes, g, h.current_size, frame);
             kinds[i] = Kind::FragmentConsumed.number();
             lengths[i] = 0;
-            i += 1;
             continue;
         }
         let d = decide(mode, false, true, true, h, heard);
         if no_room(arena.len(), used, d.whole) {
+            let taken = Taken {
+                frames: i,
+                bytes: used,
+            };
             return Batch {
-                result: Batched::Done,
-                taken: i,
-                used: used,
+                result: Ok(taken),
                 counters: c,
                 pool: q,
             };
         }
-        let t = take(&mut q.bytes, arena, g, used, d, c, frame);
-        c = t.counters;
-        kinds[i] = t.number;
-        lengths[i] = t.length;
+        carry(&mut q.bytes, arena, g, used, d, frame);
+        c = count(c, d.mark);
+        kinds[i] = d.kind.number();
+        lengths[i] = d.whole as u8;
         used += d.whole;
-        i += 1;
-        let after = d.head;
-        q.heads[g] = after;
-        keys[g] = key_of(after);
-        owners[g] = after.source_address;
-        lasts[g] = after.last_seen_ms;
+        q.heads[g] = d.head;
+        mirror.show(g, d.head);
     }
+    let taken = Taken {
+        frames: n,
+        bytes: used,
+    };
     Batch {
-        result: Batched::Done,
-        taken: i,
-        used: used,
+        result: Ok(taken),
         counters: c,
         pool: q,
     }

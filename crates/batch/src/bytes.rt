@@ -7,96 +7,64 @@ ghost use Rattle.assembler.specs.Making.{pool_bytes};
 
 use assembler::POOL_BYTES;
 use fast_packet::MAX_FAST_PACKET_PAYLOAD;
-use session::{CONTINUATION_PAYLOAD, FIRST_DATA, FIRST_FRAME_PAYLOAD, NEXT_DATA};
+use session::{CONTINUATION_PAYLOAD, FIRST_DATA, FIRST_FRAME_PAYLOAD, NEXT_DATA, Plan};
 
-// Stores `n` bytes of the frame, from `from` on, at `at`.
-fn put(out: &mut [u8; POOL_BYTES], at: usize, frame: [u8; 8], from: usize, n: usize)
-    requires { (length out.old ≡ pool_bytes) × (at + n ≤ pool_bytes) × (from + n ≤ 8) }
-    ensures { out.new ≡ paste out.old at (drop from frame) n }
+// Puts the `n` bytes of `from` from place `start` on at place `at` of `to`.
+pub(crate) fn copy(to: &mut [u8], at: usize, from: &[u8], start: usize, n: usize)
+    requires { (at + n ≤ length to.old) × (start + n ≤ length from.now) }
+    ensures { to.new ≡ paste to.old at (drop start from.now) n }
 {
-    let mut i: usize = 0;
-    while i < n {
-        out[at + i] = frame[from + i];
-        i += 1;
-    }
+    to[at..at + n].copy_from_slice(&from[start..start + n]);
 }
 
-// The same. Nearly every frame has 6 bytes from place 2 on to store, or 7 from place 1 on: a copy of which the compiler knows length and place needs no
+// The same from a frame into a buffer. Nearly every frame has 6 bytes from place 2 on to store, or 7 from place 1 on: a copy of which the compiler knows length and place needs no
 // call, and no frame in memory.
 fn store(out: &mut [u8; POOL_BYTES], at: usize, frame: [u8; 8], from: usize, n: usize)
-    requires { (length out.old ≡ pool_bytes) × (at + n ≤ pool_bytes) × (from + n ≤ 8) }
+    requires { (at + n ≤ pool_bytes) × (from + n ≤ 8) }
     ensures { out.new ≡ paste out.old at (drop from frame) n }
 {
     if n == CONTINUATION_PAYLOAD {
         if from == NEXT_DATA {
-            put(out, at, frame, NEXT_DATA, CONTINUATION_PAYLOAD);
+            copy(out, at, &frame, NEXT_DATA, CONTINUATION_PAYLOAD);
             return;
         }
     }
     if n == FIRST_FRAME_PAYLOAD {
         if from == FIRST_DATA {
-            put(out, at, frame, FIRST_DATA, FIRST_FRAME_PAYLOAD);
+            copy(out, at, &frame, FIRST_DATA, FIRST_FRAME_PAYLOAD);
             return;
         }
     }
-    put(out, at, frame, from, n);
-}
-
-// Puts the `n` bytes of a session from `start` on at `at` of the arena.
-fn deliver(arena: &mut [u8], at: usize, bytes: &[u8; POOL_BYTES], start: usize, n: usize)
-    requires { (at + n ≤ length arena.old) × (length bytes.now ≡ pool_bytes) × (start + n ≤ pool_bytes) }
-    ensures { arena.new ≡ paste arena.old at (drop start bytes.now) n }
-{
-    let mut i: usize = 0;
-    while i < n {
-        arena[at + i] = bytes[start + i];
-        i += 1;
-    }
-}
-
-// The same for the message of a short first frame.
-pub(crate) fn deliver_short(arena: &mut [u8], at: usize, frame: [u8; 8], n: usize)
-    requires { (at + n ≤ length arena.old) × (n ≤ 6) }
-    ensures { arena.new ≡ paste arena.old at (drop 2 frame) n }
-{
-    let mut i: usize = 0;
-    while i < n {
-        arena[at + i] = frame[2 + i];
-        i += 1;
-    }
+    copy(out, at, &frame, from, n);
 }
 
 // Keeps the seven bytes of a continuation at place `at` of the buffer of slot g.
 pub(crate) fn keep(bytes: &mut [u8; POOL_BYTES], g: usize, at: usize, frame: [u8; 8])
-    requires { (length bytes.old ≡ pool_bytes) × (g < pool_limit) × (at + 7 ≤ max_payload) }
+    requires { (g < pool_limit) × (at + 7 ≤ max_payload) }
     ensures { bytes.new ≡ paste bytes.old (g * max_payload + at) (drop 1 frame) 7 }
 {
-    put(
+    copy(
         bytes,
         g * MAX_FAST_PACKET_PAYLOAD + at,
-        frame,
+        &frame,
         NEXT_DATA,
         CONTINUATION_PAYLOAD,
     );
 }
 
-// Carries a plan out on the bytes of slot g: `n` bytes of the frame, from `from` on, go to place `at` of its buffer; then a message of `whole` bytes
-// leaves the buffer for place `used` of the arena.
+// Carries a plan out on the bytes of slot g: the frame's bytes go to its buffer, and a message leaves the buffer for place `used` of the arena.
 pub(crate) fn carry(
     bytes: &mut [u8; POOL_BYTES],
     arena: &mut [u8],
     g: usize,
     used: usize,
+    d: Plan,
     frame: [u8; 8],
-    at: usize,
-    from: usize,
-    n: usize,
-    whole: usize,
 )
-    requires { (length bytes.old ≡ pool_bytes) × (g < pool_limit) × (at + n ≤ max_payload) × (from + n ≤ 8) × (whole ≤ max_payload) × (used + whole ≤ length arena.old) }
-    ensures { (bytes.new ≡ paste bytes.old (g * max_payload + at) (drop from frame) n) × (arena.new ≡ paste arena.old used (drop (g * max_payload) bytes.new) whole) }
+    requires { (g < pool_limit) × (d.at + d.count ≤ max_payload) × (d.from + d.count ≤ 8) × (d.whole ≤ max_payload) × (used + d.whole ≤ length arena.old) }
+    ensures { (bytes.new ≡ paste bytes.old (g * max_payload + d.at) (drop d.from frame) d.count) × (arena.new ≡ paste arena.old used (drop (g * max_payload) bytes.new) d.whole) }
 {
     let start = g * MAX_FAST_PACKET_PAYLOAD;
-    store(bytes, start + at, frame, from, n);
-    deliver(arena, used, bytes, start, whole);
+    store(bytes, start + d.at, frame, d.from, d.count);
+    copy(arena, used, bytes, start, d.whole);
 }

@@ -5,31 +5,36 @@
 mod batching;
 mod bytes;
 mod list_memory;
-mod row_lengths;
+mod mirror;
+mod room;
 mod rows;
 mod search;
-mod taking;
 mod walks;
 mod ways;
 
 use assembler::Pool;
 pub use batching::process_frames;
+pub use rows::FrameRows;
 use session::Counters;
 
-// How a batch went. An impossible pool, or one whose key has the destination, is refused by 1, a row that is too short for its frames by 27.
-#[derive(Clone, Copy)]
-pub enum Batched {
-    Done,
+// Why a batch is refused: an impossible pool, or one whose key has the destination, by 1, a row that is too short for its frames by 27.
+#[derive(Debug, Clone, Copy, PartialEq, Eq)]
+pub enum BatchError {
     ImpossiblePool,
     NoRoom,
 }
 
-// What a batch answers: how it went; how many frames were taken, and how many bytes of the arena their messages take.
+// How many frames were taken, and how many bytes of the arena their messages take.
+#[derive(Debug, Clone, Copy, PartialEq, Eq)]
+pub struct Taken {
+    pub frames: usize,
+    pub bytes: usize,
+}
+
+// What a batch answers. The pool stands beside the result and not in it: a refusal gives it back too.
 #[derive(Drop)]
 pub struct Batch {
-    pub result: Batched,
-    pub taken: usize,
-    pub used: usize,
+    pub result: Result<Taken, BatchError>,
     pub counters: Counters,
     pub pool: Pool,
 }

@@ -1,29 +1,42 @@
-// A memory of what the PGN list said: the list is read only where another PGN stands in the place of the one asked.
-ghost use Rattle.std.specs.Prelude.{◌≡◌};
-ghost use Rattle.batch.specs.inner.Looked.{Looked, looked_of};
+// The PGN list with a memory of what it said: it is read only where another PGN stands in the place of the one asked.
+ghost use Rattle.std.specs.Prelude.{◌≡◌, ℕ, ◌<◌, false, slice_index, slice_index_or};
+ghost use Rattle.fast_packet.specs.FastPacket.{listed_in};
 
 use fast_packet::is_listed;
 
-pub(crate) const PLACES: usize = 64;
+const PLACES: usize = 64;
 
-const MODULUS: u32 = 64;
+// In each place the PGN that was asked there last, and whether it is listed.
+#[derive(Drop)]
+pub(crate) struct ListMemory<'a> {
+    pub(crate) pgns: &'a [u32],
+    pub(crate) asked: [u32; PLACES],
+    pub(crate) known: [bool; PLACES],
+    pub(crate) ghost right: { (k : ℕ) → k < 64 → slice_index_or known k false ≡ listed_in (slice_index asked k) pgns.now },
+}
 
-// Whether the PGN is listed, by the memory or else by the list. The memory tells the truth where it was filled with what the list says of PGN 0
-// and changed by this call alone, of one list.
-pub(crate) fn looked_up(
-    pgns: &[u32],
-    asked: &mut [u32; PLACES],
-    known: &mut [bool; PLACES],
-    pgn: u32,
-) -> bool
-    ensures { ◌≡◌ {A = Looked} (record { answer = result; asked = asked.new; known = known.new }) (looked_of pgns.now asked.old known.old pgn) }
-{
-    let place = (pgn % MODULUS) as usize;
-    if asked[place] == pgn {
-        return known[place];
+impl<'a> ListMemory<'a> {
+    pub(crate) fn of(pgns: &'a [u32]) -> Self
+        ensures { result.pgns.now ≡ pgns.now }
+    {
+        let zero = is_listed(pgns, 0);
+        ListMemory {
+            pgns,
+            asked: [0; PLACES],
+            known: [zero; PLACES],
+        }
     }
-    let listed = is_listed(pgns, pgn);
-    asked[place] = pgn;
-    known[place] = listed;
-    listed
+
+    pub(crate) fn has(&mut self, pgn: u32) -> bool
+        ensures { (result ≡ listed_in pgn self.old.pgns.now) × (self.new.pgns ≡ self.old.pgns) }
+    {
+        let place = pgn as usize % PLACES;
+        if self.asked[place] == pgn {
+            return self.known[place];
+        }
+        let listed = is_listed(self.pgns, pgn);
+        self.asked[place] = pgn;
+        self.known[place] = listed;
+        listed
+    }
 }

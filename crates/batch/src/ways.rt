@@ -1,16 +1,13 @@
 // The ways that most frames go, told apart before a plan is made.
 ghost use Rattle.std.specs.Prelude.{◌≡◌, ◌-◌, ◌<◌, ◌≤◌};
-ghost use Rattle.session.specs.Counting.{raised};
 ghost use Rattle.session.specs.Heads.{copied_head};
-ghost use Rattle.session.specs.Kinds.{kind_number};
 ghost use Rattle.batch.specs.inner.Ways.{short_in, miss_kind, miss_mark, runs_on};
 
 use fast_packet::MAX_FAST_PACKET_PAYLOAD;
-use session::{
-    CONTINUATION_PAYLOAD, Counter, Counters, FIRST_FRAME_PAYLOAD, Head, Heard, Kind, count,
-};
+use session::{CONTINUATION_PAYLOAD, Counter, FIRST_FRAME_PAYLOAD, Head, Heard, Kind};
 
 // How many bytes the message has that comes in this one frame; 0 where none does.
+#[tactic(auto, using(crate::proofs::WayLaws::ways))]
 pub(crate) fn short_in(listed: bool, heard: Heard) -> usize
     ensures { (result ≡ short_in listed heard) × (result ≤ 6) }
 {
@@ -21,59 +18,38 @@ pub(crate) fn short_in(listed: bool, heard: Heard) -> usize
     if data[0] % 32 != 0 {
         return 0;
     }
-    let size = data[1] as usize;
+    let size = usize::from(data[1]);
     if size <= FIRST_FRAME_PAYLOAD { size } else { 0 }
 }
 
-// What a frame that takes no slot and brings no message leaves: the number of its kind, and the counters.
-#[derive(Clone, Copy)]
-pub(crate) struct Untaken {
-    pub(crate) number: u8,
-    pub(crate) counters: Counters,
-}
-
-fn told(kind: Kind, counters: Counters, mark: Option<Counter>) -> Untaken
-    ensures { (result.number ≡ kind_number kind) × (result.counters ≡ raised mark counters) }
-{
-    Untaken {
-        number: kind.number(),
-        counters: count(counters, mark),
-    }
-}
-
-pub(crate) fn missed(counters: Counters, listed: bool, heard: Heard) -> Untaken
-    ensures { (result.number ≡ kind_number (miss_kind listed heard)) × (result.counters ≡ raised (miss_mark listed heard) counters) }
+// What a frame that takes no slot and brings no message is told, and the counter that it raises.
+pub(crate) fn missed(listed: bool, heard: Heard) -> (Kind, Option<Counter>)
+    ensures { (result.0 ≡ miss_kind listed heard) × (result.1 ≡ miss_mark listed heard) }
 {
     if !listed {
-        return told(Kind::NotListed, counters, Some(Counter::Unknown));
+        return (Kind::NotListed, Some(Counter::Unknown));
     }
     let data = heard.data;
     if data[0] % 32 != 0 {
-        return told(Kind::Lost, counters, Some(Counter::Lost));
+        return (Kind::Lost, Some(Counter::Lost));
     }
-    let size = data[1] as usize;
-    if size == 0 {
-        return told(Kind::Rejected, counters, Some(Counter::Rejected));
+    let size = usize::from(data[1]);
+    if (size == 0) | (MAX_FAST_PACKET_PAYLOAD < size) {
+        return (Kind::Rejected, Some(Counter::Rejected));
     }
-    if MAX_FAST_PACKET_PAYLOAD < size {
-        return told(Kind::Rejected, counters, Some(Counter::Rejected));
-    }
-    told(Kind::PoolFull, counters, Some(Counter::Exhausted))
+    (Kind::PoolFull, Some(Counter::Exhausted))
 }
 
 // Whether the frame is the session's next, and more than its seven bytes are missing.
+#[tactic(auto, using(crate::proofs::WayLaws::ways))]
 pub(crate) fn runs_on(h: Head, heard: Heard) -> bool
     ensures { result ≡ runs_on heard h }
 {
     let data = heard.data;
-    if (data[0] % 32) as usize != (h.last_frame_index as usize) + 1 {
+    if usize::from(data[0] % 32) != usize::from(h.last_frame_index) + 1 {
         return false;
     }
-    if h.current_size <= h.expected_size {
-        CONTINUATION_PAYLOAD < h.expected_size - h.current_size
-    } else {
-        false
-    }
+    CONTINUATION_PAYLOAD < h.expected_size.saturating_sub(h.current_size)
 }
 
 // The head after such a frame.
@@ -82,15 +58,9 @@ pub(crate) fn ran_on(h: Head, heard: Heard) -> Head
     ensures { result ≡ copied_head heard h }
 {
     let data = heard.data;
-    Head {
-        in_progress: h.in_progress,
-        source_address: h.source_address,
-        sequence_id: h.sequence_id,
-        last_frame_index: data[0] % 32,
-        pgn: h.pgn,
-        part: h.part,
-        expected_size: h.expected_size,
-        current_size: h.current_size + CONTINUATION_PAYLOAD,
-        last_seen_ms: heard.now_ms,
-    }
+    let mut after = h;
+    after.last_frame_index = data[0] % 32;
+    after.current_size += CONTINUATION_PAYLOAD;
+    after.last_seen_ms = heard.now_ms;
+    after
 }

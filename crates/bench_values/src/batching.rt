@@ -1,7 +1,7 @@
 // A batch of one frame, and the batch's own refusals.
 use crate::{left, say};
 use assembler::{Arrival, Pool};
-use batch::{Batch, Batched, process_frames};
+use batch::{Batch, BatchError, FrameRows, Taken, process_frames};
 use session::{Counters, Mode, PoolKind};
 use std::io::{self, Write};
 
@@ -9,11 +9,11 @@ const PGN: u32 = 127489;
 
 const OTHER_PGN: u32 = 126208;
 
-fn show_result<W: Write>(out: &mut W, res: Batched, kind: u8) -> io::Result<()> {
+fn show_result<W: Write>(out: &mut W, res: Result<Taken, BatchError>, kind: u8) -> io::Result<()> {
     match res {
-        Batched::Done => say::number(out, kind as u64),
-        Batched::ImpossiblePool => say::refused_by(out, 1),
-        Batched::NoRoom => say::refused_by(out, 27),
+        Ok(_) => say::number(out, kind as u64),
+        Err(BatchError::ImpossiblePool) => say::refused_by(out, 1),
+        Err(BatchError::NoRoom) => say::refused_by(out, 27),
     }
 }
 
@@ -26,14 +26,17 @@ fn batch_of(
     arena: &mut [u8],
 ) -> Batch {
     let data = arrival.data;
+    let frames = FrameRows {
+        times: &[arrival.now_ms],
+        pgns: &[arrival.pgn],
+        sources: &[arrival.source_address],
+        data: &data,
+    };
     process_frames(
         pool,
         counters,
         &[PGN, OTHER_PGN],
-        &[arrival.now_ms],
-        &[arrival.pgn],
-        &[arrival.source_address],
-        &data,
+        frames,
         kinds,
         lengths,
         arena,

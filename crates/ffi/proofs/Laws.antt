@@ -30,7 +30,7 @@ use Rattle.assembler.proofs.Forms.{frame_cut, by_id_cut}
 use Rattle.ffi.specs.inner.Calls.{HeardLeft}
 use Rattle.assembler.specs.declared.Made.TheVariants.{Fresh}
 use Rattle.assembler.specs.declared.Pool.{Pool}
-use Rattle.batch.specs.Rows.{Rows, batch_of, BatchLeft, taken_in, Batches}
+use Rattle.batch.specs.Rows.{Rows, bytes_in, batch_of, BatchLeft, taken_in, Batches}
 use Rattle.batch.proofs.Promised.{batched_by}
 use Rattle.batch.specs.declared.Batch.{Batch}
 use Rattle.numbers.specs.Numbers.{to_address, ToldInFour, Answered}
@@ -173,5 +173,5 @@ module _ (size mode kind : ℕ) (pgns : List ℕ) (rows : Rows) (before : BatchM
         answered = refl;
         measured = refl;
         delivered = refl;
-        taken = h.taken ∙ ap (λ (n : ℕ). n ∷ r.used ∷ []) (left.taken ∙ ap taken_in (sym left.answer));
+        taken = h.taken ∙ ap (λ (n : ℕ). n ∷ bytes_in r.result ∷ []) (left.taken ∙ ap taken_in (sym left.answer));
       })

@@ -1,26 +1,36 @@
 // The batch: many frames in one call.
-ghost use Rattle.std.specs.Prelude.{◌≡◌, ℕ};
+ghost use Rattle.std.specs.Prelude.{◌≡◌, [], ◌∷◌, Err};
 ghost use Rattle.base.specs.Answer.{code_of};
-ghost use Rattle.batch.specs.Rows.{of_batched};
+ghost use Rattle.batch.specs.Rows.{of_batched, frames_in, bytes_in};
 ghost use Rattle.ffi.specs.Batches.{FramesLeft};
 ghost use Rattle.ffi.specs.inner.Batches.{PoolAfter};
 
 use assembler::POOL_BYTES;
-use batch::{Batch, Batched, process_frames};
+use batch::{Batch, BatchError, FrameRows, Taken, process_frames};
 use numbers::{POOL_NUMBERS, counter_numbers, counters_from, pool_from, put_heads};
 use session::Kind;
 
 // The refusal of a row that is too short.
 const NO_ROOM: u32 = 27;
 
-// The number of how a batch went, which is the same however many frames were taken.
-fn batched_number(res: Batched) -> u32
-    ensures { (taken : ℕ) → result ≡ code_of (of_batched res taken) }
+#[tactic(auto, unfolding(batch::specs::Rows::of_batched, session::specs::Kinds::kind_number))]
+fn refusal_number(error: BatchError) -> u32
+    ensures { result ≡ code_of (of_batched (Err error)) }
+{
+    match error {
+        BatchError::ImpossiblePool => u32::from(Kind::ImpossiblePool.number()),
+        BatchError::NoRoom => NO_ROOM,
+    }
+}
+
+// How many frames were taken, and how many bytes; none with a refusal.
+#[tactic(auto, unfolding(batch::specs::Rows::frames_in, batch::specs::Rows::bytes_in))]
+fn counts_of(res: Result<Taken, BatchError>) -> [u64; 2]
+    ensures { result ≡ frames_in res ∷ bytes_in res ∷ [] }
 {
     match res {
-        Batched::Done => 0,
-        Batched::ImpossiblePool => u32::from(Kind::ImpossiblePool.number()),
-        Batched::NoRoom => NO_ROOM,
+        Ok(taken) => [taken.frames as u64, taken.bytes as u64],
+        Err(_) => [0, 0],
     }
 }
 
@@ -33,16 +43,18 @@ fn leave_batch(
 ) -> u32
     ensures { PoolAfter r heads.old result heads.new bytes.new counters.new counts.new }
 {
-    let pool = r.pool;
-    let h = pool.heads;
+    // an array goes through a variable on its way out of a struct, as the language has it
+    let h = r.pool.heads;
     put_heads(heads, h);
-    let b = pool.bytes;
+    let b = r.pool.bytes;
     *bytes = b;
     let after = r.counters;
     *counters = counter_numbers(after);
-    *counts = [r.taken as u64, r.used as u64];
-    let result = r.result;
-    batched_number(result)
+    *counts = counts_of(r.result);
+    match r.result {
+        Ok(_) => 0,
+        Err(error) => refusal_number(error),
+    }
 }
 
 // 0, 1 or 27. Of each frame taken, `kinds` has 102 FragmentConsumed, 103 MessageComplete, 104 NotListed, 105 Rejected, 106 PoolFull or 107 Lost, and
@@ -70,8 +82,12 @@ pub fn hf_raw_process_frames(
 {
     let p = pool_from(size, mode, kind, heads, bytes);
     let c = counters_from(counters);
-    let r = process_frames(
-        p, c, pgns, times, frame_pgns, sources, data, kinds, lengths, arena,
-    );
+    let frames = FrameRows {
+        times,
+        pgns: frame_pgns,
+        sources,
+        data,
+    };
+    let r = process_frames(p, c, pgns, frames, kinds, lengths, arena);
     leave_batch(r, heads, bytes, counters, counts)
 }

@@ -24,7 +24,7 @@ use Rattle.assembler.specs.inner.Forms.{processed_of}
 use Rattle.assembler.proofs.Entries.{frame, known_entered}
 use Rattle.assembler.proofs.Promised.{promised, process_promised}
 use Rattle.batch.specs.declared.Batch.{Batch}
-use Rattle.batch.specs.declared.Batched.TheVariants.{Done}
+use Rattle.std.specs.Prelude.{Ok}
 use Rattle.batch.specs.Rows as rows
 use Rattle.batch.specs.Rows.{Rows, frame_in_rows, BatchLeft, batch_of, run_from, run_of, took, answer_in, over, leaves, refuses_pool, refused_by, Batches}
 use Rattle.batch.specs.Lengths.{too_short}
@@ -65,7 +65,7 @@ batch = batch_of (rules_of after_second.pool) list third after_second.pool after
 
 -- one frame was taken, and its message has 20 bytes
 unfoldable pub answer : Batch
-answer = record { result = Done; taken = 1; used = 20; counters = batch.counters; pool = batch.pool }
+answer = record { result = Ok (record { frames = 1; bytes = 20 }); counters = batch.counters; pool = batch.pool }
 
 unfoldable pub after_third : State
 after_third = after_batch after_second answer batch.kinds batch.lengths batch.arena
@@ -112,7 +112,7 @@ kept = batched (left_by batch 1 20 one_taken twenty_used ∙ is)
     is = unfold batch in refl
 
 pub mixed : Ran (start (fresh_pool 1)) calls after_third
-unfolding calls after_third after_second after_first answer start
+unfolding calls after_third after_second after_first answer start third rows.frames_in
 mixed =
     on (processed list first (unfold first arrives in record { eight = refl; byte = lit< tt }) (process_promised list (at_original (fresh_pool 1) (heard_of first)) (fresh_pool 1) _ (known_entered Original _ (frame _)) refl refl))
     (on (received_with_length list second (unfold second arrives in record { eight = refl; byte = lit< tt }) (promised list (at_original after_first.pool (heard_with_length second)) _ _ (known_entered Original _ (frame _)) refl))
@@ -121,5 +121,5 @@ mixed =
 pub mixed_says : after_third.said
     ≡ record { kind = MessageComplete; payload = padded (1 ∷ 2 ∷ 3 ∷ 4 ∷ 5 ∷ 6 ∷ 7 ∷ 8 ∷ 9 ∷ 10 ∷ 11 ∷ 12 ∷ 13 ∷ 14 ∷ 15 ∷ 16 ∷ 17 ∷ 18 ∷ 19 ∷ 20 ∷ []); length = 20 }
     ∷ briefly FragmentConsumed ∷ briefly FragmentConsumed ∷ []
-unfolding batch answer after_third after_batch said_in_rows kind_of_number briefly
+unfolding batch answer after_third after_batch rows.frames_in said_in_rows kind_of_number briefly
 mixed_says = refl

@@ -23,10 +23,10 @@ use Rattle.session.specs.declared.PoolKind.{PoolKind}
 use Rattle.session.specs.declared.PoolKind.TheVariants.{Original}
 use Rattle.assembler.specs.Promises.{rules_of, same_kind}
 use Rattle.batch.specs.declared.Batch.{Batch}
-use Rattle.batch.specs.declared.Batched.{Batched}
-use Rattle.batch.specs.declared.Batched.TheVariants.{ImpossiblePool}
+use Rattle.std.specs.Prelude.{Err}
+use Rattle.batch.specs.declared.BatchError.TheVariants.{ImpossiblePool}
 use Rattle.batch.specs.Lengths.{too_short}
-use Rattle.batch.specs.Rows.{refuses_pool, Rows, run_of, leaves, refused_by, batch_of, of_batched, Batches}
+use Rattle.batch.specs.Rows.{refuses_pool, Rows, run_of, leaves, refused_by, batch_of, of_batched, frames_in, Batches}
 use Rattle.ledger.specs.Ledger.{Message, Entry, Ledger, tell_one, tell, tells, written, blank, ledger_of, briefly, delivery, kind_due, saying, saying_due, Saying}
 use Rattle.ledger.specs.Ledger as book
 use Rattle.ledger.specs.Demand3.{Seen, Agreed, Closes}
@@ -146,10 +146,10 @@ not_refused R p own fine = ap (λ (d : PoolKind). not (same_kind Original d) || 
 -- nor is a batch on a pool of the original's kind: what it is refused by, if anything, is 27
 pub batch_not_impossible : (p : Pool) → Empty p → p.kind ≡ Original → {cs : List Call} {y : State} → Ran (start p) cs y → length cs ≤ 4294967295
     → {list times pgns sources bytes kinds lengths arena : List ℕ} {r : Batch} {kinds' lengths' arena' : List ℕ}
-    → Batches list times pgns sources bytes y.pool y.counters kinds lengths arena r kinds' lengths' arena' → r.result ≡ ImpossiblePool → ⊥
+    → Batches list times pgns sources bytes y.pool y.counters kinds lengths arena r kinds' lengths' arena' → r.result ≡ Err ImpossiblePool → ⊥
 batch_not_impossible p e own {cs} {y} run l {list} {times} {pgns} {sources} {bytes} {kinds} {lengths} {arena} {r} h one =
     let w : Rows = record { times = times; pgns = pgns; sources = sources; bytes = bytes } in
-    let refused : (batch_of (rules_of y.pool) list w y.pool y.counters kinds lengths arena).answer ≡ refuses 1 [] = sym h.leaves_these.answer ∙ ap (λ (b : Batched). of_batched b r.taken) one ∙ (unfold of_batched in refl) in
+    let refused : (batch_of (rules_of y.pool) list w y.pool y.counters kinds lengths arena).answer ≡ refuses 1 [] = sym h.leaves_these.answer ∙ ap of_batched one ∙ (unfold of_batched in refl) in
     let kind-kept : y.pool.kind ≡ Original = (ran_made run).of_kind ∙ (unfold start in own) in
     let taken : refuses_pool (rules_of y.pool) y.pool ≡ false = not_refused (rules_of y.pool) y.pool kind-kept (pool_possible p e run l) in
     by_length (rules_of y.pool) list w y.pool y.counters kinds lengths arena taken refused
@@ -159,8 +159,8 @@ batch_not_impossible p e own {cs} {y} run l {list} {times} {pgns} {sources} {byt
 pub demand_3_batch : (p : Pool) → Empty p → {cs : List Call} {y : State} → Ran (start p) cs y
     → {list times pgns sources bytes kinds lengths arena : List ℕ} {r : Batch} {kinds' lengths' arena' : List ℕ} → ((i : ℕ) → get_or bytes i 0 < 256)
     → Batches list times pgns sources bytes y.pool y.counters kinds lengths arena r kinds' lengths' arena'
-    → (ds : List Call) → ds ≡ cs ++ calls_of list (record { times = times; pgns = pgns; sources = sources; bytes = bytes }) r.taken 0 → length ds ≤ 4294967295
-    → Closes (rules_of p) (seen_in (after_batch y r kinds' lengths' arena')) (ledger_of (rules_of p) (sources_of p) ds) × RowsDue r.taken (map saying_due (ledger_of (rules_of p) (sources_of p) ds).entries) kinds lengths arena kinds' lengths' arena'
+    → (ds : List Call) → ds ≡ cs ++ calls_of list (record { times = times; pgns = pgns; sources = sources; bytes = bytes }) (frames_in r.result) 0 → length ds ≤ 4294967295
+    → Closes (rules_of p) (seen_in (after_batch y r kinds' lengths' arena')) (ledger_of (rules_of p) (sources_of p) ds) × RowsDue (frames_in r.result) (map saying_due (ledger_of (rules_of p) (sources_of p) ds).entries) kinds lengths arena kinds' lengths' arena'
 unfolding seen_in
 demand_3_batch p e {y = y} run {r = r} {kinds' = kinds'} {lengths' = lengths'} {arena' = arena'} small h ds is l =
     let whole : Ran (start p) ds (after_batch y r kinds' lengths' arena') = rw is (ran_append run (ran_one (batched small h))) in

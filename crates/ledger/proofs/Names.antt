@@ -33,7 +33,7 @@ use Rattle.assembler.proofs.Entries.{answer_steps, answer_refused}
 use Rattle.assembler.proofs.Promised.{received_by, processed_by}
 use Rattle.batch.specs.declared.Batch.{Batch}
 use Rattle.batch.specs.Lengths.{too_short}
-use Rattle.batch.specs.Rows.{Rows, frame_in_rows, Run, empty_run, took, answer_in, run_from, run_of, BatchLeft, over, leaves, refuses_pool, refused_by, batch_of, taken_in, Batches}
+use Rattle.batch.specs.Rows.{Rows, frame_in_rows, Run, empty_run, took, answer_in, run_from, run_of, BatchLeft, over, leaves, refuses_pool, refused_by, batch_of, frames_in, taken_in, Batches}
 use Rattle.ledger.specs.Names.{raised_by, TellsAlike, entries, raised_times, RowTellsAlike}
 
 module _ (f : Heard) (ss : List Slot) (k : Counters) where
@@ -150,7 +150,7 @@ module _ (R : Rules) (l : List ℕ) (w : Rows) (k : Counters) where
       go false false = unfold leaves taken_in in rw written (unfold run_of empty_run in run_alike (length arena) (length w.times) 0 (empty_run p k) none_alike)
 
 pub batch_tells_alike : {list times pgns sources bytes : List ℕ} {p : Pool} {k : Counters} {kinds lengths arena : List ℕ} {r : Batch} {kinds' lengths' arena' : List ℕ}
-    → Batches list times pgns sources bytes p k kinds lengths arena r kinds' lengths' arena' → RowTellsAlike (take r.taken kinds') k r.counters
+    → Batches list times pgns sources bytes p k kinds lengths arena r kinds' lengths' arena' → RowTellsAlike (take (frames_in r.result) kinds') k r.counters
 batch_tells_alike {list} {times} {pgns} {sources} {bytes} {p} {k} {kinds} {lengths} {arena} h =
     let left = h.leaves_these in
     rw (left.taken, left.told, left.counted)

@@ -31,10 +31,9 @@ use Rattle.assembler.specs.Promises.{rules_of}
 use Rattle.batch.specs.declared.Batch.{Batch}
 use Rattle.batch.specs.Lengths.{too_short}
 use Rattle.batch.specs.Rows as rows
-use Rattle.batch.specs.Rows.{Rows, frame_in_rows, took, answer_in, run_of, over, leaves, refuses_pool, refused_by, batch_of, BatchLeft, taken_in, AreLeft, Batches}
+use Rattle.batch.specs.Rows.{Rows, frame_in_rows, took, answer_in, run_of, over, leaves, refuses_pool, refused_by, batch_of, BatchLeft, frames_in, taken_in, AreLeft, Batches}
 use Rattle.batch.specs.Calls.{call_each, joined}
 use Rattle.batch.proofs.Continues.{as_far}
-use Rattle.batch.proofs.Promised.{answer_from}
 use Rattle.batch.proofs.Runs.{row_fits, unrefused_kind}
 use Rattle.ledger.specs.Rows.{newest_row, its_kind, its_length, its_message, RowsDue}
 use Rattle.ledger.specs.Runs.{State, saying_of, after_call, call, calls_of, kind_of_number, said_in_rows, after_batch}
@@ -204,18 +203,18 @@ RowsAfter y b kinds lengths arena = RowsDue (taken_in b.answer) y.said kinds len
 
 module _ (l : List ℕ) (w : Rows) (z : State) (kinds lengths arena : List ℕ) (small : (i : ℕ) → get_or w.bytes i 0 < 256) where
   after : BatchLeft → State
-  after b = after_batch z (answer_from b) b.kinds b.lengths b.arena
+  after b = record { pool = b.pool; counters = b.counters; said = said_in_rows (taken_in b.answer) b.kinds b.lengths b.arena z.said }
 
   abbrev Good : BatchLeft → Type 0
   Good b = Taken z (after b) (calls_of l w (taken_in b.answer) 0) × RowsAfter (receives (receive_of (rules_of z.pool)) z (calls_of l w (taken_in b.answer) 0)) b kinds lengths arena
 
   good_refused : (n : ℕ) → Good (refused_by n z.pool z.counters kinds lengths arena)
-  unfolding after answer_from taken_in refused_by after_batch calls_of receives said_in_rows newest_row over
+  unfolding after taken_in refused_by calls_of receives said_in_rows newest_row over
   good_refused n = (record { is = refl; oks = none }, record { told = refl; measured = refl; delivered = refl })
 
   good_run : z.pool.kind ≡ Original → too_short (length w.times) (length w.pgns) (length w.sources) (length w.bytes) (length kinds) (length lengths) ≡ false
       → Good (leaves (run_of (rules_of z.pool) l w (length arena) z.pool z.counters) kinds lengths arena)
-  unfolding after answer_from taken_in leaves after_batch over rules_of
+  unfolding after taken_in leaves over rules_of
   good_run own e =
       let y : rows.Run = run_of (rules_of z.pool) l w (length arena) z.pool z.counters in
       let t : ℕ = length y.kinds in
@@ -255,11 +254,11 @@ module _ {l times pgns sources bytes : List ℕ} (z : State) {kinds lengths aren
   promise = h.leaves_these
 
   batch_after : after_batch z r kinds' lengths' arena' ≡ after l heard_rows z kinds lengths arena small (batch_of (rules_of z.pool) l heard_rows z.pool z.counters kinds lengths arena)
-  unfolding after after_batch answer_from
+  unfolding after after_batch
   batch_after = rw (promise.left, promise.counted, promise.taken, promise.told, promise.measured, promise.delivered) refl
 
-  pub batch_taken : Taken z (after_batch z r kinds' lengths' arena') (calls_of l heard_rows r.taken 0)
-  batch_taken = subst (λ (y : State). Taken z y (calls_of l heard_rows r.taken 0)) (sym batch_after) (rw promise.taken (good_batch l heard_rows z kinds lengths arena small).0)
+  pub batch_taken : Taken z (after_batch z r kinds' lengths' arena') (calls_of l heard_rows (frames_in r.result) 0)
+  batch_taken = subst (λ (y : State). Taken z y (calls_of l heard_rows (frames_in r.result) 0)) (sym batch_after) (rw promise.taken (good_batch l heard_rows z kinds lengths arena small).0)
 
-  pub batch_rows : RowsDue r.taken (after_batch z r kinds' lengths' arena').said kinds lengths arena kinds' lengths' arena'
+  pub batch_rows : RowsDue (frames_in r.result) (after_batch z r kinds' lengths' arena').said kinds lengths arena kinds' lengths' arena'
   batch_rows = rw batch_taken.is (rw (promise.taken, promise.told, promise.measured, promise.delivered) (good_batch l heard_rows z kinds lengths arena small).1)

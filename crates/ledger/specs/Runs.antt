@@ -22,7 +22,7 @@ use Rattle.assembler.specs.Making.{pool_bytes}
 use Rattle.assembler.specs.Arrivals.{heard_of, heard_with_length, heard_by_id, heard_by_id_with_length}
 use Rattle.assembler.specs.Promises.{at_original, at_addressed, Receives, ReceivesWithLength, ReceivesById, ReceivesByIdWithLength, Processes, ProcessesWithLength, ProcessesById, ProcessesByIdWithLength}
 use Rattle.batch.specs.declared.Batch.{Batch}
-use Rattle.batch.specs.Rows.{Rows, frame_in_rows, Batches}
+use Rattle.batch.specs.Rows.{Rows, frame_in_rows, frames_in, Batches}
 use Rattle.ledger.specs.Ledger.{Saying}
 use Rattle.ledger.specs.Demand3.{Seen, heads_in_progress}
 
@@ -105,7 +105,7 @@ said_in_rows (suc n) kinds lengths arena older =
     (record { kind = kind_of_number (get_or kinds 0 0); payload = padded (take (get_or lengths 0 0) arena); length = get_or lengths 0 0 } ∷ older)
 
 unfoldable pub after_batch : State → Batch → List ℕ → List ℕ → List ℕ → State
-after_batch z r kinds lengths arena = record { pool = r.pool; counters = r.counters; said = said_in_rows r.taken kinds lengths arena z.said }
+after_batch z r kinds lengths arena = record { pool = r.pool; counters = r.counters; said = said_in_rows (frames_in r.result) kinds lengths arena z.said }
 
 -- A public call that keeps its promise: the frames that it heard, and the state that it leaves. Where its bytes come from outside, they are what their type says.
 pub data Called (z : State) : List Call → State → Type 0 where
@@ -134,7 +134,7 @@ pub data Called (z : State) : List Call → State → Type 0 where
   -- `process_frames`, also where it is refused and takes no frame
   batched : {list times pgns sources bytes kinds lengths arena : List ℕ} {r : Batch} {kinds' lengths' arena' : List ℕ} → ((i : ℕ) → get_or bytes i 0 < 256)
       → Batches list times pgns sources bytes z.pool z.counters kinds lengths arena r kinds' lengths' arena'
-      → Called z (calls_of list (record { times = times; pgns = pgns; sources = sources; bytes = bytes }) r.taken 0) (after_batch z r kinds' lengths' arena')
+      → Called z (calls_of list (record { times = times; pgns = pgns; sources = sources; bytes = bytes }) (frames_in r.result) 0) (after_batch z r kinds' lengths' arena')
 
 -- ---- a run: the frames that its calls heard, from one state to another
 

@@ -37,7 +37,7 @@ use Rattle.assembler.specs.Arrivals.{ArrivalByIdWithLength}
 use Rattle.assembler.specs.Arrivals.{ArrivalWithLength}
 use Rattle.assembler.specs.declared.Received.{Received}
 use Rattle.assembler.specs.declared.Processed.{Processed}
-use Rattle.batch.specs.Rows.{Rows, of_batched, Batches}
+use Rattle.batch.specs.Rows.{Rows, of_batched, frames_in, Batches}
 use Rattle.batch.specs.declared.Batch.{Batch}
 use Rattle.splitter.specs.Split.{of_split, SplitsInto, SplitsIntoSlices}
 use Rattle.splitter.specs.declared.Frame.{Frame}
@@ -86,7 +86,7 @@ pub record NoThree : Type 0 where
   -- the answer, and each kind that is written into the row
   pub process_frames : (list times pgns sources bytes kinds lengths arena : List ℕ) (p : Pool) (k : Counters) (r : Batch) (kinds' lengths' arena' : List ℕ)
       → Batches list times pgns sources bytes p k kinds lengths arena r kinds' lengths' arena'
-      → NotThree (code_of (of_batched r.result r.taken)) × NoneIsThree r.taken kinds'
+      → NotThree (code_of (of_batched r.result)) × NoneIsThree (frames_in r.result) kinds'
   -- ---- the bench
   pub fast_packet_frames : (id sequence : ℕ) (payload : List ℕ) (row row' : List Frame) (r : Split)
       → SplitsInto id sequence payload row r row' → NotThree (code_of (of_split r))

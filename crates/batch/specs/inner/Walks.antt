@@ -2,8 +2,8 @@
 use Rattle.std.specs.Prelude.{◌≡◌, ℕ, ◌+◌, ◌-◌, ◌<◌, ◌≤◌, Bool, true, false, ◌||◌, List, ◌==◌, slice_index}
 use Rattle.session.specs.declared.Mode.{Mode}
 use Rattle.session.specs.declared.Mode.TheVariants.{AsOriginal, SetBackIsSilence}
-use Rattle.session.specs.Rules.{pool_limit}
 use Rattle.batch.specs.declared.walks.Stop.{Stop}
+use Rattle.batch.specs.declared.walks.Stop.TheVariants.{Keyed, Other, Nowhere}
 
 -- the clock's last reading
 abbrev pub clock_end : ℕ
@@ -26,8 +26,8 @@ pub record Past (t : ℕ → Bool) (i r : ℕ) : Type 0 where
   pub low : i ≤ r
   pub fails : (j : ℕ) → i ≤ j → j < r → t j ≡ false
 
--- a walk from place i on stops at the first place that passes k or t, and says which; pool_limit stands for none
-pub data Stops (k t : ℕ → Bool) (i n : ℕ) (r : Stop) : Type 0 where
-  keyed : r.keyed ≡ true → r.at < n → Past k i r.at → k r.at ≡ true → Stops k t i n r
-  other : r.keyed ≡ false → r.at < n → Past k i (r.at + 1) → Past t i r.at → t r.at ≡ true → Stops k t i n r
-  nowhere : r.keyed ≡ false → r.at ≡ pool_limit → Past k i n → Past t i n → Stops k t i n r
+-- a walk from place i on stops at the first place that passes k or t, and says which
+abbrev pub Stops : (ℕ → Bool) → (ℕ → Bool) → ℕ → ℕ → Stop → Type 0
+Stops k t i n (Keyed s) = (s < n) × Past k i s × (k s ≡ true)
+Stops k t i n (Other s) = (s < n) × Past k i (s + 1) × Past t i s × (t s ≡ true)
+Stops k t i n Nowhere = Past k i n × Past t i n

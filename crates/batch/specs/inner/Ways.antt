@@ -1,5 +1,5 @@
 -- The ways that most frames go, as the code tells them apart. Nobody needs to believe these definitions: only the code's own contracts cite them.
-use Rattle.std.specs.Prelude.{Some, ℕ, ◌-◌, Bool, true, false, ◌&&◌, replicate, ◌==◌, nat_le, nat_lt}
+use Rattle.std.specs.Prelude.{ℕ, ◌-◌, Bool, ◌&&◌, replicate, ◌==◌, nat_le, nat_lt, Result, Ok, Err, Some}
 use Rattle.base.specs.Pick.{pick}
 use Rattle.session.specs.declared.Head.{Head}
 use Rattle.session.specs.declared.Heard.{Heard}
@@ -9,8 +9,8 @@ use Rattle.session.specs.declared.Counter.TheVariants as counter
 use Rattle.session.specs.Frames.{index_of, size_of, bad_size}
 use Rattle.session.specs.Heads.{in_turn}
 use Rattle.session.specs.Counting.{Mark}
-use Rattle.batch.specs.declared.Batched.{Batched}
-use Rattle.batch.specs.declared.Batched.TheVariants.{Done, ImpossiblePool, NoRoom}
+use Rattle.batch.specs.declared.BatchError.{BatchError}
+use Rattle.batch.specs.declared.BatchError.TheVariants.{ImpossiblePool, NoRoom}
 
 -- how many bytes the message has that comes in this one frame; 0 where none does
 unfoldable pub short_in : Bool → Heard → ℕ
@@ -32,10 +32,5 @@ unfoldable pub blank_heard : Heard
 blank_heard = record { now_ms = 0; pgn = 0; source_address = 0; part = 0; «data» = replicate 8 0; length = 8 }
 
 -- the refusal, if there is one: of an impossible pool, then of a row too short
-unfoldable pub refusal_of : Bool → Bool → Batched
-refusal_of bad short = pick bad ImpossiblePool (pick short NoRoom Done)
-
-unfoldable pub is_refused : Batched → Bool
-is_refused Done = false
-is_refused ImpossiblePool = true
-is_refused NoRoom = true
+unfoldable pub refusal_of : Bool → Bool → Result Unit BatchError
+refusal_of bad short = pick bad (Err ImpossiblePool) (pick short (Err NoRoom) (Ok tt))

@@ -3,12 +3,13 @@ use Rattle.std.proofs.Common.{◌≡◌, ◌+◌, ◌*◌, length, drop, ap, ◌
 use lib.Seq.{length-paste}
 use Rattle.batch.proofs.bytes.carry.Goals as goal
 
-pub deliver-requires : goal.deliver-requires
-deliver-requires c = let a = c.args in
+pub copy-requires : goal.copy-requires
+copy-requires c = let a = c.args in
     let eight : length a.frame ≡ 8 = search rules in
+    let all : length a.bytes.now ≡ 7136 = search rules in
     let pre = c.requires in
     let long =
     ap length c.store.ensures
-    ∙ length-paste a.bytes.now (a.g * 223 + a.at) (drop a.from a.frame) a.n (omega (arith, pre.0, pre.1, pre.2)) (simp length-drop (omega (arith, eight, pre.3)))
-    ∙ pre.0 in
-    (pre.5, long, omega (arith, pre.1, pre.4))
+    ∙ length-paste a.bytes.now (a.g * 223 + a.d.at) (drop a.d.from a.frame) a.d.count (omega (arith, all, pre.0, pre.1)) (simp length-drop (omega (arith, eight, pre.2)))
+    ∙ all in
+    (pre.4, omega (arith, long, pre.0, pre.3))

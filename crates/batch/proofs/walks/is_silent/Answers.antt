@@ -4,4 +4,4 @@ use Rattle.batch.proofs.WalkLaws.{silent_is}
 use Rattle.batch.proofs.walks.is_silent.Goals as goal
 
 pub returns : goal.returns
-returns c = silent_is _ _ (search rules) (search rules) c.wrapping_sub_u64.result (search rules) (rw (← c.silent_before.ensures) c.wrapping_sub_u64.ensures.value) _ _ c.heard_within.ensures
+returns c = silent_is _ _ (search rules) (search rules) _ (search rules) _ _ c.heard_within.ensures

@@ -1,6 +1,11 @@
 -- `leave_batch` meets its contract: each lent array as its call says. Assumes nothing.
 use mathlib.Core.Path.{refl}
+use Rattle.batch.specs.Rows.{of_batched}
 use Rattle.ffi.proofs.batches.leave_batch.Goals as goal
 
-pub returns : goal.returns
-returns c = record { told = c.batched_number.ensures _; kept = c.put_heads.ensures; stored = refl; counted = c.counter_numbers.ensures; taken = refl }
+pub returns-in-Ok : goal.returns-in-Ok
+unfolding of_batched
+returns-in-Ok c = record { told = rw c.in-Ok.is; kept = c.put_heads.ensures; stored = refl; counted = c.counter_numbers.ensures; taken = c.counts_of.ensures }
+
+pub returns-in-Err : goal.returns-in-Err
+returns-in-Err c = record { told = rw (c.in-Err.is, c.refusal_number.ensures); kept = c.put_heads.ensures; stored = refl; counted = c.counter_numbers.ensures; taken = c.counts_of.ensures }
