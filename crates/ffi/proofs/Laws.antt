@@ -8,21 +8,23 @@ use Rattle.session.specs.declared.Counters.{Counters}
 use Rattle.session.specs.declared.PoolKind.{PoolKind}
 use Rattle.session.specs.declared.PoolKind.TheVariants.{Original, Addressed}
 use Rattle.assembler.specs.Making.{fresh_pool, fresh_pool_in, of_made}
-use Rattle.assembler.specs.declared.Arrival.{Arrival}
-use Rattle.assembler.specs.declared.ArrivalById.{ArrivalById}
-use Rattle.assembler.specs.declared.ArrivalByIdWithLength.{ArrivalByIdWithLength}
-use Rattle.assembler.specs.declared.ArrivalWithLength.{ArrivalWithLength}
-use Rattle.assembler.specs.Arrivals.{heard_of, heard_with_length, heard_by_id, heard_by_id_with_length}
-use Rattle.assembler.specs.Promises.{rules_of, entered, at_original, at_addressed, answer_to, ReceivesHeard, Receives, ReceivesWithLength, ReceivesById, ReceivesByIdWithLength}
+use Rattle.assembler.specs.Arrivals.{ArrivalByIdWithLength}
+use Rattle.assembler.specs.Arrivals.{ArrivalWithLength}
+use Rattle.assembler.specs.Arrivals.{heard_of, heard_by_id, all_cut_to}
+use Rattle.assembler.specs.Promises.{rules_of, entered, answer_to, ReceivesHeard, ProcessesHeard}
 use Rattle.assembler.proofs.Promised.{received_by as equation}
 use Rattle.assembler.specs.declared.Received.{Received}
+use Rattle.assembler.specs.declared.Processed.{Processed}
+use Rattle.assembler.specs.inner.Forms.{received_of}
+use Rattle.assembler.proofs.Forms.{frame_cut, by_id_cut}
+use Rattle.ffi.specs.inner.Calls.{HeardLeft}
 use Rattle.assembler.specs.declared.Made.TheVariants.{Fresh}
 use Rattle.assembler.specs.declared.Pool.{Pool}
 use Rattle.batch.specs.Rows.{Rows, bytes_in, batch_of, BatchLeft, taken_in, Batches}
 use Rattle.batch.proofs.Promised.{batched_by}
 use Rattle.batch.specs.declared.Batch.{Batch}
 use Rattle.numbers.specs.Pool.{pool_from, counters_from, CallMemory, CallLeft, PoolMemory, PoolLeft}
-use Rattle.ffi.specs.Calls.{pool_in, received_in}
+use Rattle.ffi.specs.Calls.{pool_in, received_in, FrameWithLengthLeft, FrameByIdWithLengthLeft}
 use Rattle.ffi.specs.Batches.{BatchMemory, BatchMemoryLeft, batch_in, FramesLeft}
 use Rattle.ffi.specs.inner.Batches.{PoolAfter}
 
@@ -40,25 +42,25 @@ default_by e = ap (λ (p : Pool). gives p.size) e
 
 -- ---- the receive call on a pool and counters from numbers
 module _ (size mode kind : ℕ) (pgns : List ℕ) (before : CallMemory) {p : Pool} {k : Counters} {r : Received} (e : p ≡ pool_from size mode kind before.heads before.bytes) (f : k ≡ counters_from before.counters) where
-  entered_by : (entry : PoolKind) (a : Answer Heard) → ReceivesHeard pgns (entered entry p a) p k r → r ≡ received_in (pool_in size mode kind before) pgns (entered entry (pool_in size mode kind before) a) before
+  pub entered_by : (entry : PoolKind) (a : Answer Heard) → ReceivesHeard pgns (entered entry p a) p k r → r ≡ received_in (pool_in size mode kind before) pgns (entered entry (pool_in size mode kind before) a) before
   unfolding received_in pool_in
   entered_by entry a q =
       equation pgns (entered entry p a) p k q
       ∙ ap (λ (x : Pool). answer_to pgns (entered entry x a) x k) e
       ∙ ap (λ (x : Counters). answer_to pgns (entered entry (pool_from size mode kind before.heads before.bytes) a) (pool_from size mode kind before.heads before.bytes) x) f
 
-  pub received_by : (a : Arrival) → Receives pgns a p k r → r ≡ received_in (pool_in size mode kind before) pgns (at_original (pool_in size mode kind before) (heard_of a)) before
-  received_by a q = entered_by Original (gives (heard_of a)) q
+-- and with the counters lent
+module _ (size mode kind : ℕ) (pgns : List ℕ) (before : CallMemory) {p : Pool} {k after : Counters} {r : Processed} (e : p ≡ pool_from size mode kind before.heads before.bytes) (f : k ≡ counters_from before.counters) where
+  pub processed_by : (entry : PoolKind) (a : Answer Heard) → ProcessesHeard pgns (entered entry p a) p k r after → received_of r after ≡ received_in (pool_in size mode kind before) pgns (entered entry (pool_in size mode kind before) a) before
+  processed_by entry a q = entered_by size mode kind pgns before e f entry a (record { answer = q.answer; counted = q.counted })
 
-  pub received_with_length_by : (x : ArrivalWithLength) → ReceivesWithLength pgns x p k r → r ≡ received_in (pool_in size mode kind before) pgns (at_original (pool_in size mode kind before) (heard_with_length x)) before
-  received_with_length_by x q = entered_by Original (gives (heard_with_length x)) q
+-- of a frame with a length
+module _ (size mode kind : ℕ) (pgns : List ℕ) {before after : CallMemory} {code : ℕ} where
+  pub cut_left : (x : ArrivalWithLength) → HeardLeft size mode kind pgns Original (all_cut_to x.length (gives (heard_of x.arrival))) before code after → FrameWithLengthLeft size mode kind pgns x before code after
+  cut_left x h = rw (frame_cut x) at h
 
-  pub received_by_id_by : (a : ArrivalById) → ReceivesById pgns a p k r → r ≡ received_in (pool_in size mode kind before) pgns (at_addressed (pool_in size mode kind before) (heard_by_id a)) before
-  received_by_id_by a q = entered_by Addressed (heard_by_id a) q
-
-  pub received_by_id_with_length_by : (x : ArrivalByIdWithLength) → ReceivesByIdWithLength pgns x p k r
-      → r ≡ received_in (pool_in size mode kind before) pgns (at_addressed (pool_in size mode kind before) (heard_by_id_with_length x)) before
-  received_by_id_with_length_by x q = entered_by Addressed (heard_by_id_with_length x) q
+  pub cut_left_by_id : (x : ArrivalByIdWithLength) → HeardLeft size mode kind pgns Addressed (all_cut_to x.length (heard_by_id x.arrival)) before code after → FrameByIdWithLengthLeft size mode kind pgns x before code after
+  cut_left_by_id x h = rw (by_id_cut x) at h
 
 -- ---- a batch on a pool and counters from numbers, and what it leaves
 module _ (size mode kind : ℕ) (pgns : List ℕ) (rows : Rows) (before : BatchMemory) {p : Pool} {k : Counters} (e : p ≡ pool_from size mode kind before.heads before.bytes) (f : k ≡ counters_from before.counters) where
