@@ -35,7 +35,7 @@ fn is_due(bytes: [u8; MAX_FAST_PACKET_PAYLOAD], base: usize, i: usize) -> bool
     base <= hours && hours - base == i
 }
 
-#[tactic(auto, using(crate::proofs::StrictLaws::picking), unfolding(crate::specs::Check::want_at))]
+#[tactic(auto, using(base::proofs::Cases::cases, base::proofs::Cases::said), unfolding(crate::specs::Check::want_at))]
 fn want_at(k: usize, b: u8) -> u8
     ensures { result ≡ want_at k b }
 {
@@ -60,7 +60,7 @@ fn off_pattern(bytes: [u8; MAX_FAST_PACKET_PAYLOAD]) -> bool
 }
 
 // Message i, whose bytes are the first of these: the first thing wrong with it. `last` is the sequence of the one before it.
-#[tactic(auto, using(crate::proofs::StrictLaws::picking), unfolding(crate::specs::inner::Tx::message_of))]
+#[tactic(auto, using(base::proofs::Cases::cases, base::proofs::Cases::said), unfolding(crate::specs::inner::Tx::message_of))]
 pub(crate) fn check_message(
     base: u32,
     i: usize,
