@@ -70,5 +70,3 @@ module _ (n missing wanted next : ℕ) (bs : List ℕ) (len : ℕ) {end odd : �
       (when_ne _ _ z
       (er ∙ ap (λ (x : Standing). option_or x p) ea ∙ ap (option_or (later_then n missing wanted next (get_or bs 0 0 / 32) (get_or bs 0 0 % 32) None)) (ep ∙ ap (padding_at n) (eo ∙ ap (λ (k : ℕ). odd_of (drop k bs)) ee))
       ∙ later_or _ _ _ _ (eqb missing 0) (eqb (get_or bs 0 0 / 32) wanted) (eqb (get_or bs 0 0 % 32) next)))
-
-pub ruleset faulting = (fault_first, fault_later)

@@ -65,10 +65,6 @@ counts_on i s f c e = rw e (counts i s f c)
 pub counts_tx : (i : ℕ) (s : Tx) {t : Tx} (f : Frame) → Counted i s.scan → t ≡ tx_of s f → Counted (i + 1) t.scan
 counts_tx i s f c e = rw e (kept_count i s f c)
 
--- the counts fit
-pub small : (i : ℕ) {n : ℕ} (s : Scan) → i < n → n ≤ 0x2000_0000_0000_0000 → Counted i s → Small s
-small i s h k c = record { frames = omega arith; whole = omega arith; bytes = omega arith }
-
 -- ---- along a row: what is left of it at place i, and one frame on
 module _ (fs : List Frame) (i : ℕ) (f : Frame) {n : ℕ} (en : n ≡ length fs) (h : i < n) (ef : f ≡ get_or fs i f) where
   one_more : {A : Type 0} (P : List Frame → A) → P (drop i fs) ≡ P (f ∷ drop (i + 1) fs)

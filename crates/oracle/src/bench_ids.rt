@@ -13,7 +13,7 @@ const CLAIM_PGN: u32 = 60928;
 
 pub(crate) const ENGINE_PGN: u32 = 127489;
 
-#[tactic(auto, using(crate::proofs::StrictLaws::picking), unfolding(crate::specs::Ids::bench_pgn))]
+#[tactic(auto, using(base::proofs::Cases::cases, base::proofs::Cases::said), unfolding(crate::specs::Ids::bench_pgn))]
 fn pgn_of(id: u32) -> u32
     ensures { result ≡ bench_pgn id }
 {
@@ -25,7 +25,7 @@ fn pgn_of(id: u32) -> u32
 }
 
 // Whether a frame is of another source or PGN.
-#[tactic(auto, using(crate::proofs::StrictLaws::picking), unfolding(crate::specs::Ids::is_other))]
+#[tactic(auto, using(base::proofs::Cases::cases, base::proofs::Cases::said), unfolding(crate::specs::Ids::is_other))]
 pub(crate) fn is_other(source: u8, pgn: u32, id: u32) -> bool
     ensures { result ≡ is_other source pgn id }
 {

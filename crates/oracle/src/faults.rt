@@ -19,7 +19,7 @@ fn odd_byte(bytes: [u8; 8], from: usize) -> u8
     FILL
 }
 
-#[tactic(auto, using(crate::proofs::StrictLaws::picking))]
+#[tactic(auto, using(base::proofs::Cases::cases, base::proofs::Cases::said))]
 fn padding(n: usize, odd: u8) -> Option<Fault>
     ensures { result ≡ padding_at n odd }
 {
@@ -30,7 +30,7 @@ fn padding(n: usize, odd: u8) -> Option<Fault>
     }
 }
 
-#[tactic(auto, using(crate::proofs::StrictLaws::picking))]
+#[tactic(auto, using(base::proofs::Cases::cases, base::proofs::Cases::said))]
 fn first_fault(n: usize, missing: u8, size: u8) -> Option<Fault>
     ensures { result ≡ first_then n missing size None }
 {
@@ -46,7 +46,7 @@ fn first_fault(n: usize, missing: u8, size: u8) -> Option<Fault>
     None
 }
 
-#[tactic(auto, using(crate::proofs::StrictLaws::picking))]
+#[tactic(auto, using(base::proofs::Cases::cases, base::proofs::Cases::said))]
 fn later_fault(
     n: usize,
     missing: u8,
@@ -70,7 +70,7 @@ fn later_fault(
 }
 
 // From this place on the frame's bytes are no more the message's.
-#[tactic(auto, using(crate::proofs::StrictLaws::picking), unfolding(crate::specs::inner::Frames::message_end))]
+#[tactic(auto, using(base::proofs::Cases::cases, base::proofs::Cases::said), unfolding(crate::specs::inner::Frames::message_end))]
 fn message_end(first: u8, second: u8, missing: u8) -> usize
     ensures { result ≡ message_end missing first second }
 {

@@ -16,26 +16,27 @@ const HOURS_END: usize = 15;
 const RESERVED_AT: usize = 19;
 
 #[tactic(auto, unfolding(crate::specs::Check::hours_of))]
-fn hours(bytes: [u8; MAX_FAST_PACKET_PAYLOAD]) -> usize
+fn hours(bytes: [u8; MAX_FAST_PACKET_PAYLOAD]) -> u32
     ensures { result ≡ hours_of bytes }
 {
-    let a = usize::from(bytes[HOURS_AT]);
-    let b = usize::from(bytes[HOURS_AT + 1]);
-    let c = usize::from(bytes[HOURS_AT + 2]);
-    let d = usize::from(bytes[HOURS_AT + 3]);
-    a + b * 256 + c * 0x1_0000 + d * 0x100_0000
+    u32::from_le_bytes([
+        bytes[HOURS_AT],
+        bytes[HOURS_AT + 1],
+        bytes[HOURS_AT + 2],
+        bytes[HOURS_AT + 3],
+    ])
 }
 
 // Whether the hours are the base and the message's number; no sum is taken, so none is too large.
 #[tactic(auto, using(crate::proofs::CheckLaws::due))]
-fn is_due(bytes: [u8; MAX_FAST_PACKET_PAYLOAD], base: usize, i: usize) -> bool
+fn is_due(bytes: [u8; MAX_FAST_PACKET_PAYLOAD], base: u32, i: usize) -> bool
     ensures { result ≡ eqb (hours_of bytes) (base + i) }
 {
     let hours = hours(bytes);
-    base <= hours && hours - base == i
+    base <= hours && (hours - base) as usize == i
 }
 
-#[tactic(auto, using(crate::proofs::StrictLaws::picking), unfolding(crate::specs::Check::want_at))]
+#[tactic(auto, using(base::proofs::Cases::cases, base::proofs::Cases::said), unfolding(crate::specs::Check::want_at))]
 fn want_at(k: usize, b: u8) -> u8
     ensures { result ≡ want_at k b }
 {
@@ -60,7 +61,7 @@ fn off_pattern(bytes: [u8; MAX_FAST_PACKET_PAYLOAD]) -> bool
 }
 
 // Message i, whose bytes are the first of these: the first thing wrong with it. `last` is the sequence of the one before it.
-#[tactic(auto, using(crate::proofs::StrictLaws::picking), unfolding(crate::specs::inner::Tx::message_of))]
+#[tactic(auto, using(base::proofs::Cases::cases, base::proofs::Cases::said), unfolding(crate::specs::inner::Tx::message_of))]
 pub(crate) fn check_message(
     base: u32,
     i: usize,
@@ -74,7 +75,7 @@ pub(crate) fn check_message(
     if usize::from(size) != ENGINE_BYTES {
         return Err(CheckError::Size(i));
     }
-    if !is_due(bytes, base as usize, i) {
+    if !is_due(bytes, base, i) {
         return Err(CheckError::Hours(i));
     }
     if off_pattern(bytes) {

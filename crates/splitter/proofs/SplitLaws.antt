@@ -211,5 +211,3 @@ module _ (id sequence : ℕ) (p : List ℕ) where
         ∙ ap (λ (q : List ℕ). sets l (8 * i) q) eight_of
         ∙ ap (λ (q : List ℕ). sets q (8 * i) (frame_bytes (split_frame id sequence p i))) e
         ∙ laid_more bytes_all frame_bytes bytes_add o i (8 * i) (bytes_long (first_frames i) ∙ all)
-
-pub ruleset laying = (row_turn, ids_turn, lens_turn, bytes_turn)

@@ -55,7 +55,8 @@ pub fn fast_packet_frames(
     Ok(count)
 }
 
-// ---- the same in separate slices
+// ---- the same in separate slices. Each of the two loops stays: over a trait for rows that are written they would be no plainer, with a struct of three
+// `&mut` slices and an impl for each.
 
 fn lay_rows(
     ids: &mut [u32],

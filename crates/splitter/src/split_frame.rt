@@ -16,6 +16,7 @@ const LAST_SEQUENCE: u8 = 7;
 const LATER_BYTES: usize = 7;
 
 // How many frames the splitter lays, from the identifier, the sequence and the sizes.
+#[tactic(auto, using(base::proofs::Cases::cases), unfolding(crate::specs::inner::Told::told_of, crate::specs::Frames::is_wide))]
 pub(crate) fn split_of(id: u32, sequence: u8, size: usize, room: usize) -> Result<usize, SplitError>
     ensures { result ≡ told_of id sequence size room }
 {

@@ -3,4 +3,4 @@ use Rattle.oracle.proofs.BridgeTx.{check_told}
 use Rattle.oracle.proofs.check_tx.Goals as goal
 
 pub returns : goal.returns
-returns g c = check_told (g.R.FrameRow.frames c.args.frames) c.args.source c.args.expected c.args.hours_base c.tx_start.ensures c.scan_tx-last.ensures c.checked_of.ensures
+returns g c = check_told (g.R.FrameRow.frames c.args.frames) c.args.source c.args.expected c.args.hours_base c.new.ensures c.scan_tx-last.ensures c.verdict.ensures

@@ -5,4 +5,4 @@ use Rattle.oracle.specs.inner.Tx.{tx_all}
 use Rattle.oracle.proofs.scan_tx.Given as goal
 
 abbrev pub invariant-loop-i : goal.invariant-loop-i
-invariant-loop-i g l = Counted l.i l.t.scan × (tx_all l.t (drop l.i (g.R.FrameRow.frames l.frames)) ≡ tx_all l.initial.t (g.R.FrameRow.frames l.frames))
+invariant-loop-i g l = Counted l.i l.tx.scan × (tx_all l.tx (drop l.i (g.R.FrameRow.frames l.frames)) ≡ tx_all l.initial.tx (g.R.FrameRow.frames l.frames))
