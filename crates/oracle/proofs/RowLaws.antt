@@ -9,7 +9,7 @@ use lib.Seq.{get_or-drop, sets}
 use Rattle.std.proofs.lemmas.List.{at_drop_more}
 use Rattle.splitter.specs.Frames.{eight, count_in}
 use Rattle.oracle.specs.Rows.{frame_in, frames_in, row_in}
-use Rattle.oracle.specs.inner.Scan.{scan_frame, scan_of, added_of, row_of, bytes_laid, rows_laid, Counted, Small}
+use Rattle.oracle.specs.inner.Scan.{scan_frame, scan_of, added_of, row_of, bytes_laid, rows_laid, Counted}
 use Rattle.oracle.specs.inner.Tx.{tx_of, tx_all}
 use Rattle.splitter.specs.declared.Frame.{Frame}
 use Rattle.oracle.specs.declared.Scan.{Scan}

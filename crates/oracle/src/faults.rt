@@ -1,9 +1,10 @@
 // Why the bench refuses a frame: it is judged by itself, beside what strict reassembly knows of the open message.
 ghost use Rattle.std.specs.Prelude.{◌≡◌, drop, None};
 ghost use Rattle.oracle.specs.Strict.{odd_of};
-ghost use Rattle.oracle.specs.inner.Frames.{padding_at, first_then, later_then, message_end, fault_at};
+ghost use Rattle.oracle.specs.inner.Frames.{padding_at, first_then, later_then, message_end};
+ghost use Rattle.oracle.specs.inner.Scan.{fault_of};
 
-use crate::Fault;
+use crate::{Fault, Scan};
 use splitter::{FILL, FRAME_BYTES, INDICES, MAX_FAST_PACKET_PAYLOAD};
 
 // The first byte from some place on that is not 0xFF; 0xFF if there is none.
@@ -30,41 +31,35 @@ fn padding(n: usize, odd: u8) -> Option<Fault>
     }
 }
 
-#[tactic(auto, using(base::proofs::Cases::cases, base::proofs::Cases::said))]
-fn first_fault(n: usize, missing: u8, size: u8) -> Option<Fault>
-    ensures { result ≡ first_then n missing size None }
+#[tactic(auto, using(base::proofs::Cases::cases))]
+fn first_fault(scan: Scan, size: u8) -> Option<Fault>
+    ensures { result ≡ first_then scan.n scan.missing size None }
 {
-    if 0 < missing {
-        return Some(Fault::Restarted(n));
+    if 0 < scan.missing {
+        return Some(Fault::Restarted(scan.n));
     }
     if size == 0 {
-        return Some(Fault::Announced(n, size));
+        return Some(Fault::Announced(scan.n, size));
     }
     if MAX_FAST_PACKET_PAYLOAD < usize::from(size) {
-        return Some(Fault::Announced(n, size));
+        return Some(Fault::Announced(scan.n, size));
     }
     None
 }
 
-#[tactic(auto, using(base::proofs::Cases::cases, base::proofs::Cases::said))]
-fn later_fault(
-    n: usize,
-    missing: u8,
-    wanted: u8,
-    next: u8,
-    sequence: u8,
-    index: u8,
-) -> Option<Fault>
-    ensures { result ≡ later_then n missing wanted next sequence index None }
+#[tactic(auto, using(base::proofs::Cases::cases))]
+fn later_fault(scan: Scan, sequence: u8, index: u8) -> Option<Fault>
+    ensures { result ≡ later_then scan.n scan.missing scan.sequence scan.index sequence index None }
 {
-    if missing == 0 {
-        return Some(Fault::Stray(n));
+    let wrong = Some(Fault::Order(scan.n, sequence, index, scan.sequence, scan.index));
+    if scan.missing == 0 {
+        return Some(Fault::Stray(scan.n));
     }
-    if sequence != wanted {
-        return Some(Fault::Order(n, sequence, index, wanted, next));
+    if sequence != scan.sequence {
+        return wrong;
     }
-    if index != next {
-        return Some(Fault::Order(n, sequence, index, wanted, next));
+    if index != scan.index {
+        return wrong;
     }
     None
 }
@@ -81,33 +76,17 @@ fn message_end(first: u8, second: u8, missing: u8) -> usize
     }
 }
 
-// Why frame n is refused, if it is. The open message lacks `missing` bytes, none where none is open, and its next frame must have that sequence and
-// index.
-pub(crate) fn frame_fault(
-    n: usize,
-    missing: u8,
-    sequence: u8,
-    index: u8,
-    bytes: [u8; 8],
-    len: usize,
-) -> Option<Fault>
-    ensures { result ≡ fault_at n missing sequence index bytes len }
+// Why a frame is refused, if it is, by what is known of those before it.
+pub(crate) fn frame_fault(scan: Scan, bytes: [u8; 8], len: usize) -> Option<Fault>
+    ensures { result ≡ fault_of scan bytes len }
 {
     if len != FRAME_BYTES {
-        return Some(Fault::Length(n, len));
+        return Some(Fault::Length(scan.n, len));
     }
-    let end = message_end(bytes[0], bytes[1], missing);
-    let rest = padding(n, odd_byte(bytes, end));
+    let end = message_end(bytes[0], bytes[1], scan.missing);
+    let rest = padding(scan.n, odd_byte(bytes, end));
     if bytes[0] % INDICES == 0 {
-        return first_fault(n, missing, bytes[1]).or(rest);
+        return first_fault(scan, bytes[1]).or(rest);
     }
-    later_fault(
-        n,
-        missing,
-        sequence,
-        index,
-        bytes[0] / INDICES,
-        bytes[0] % INDICES,
-    )
-    .or(rest)
+    later_fault(scan, bytes[0] / INDICES, bytes[0] % INDICES).or(rest)
 }

@@ -3,7 +3,7 @@ ghost use Rattle.std.specs.Prelude.{◌≡◌, ◌+◌, eqb, take};
 ghost use Rattle.oracle.specs.Check.{hours_of, want_at, off_from};
 ghost use Rattle.oracle.specs.inner.Tx.{message_of};
 
-use crate::CheckError;
+use crate::{CheckError, Scan, Tx};
 use splitter::{FILL, MAX_FAST_PACKET_PAYLOAD, SEQUENCES};
 
 // Messages of 26 bytes, the hours in four of them from byte 11 on, and a reserved byte.
@@ -60,22 +60,20 @@ fn off_pattern(bytes: [u8; MAX_FAST_PACKET_PAYLOAD]) -> bool
     false
 }
 
-// Message i, whose bytes are the first of these: the first thing wrong with it. `last` is the sequence of the one before it.
+// The message that a frame made whole, whose bytes are the first of these: the first thing wrong with it, by what was known before the frame and after it.
 #[tactic(auto, using(base::proofs::Cases::cases, base::proofs::Cases::said), unfolding(crate::specs::inner::Tx::message_of))]
 pub(crate) fn check_message(
-    base: u32,
-    i: usize,
-    last: u8,
-    sequence: u8,
-    size: u8,
+    before: Tx,
+    after: Scan,
     bytes: [u8; MAX_FAST_PACKET_PAYLOAD],
 ) -> Result<(), CheckError>
-    ensures { result ≡ message_of base i last sequence size bytes }
+    ensures { result ≡ message_of before.base before.scan.messages before.last after.sequence after.announced bytes }
 {
-    if usize::from(size) != ENGINE_BYTES {
+    let i = before.scan.messages;
+    if usize::from(after.announced) != ENGINE_BYTES {
         return Err(CheckError::Size(i));
     }
-    if !is_due(bytes, base, i) {
+    if !is_due(bytes, before.base, i) {
         return Err(CheckError::Hours(i));
     }
     if off_pattern(bytes) {
@@ -84,7 +82,7 @@ pub(crate) fn check_message(
     if i == 0 {
         return Ok(());
     }
-    if sequence != (last % SEQUENCES + 1) % SEQUENCES {
+    if after.sequence != (before.last % SEQUENCES + 1) % SEQUENCES {
         return Err(CheckError::Sequence(i));
     }
     Ok(())
