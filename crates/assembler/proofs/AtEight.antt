@@ -16,8 +16,8 @@ use Rattle.session.specs.declared.Counters.{Counters}
 use Rattle.session.specs.declared.Heard.{Heard}
 use Rattle.assembler.specs.declared.Arrival.{Arrival}
 use Rattle.assembler.specs.declared.ArrivalById.{ArrivalById}
-use Rattle.assembler.specs.declared.ArrivalByIdWithLength.{ArrivalByIdWithLength}
-use Rattle.assembler.specs.declared.ArrivalWithLength.{ArrivalWithLength}
+use Rattle.assembler.specs.Arrivals.{ArrivalByIdWithLength}
+use Rattle.assembler.specs.Arrivals.{ArrivalWithLength}
 use Rattle.assembler.specs.declared.Pool.{Pool}
 use Rattle.assembler.specs.declared.Processed.{Processed}
 use Rattle.assembler.specs.declared.Received.{Received}

@@ -25,7 +25,7 @@ use Rattle.session.specs.declared.PoolKind.TheVariants.{Original, Addressed}
 use Rattle.session.specs.Rules.{part_allowed, rules_by}
 use Rattle.assembler.specs.Call.{EightBytes, CallOk}
 use Rattle.assembler.specs.declared.ArrivalById.{ArrivalById}
-use Rattle.assembler.specs.declared.ArrivalByIdWithLength.{ArrivalByIdWithLength}
+use Rattle.assembler.specs.Arrivals.{ArrivalByIdWithLength}
 use Rattle.assembler.specs.declared.Pool.{Pool}
 use Rattle.assembler.specs.declared.Received.{Received}
 use Rattle.assembler.specs.inner.Forms.{refused_as}

@@ -5,6 +5,7 @@ pub mod Carries
 pub mod Keeps
 pub mod Replies
 pub mod Entries
+pub mod Forms
 pub mod Promised
 pub mod Unique
 pub mod ByCalls

@@ -5,10 +5,8 @@ use Rattle.std.proofs.Common.{Result as ResultOf, Ok, Err}
 use mathlib.Core.Path.{◌≡◌, refl, sym, ap, subst, ◌∙◌}
 use Rattle.base.specs.Answer.{Answer, gives, refuses}
 use Rattle.base.specs.Pick.{pick}
-use Rattle.can_id.specs.declared.CanIdParts.{CanIdParts}
 use Rattle.can_id.specs.declared.CanIdReadError.{CanIdReadError}
 use Rattle.can_id.specs.declared.CanIdReadError.TheVariants.{TooWide}
-use Rattle.can_id.specs.Read.{of_read, read_of}
 use Rattle.session.specs.declared.Counters.{Counters}
 use Rattle.session.specs.declared.Heard.{Heard}
 use Rattle.session.specs.declared.Kind.{Kind}
@@ -16,9 +14,6 @@ use Rattle.session.specs.declared.Mode.{Mode}
 use Rattle.session.specs.declared.PoolKind.{PoolKind}
 use Rattle.session.specs.declared.Kind.TheVariants as kind
 use Rattle.session.specs.declared.Kind.TheVariants.{ImpossiblePool, NotListed, Rejected, PoolFull, Lost, FragmentConsumed, MessageComplete}
-use Rattle.session.specs.declared.PoolKind.TheVariants.{Addressed}
-use Rattle.assembler.specs.declared.ArrivalById.{ArrivalById}
-use Rattle.assembler.specs.declared.ArrivalByIdWithLength.{ArrivalByIdWithLength}
 use Rattle.assembler.specs.declared.Made.{Made}
 use Rattle.assembler.specs.declared.Made.TheVariants as made
 use Rattle.assembler.specs.declared.MadePool.{MadePool}
@@ -26,11 +21,11 @@ use Rattle.assembler.specs.declared.Pool.{Pool}
 use Rattle.assembler.specs.declared.Processed.{Processed}
 use Rattle.assembler.specs.declared.Received.{Received}
 use Rattle.assembler.specs.Making.{size_made, pool_made, of_made, MakesPoolOf}
-use Rattle.assembler.specs.Arrivals.{heard_from, heard_by_id, all_cut_to, heard_by_id_with_length}
+use Rattle.assembler.specs.Arrivals.{of_heard}
 use Rattle.assembler.specs.View.{why_kind, reply_kind, reply_payload, reply_length, reply_by, reply_of}
-use Rattle.assembler.specs.Promises.{entered, Result, Answers, answer_to, ReceivesHeard, ProcessesHeard, ReceivesById, ReceivesByIdWithLength}
+use Rattle.assembler.specs.Promises.{entered, Result, Answers, answer_to, ReceivesHeard, ProcessesHeard}
 use Rattle.assembler.specs.inner.Forms.{processed_of, refused_as}
-use Rattle.assembler.proofs.Entries.{Known, known_entered, known_by_id, known_by_id_with_length, answer_refused, answer_back}
+use Rattle.assembler.proofs.Entries.{Known, frame, wide, known_entered, answer_refused, answer_back}
 
 -- ---- a pool made
 
@@ -107,33 +102,14 @@ refused_wide : (pgns : List ℕ) (entry : PoolKind) (p : Pool) (k : Counters) �
 unfolding entered reply_kind pick
 refused_wide pgns entry p k = sym (answer_refused pgns p k 8 [])
 
--- of a frame by its identifier
-heard_is : (read : ResultOf CanIdParts CanIdReadError) (a : ArrivalById) → of_read read ≡ read_of a.id.0 → heard_from a (of_read read) ≡ heard_by_id a
-unfolding heard_by_id
-heard_is read a es = ap (heard_from a) es
+-- by what a form of the call hears of its frame
+module _ (pgns : List ℕ) (entry : PoolKind) (p : Pool) (k : Counters) (a : Answer Heard) (o : ResultOf Heard CanIdReadError) (eo : of_heard o ≡ a) where
+  pub heard_taken : (f : Heard) {b : PoolKind} {r : Received} → o ≡ Ok f → b ≡ entry → r ≡ answer_to pgns (entered b p (gives f)) p k → ReceivesHeard pgns (entered entry p a) p k r
+  heard_taken f e eb h =
+      let same : gives f ≡ a = rw e at eo in
+      promised_as pgns entry p k (subst Known same (frame f)) same (rw (eb) at h)
 
-cut_is : (read : ResultOf CanIdParts CanIdReadError) (x : ArrivalByIdWithLength) → of_read read ≡ read_of x.arrival.id.0 → all_cut_to x.length (heard_from x.arrival (of_read read)) ≡ heard_by_id_with_length x
-unfolding heard_by_id_with_length
-cut_is read x es = ap (all_cut_to x.length) (heard_is read x.arrival es)
-
-module _ (pgns : List ℕ) (p : Pool) (k : Counters) (read : ResultOf CanIdParts CanIdReadError) where
-  module _ (a : ArrivalById) (es : of_read read ≡ read_of a.id.0) where
-    pub id_wide : (f : CanIdReadError) {r : Received} → read ≡ Err f → r ≡ refused_as kind.TooWide p k → ReceivesById pgns a p k r
-    id_wide TooWide e h =
-        let wide : refuses 8 [] ≡ heard_by_id a = unfold heard_from in rw e at (heard_is read a es) in
-        promised_as pgns Addressed p k (known_by_id a) wide (h ∙ refused_wide pgns Addressed p k)
-
-    pub id_parts : (parts : CanIdParts) (f : Heard) {r : Received} → read ≡ Ok parts → gives f ≡ heard_from a (gives parts) → r ≡ answer_to pgns (entered Addressed p (gives f)) p k → ReceivesById pgns a p k r
-    id_parts parts f e ef h = promised_as pgns Addressed p k (known_by_id a) (ef ∙ (rw e at (heard_is read a es))) h
-
-  module _ (x : ArrivalByIdWithLength) (es : of_read read ≡ read_of x.arrival.id.0) where
-    pub id_wide_with_length : (f : CanIdReadError) {r : Received} → read ≡ Err f → r ≡ refused_as kind.TooWide p k → ReceivesByIdWithLength pgns x p k r
-    id_wide_with_length TooWide e h =
-        let wide : refuses 8 [] ≡ heard_by_id_with_length x = unfold heard_from all_cut_to in rw e at (cut_is read x es) in
-        promised_as pgns Addressed p k (known_by_id_with_length x) wide (h ∙ refused_wide pgns Addressed p k)
-
-    pub id_parts_with_length : (parts : CanIdParts) (f : Heard) {r : Received} → read ≡ Ok parts → gives f ≡ all_cut_to x.length (heard_from x.arrival (gives parts)) → r ≡ answer_to pgns (entered Addressed p (gives f)) p k
-        → ReceivesByIdWithLength pgns x p k r
-    id_parts_with_length parts f e ef h = promised_as pgns Addressed p k (known_by_id_with_length x) (ef ∙ (rw e at (cut_is read x es))) h
-
-pub ruleset by_id_rules = (id_wide, id_parts, id_wide_with_length, id_parts_with_length)
+  pub heard_refused : (e : CanIdReadError) {r : Received} → o ≡ Err e → r ≡ refused_as kind.TooWide p k → ReceivesHeard pgns (entered entry p a) p k r
+  heard_refused TooWide e h =
+      let same : refuses 8 [] ≡ a = rw e at eo in
+      promised_as pgns entry p k (subst Known same wide) same (h ∙ refused_wide pgns entry p k)

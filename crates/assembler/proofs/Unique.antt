@@ -1,9 +1,12 @@
 -- Two outcomes that satisfy a call's contract are equal. Assumes nothing.
 use Prim.Native.Nat.{ℕ}
-use mathlib.Core.Path.{◌≡◌}
+use mathlib.Core.Path.{◌≡◌, refl}
+use Rattle.std.proofs.Common.{Result as ResultOf, Ok, Err}
 use mathlib.Core.List.{List}
-use Rattle.base.proofs.Cases.{determined}
-use Rattle.base.specs.Answer.{Answer}
+use Rattle.base.proofs.Cases.{determined, determined_by}
+use Rattle.base.specs.Answer.{Answer, gives, refuses}
+use Rattle.can_id.specs.declared.CanIdReadError.{CanIdReadError}
+use Rattle.can_id.specs.declared.CanIdReadError.TheVariants.{TooWide}
 use Rattle.session.specs.declared.Counters.{Counters}
 use Rattle.session.specs.declared.Heard.{Heard}
 use Rattle.session.specs.declared.Mode.{Mode}
@@ -12,14 +15,14 @@ use Rattle.session.specs.declared.PoolKind.{PoolKind}
 use Rattle.session.specs.declared.PoolKind.TheVariants.{Original}
 use Rattle.assembler.specs.declared.Arrival.{Arrival}
 use Rattle.assembler.specs.declared.ArrivalById.{ArrivalById}
-use Rattle.assembler.specs.declared.ArrivalByIdWithLength.{ArrivalByIdWithLength}
-use Rattle.assembler.specs.declared.ArrivalWithLength.{ArrivalWithLength}
+use Rattle.assembler.specs.Arrivals.{ArrivalByIdWithLength}
+use Rattle.assembler.specs.Arrivals.{ArrivalWithLength}
 use Rattle.assembler.specs.declared.MadePool.{MadePool}
 use Rattle.assembler.specs.declared.Pool.{Pool}
 use Rattle.assembler.specs.declared.Processed.{Processed}
 use Rattle.assembler.specs.declared.Received.{Received}
 use Rattle.assembler.specs.Making.{fresh_pool, MakesPoolOf, MakesPoolIn, MakesPool}
-use Rattle.assembler.specs.Arrivals.{heard_of, heard_with_length, heard_by_id, heard_by_id_with_length}
+use Rattle.assembler.specs.Arrivals.{of_heard, heard_of, heard_with_length, heard_by_id, heard_by_id_with_length}
 use Rattle.assembler.specs.Promises.{at_original, at_addressed, ReceivesHeard, ProcessesHeard, Receives, ReceivesWithLength, ReceivesById, ReceivesByIdWithLength, Processes, ProcessesWithLength, ProcessesById, ProcessesByIdWithLength}
 use Rattle.assembler.proofs.Promised.{made_by, received_by, processed_by}
 
@@ -40,32 +43,34 @@ default_unique r s = determined
 -- ---- the receive call
 
 module _ (pgns : List ℕ) (pool : Pool) (counters : Counters) where
-  heard_unique : (a : Answer Heard) (r s : Received) → ReceivesHeard pgns a pool counters r → ReceivesHeard pgns a pool counters s → r ≡ s
+  -- `receive`, at any form: by the entry and what the form hears
+  pub heard_unique : (a : Answer Heard) (r s : Received) → ReceivesHeard pgns a pool counters r → ReceivesHeard pgns a pool counters s → r ≡ s
   heard_unique a r s p q = determined (received_by pgns a pool counters p) (received_by pgns a pool counters q)
 
-  heard_lent_unique : (a : Answer Heard) (r s : Processed) (j k : Counters) → ProcessesHeard pgns a pool counters r j → ProcessesHeard pgns a pool counters s k → (r ≡ s) × (j ≡ k)
+  -- `process_frame`, likewise: the answer, and the lent counters after the call
+  pub heard_lent_unique : (a : Answer Heard) (r s : Processed) (j k : Counters) → ProcessesHeard pgns a pool counters r j → ProcessesHeard pgns a pool counters s k → (r ≡ s) × (j ≡ k)
   heard_lent_unique a r s j k p q =
       let one = processed_by pgns a pool counters p in
       let two = processed_by pgns a pool counters q in
       (determined one.0 two.0, determined one.1 two.1)
 
-  -- `receive`, and `process_frame_through`
+  -- and at each form, by its definition (proofs/Forms): `receive` of an `Arrival`
   pub receive_unique : (a : Arrival) (r s : Received) → Receives pgns a pool counters r → Receives pgns a pool counters s → r ≡ s
   receive_unique a = heard_unique (at_original pool (heard_of a))
 
-  -- `receive_with_length`, and `process_frame_with_length_through`
+  -- of an `ArrivalWithLength`
   pub receive_with_length_unique : (x : ArrivalWithLength) (r s : Received) → ReceivesWithLength pgns x pool counters r → ReceivesWithLength pgns x pool counters s → r ≡ s
   receive_with_length_unique x = heard_unique (at_original pool (heard_with_length x))
 
-  -- `receive_by_id`, and `process_frame_by_id_through`
+  -- of an `ArrivalById`
   pub receive_by_id_unique : (a : ArrivalById) (r s : Received) → ReceivesById pgns a pool counters r → ReceivesById pgns a pool counters s → r ≡ s
   receive_by_id_unique a = heard_unique (at_addressed pool (heard_by_id a))
 
-  -- `receive_by_id_with_length`, and `process_frame_by_id_with_length_through`
+  -- of an `ArrivalByIdWithLength`
   pub receive_by_id_with_length_unique : (x : ArrivalByIdWithLength) (r s : Received) → ReceivesByIdWithLength pgns x pool counters r → ReceivesByIdWithLength pgns x pool counters s → r ≡ s
   receive_by_id_with_length_unique x = heard_unique (at_addressed pool (heard_by_id_with_length x))
 
-  -- the answer, and the lent counters after the call
+  -- `process_frame`, of each
   pub process_frame_unique : (a : Arrival) (r s : Processed) (j k : Counters) → Processes pgns a pool counters r j → Processes pgns a pool counters s k → (r ≡ s) × (j ≡ k)
   process_frame_unique a = heard_lent_unique (at_original pool (heard_of a))
 
@@ -79,3 +84,17 @@ module _ (pgns : List ℕ) (pool : Pool) (counters : Counters) where
   pub process_frame_by_id_with_length_unique : (x : ArrivalByIdWithLength) (r s : Processed) (j k : Counters) → ProcessesByIdWithLength pgns x pool counters r j
       → ProcessesByIdWithLength pgns x pool counters s k → (r ≡ s) × (j ≡ k)
   process_frame_by_id_with_length_unique x = heard_lent_unique (at_addressed pool (heard_by_id_with_length x))
+
+-- ---- what a form of the call hears
+
+back_heard : Answer Heard → ResultOf Heard CanIdReadError
+back_heard (gives f) = Ok f
+back_heard (refuses n l) = Err TooWide
+
+kept_heard : (r : ResultOf Heard CanIdReadError) → back_heard (of_heard r) ≡ r
+unfolding back_heard
+kept_heard (Ok f) = refl
+kept_heard (Err TooWide) = refl
+
+pub arrive_heard_unique : (a : Answer Heard) (r s : ResultOf Heard CanIdReadError) → of_heard r ≡ a → of_heard s ≡ a → r ≡ s
+arrive_heard_unique a r s = determined_by of_heard back_heard kept_heard

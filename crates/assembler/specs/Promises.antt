@@ -10,8 +10,8 @@ use Rattle.session.specs.declared.PoolKind.TheVariants.{Original, Addressed}
 use Rattle.session.specs.Rules.{Rules, rules_by}
 use Rattle.assembler.specs.declared.Arrival.{Arrival}
 use Rattle.assembler.specs.declared.ArrivalById.{ArrivalById}
-use Rattle.assembler.specs.declared.ArrivalByIdWithLength.{ArrivalByIdWithLength}
-use Rattle.assembler.specs.declared.ArrivalWithLength.{ArrivalWithLength}
+use Rattle.assembler.specs.Arrivals.{ArrivalByIdWithLength}
+use Rattle.assembler.specs.Arrivals.{ArrivalWithLength}
 use Rattle.assembler.specs.declared.Pool.{Pool}
 use Rattle.assembler.specs.declared.Processed.{Processed}
 use Rattle.assembler.specs.declared.Received.{Received}
@@ -91,36 +91,36 @@ answer_to pgns a p k =
 
 -- ---- the calls of the original's kind
 
--- `receive`, and `process_frame_through`
+-- `receive`, of an `Arrival`; each of these is what the generic call promises at its form (proofs/Forms)
 abbrev pub Receives : List ℕ → Arrival → Pool → Counters → Received → Type 0
 Receives pgns a p k r = ReceivesHeard pgns (at_original p (heard_of a)) p k r
 
--- `receive_with_length`, and `process_frame_with_length_through`
+-- of an `ArrivalWithLength`
 abbrev pub ReceivesWithLength : List ℕ → ArrivalWithLength → Pool → Counters → Received → Type 0
 ReceivesWithLength pgns x p k r = ReceivesHeard pgns (at_original p (heard_with_length x)) p k r
 
--- `process_frame`
+-- `process_frame`, of an `Arrival`
 abbrev pub Processes : List ℕ → Arrival → Pool → Counters → Processed → Counters → Type 0
 Processes pgns a p before r after = ProcessesHeard pgns (at_original p (heard_of a)) p before r after
 
--- `process_frame_with_length`
+-- of an `ArrivalWithLength`
 abbrev pub ProcessesWithLength : List ℕ → ArrivalWithLength → Pool → Counters → Processed → Counters → Type 0
 ProcessesWithLength pgns x p before r after = ProcessesHeard pgns (at_original p (heard_with_length x)) p before r after
 
 -- ---- and of the kind with a destination
 
--- `receive_by_id`, and `process_frame_by_id_through`
+-- `receive`, of an `ArrivalById`
 abbrev pub ReceivesById : List ℕ → ArrivalById → Pool → Counters → Received → Type 0
 ReceivesById pgns a p k r = ReceivesHeard pgns (at_addressed p (heard_by_id a)) p k r
 
--- `receive_by_id_with_length`, and `process_frame_by_id_with_length_through`
+-- of an `ArrivalByIdWithLength`
 abbrev pub ReceivesByIdWithLength : List ℕ → ArrivalByIdWithLength → Pool → Counters → Received → Type 0
 ReceivesByIdWithLength pgns x p k r = ReceivesHeard pgns (at_addressed p (heard_by_id_with_length x)) p k r
 
--- `process_frame_by_id`
+-- `process_frame`, of an `ArrivalById`
 abbrev pub ProcessesById : List ℕ → ArrivalById → Pool → Counters → Processed → Counters → Type 0
 ProcessesById pgns a p before r after = ProcessesHeard pgns (at_addressed p (heard_by_id a)) p before r after
 
--- `process_frame_by_id_with_length`
+-- of an `ArrivalByIdWithLength`
 abbrev pub ProcessesByIdWithLength : List ℕ → ArrivalByIdWithLength → Pool → Counters → Processed → Counters → Type 0
 ProcessesByIdWithLength pgns x p before r after = ProcessesHeard pgns (at_addressed p (heard_by_id_with_length x)) p before r after

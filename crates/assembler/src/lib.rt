@@ -7,14 +7,11 @@ mod lending;
 mod making;
 mod receiving;
 
+pub use arrivals::Arrive;
 use can_id::CanId;
 use fast_packet::MAX_FAST_PACKET_PAYLOAD;
-pub use lending::{
-    process_frame, process_frame_by_id, process_frame_by_id_through,
-    process_frame_by_id_with_length, process_frame_by_id_with_length_through,
-    process_frame_through, process_frame_with_length, process_frame_with_length_through,
-};
-pub use receiving::{receive, receive_by_id, receive_by_id_with_length, receive_with_length};
+pub use lending::process_frame;
+pub use receiving::receive;
 use session::{Counters, Head, Kind, Mode, POOL_LIMIT, PoolKind};
 
 // Sessions in the default pool, one for each message in flight.
@@ -57,13 +54,6 @@ pub struct Arrival {
     pub data: [u8; 8],
 }
 
-// A frame that arrived with a length: of its eight bytes the first `length` were sent.
-#[derive(Clone, Copy)]
-pub struct ArrivalWithLength {
-    pub arrival: Arrival,
-    pub length: usize,
-}
-
 // A frame that arrived with its identifier, for a pool whose key has the destination.
 #[derive(Clone, Copy)]
 pub struct ArrivalById {
@@ -72,12 +62,16 @@ pub struct ArrivalById {
     pub data: [u8; 8],
 }
 
-// The same with a length.
-#[derive(Clone, Copy)]
-pub struct ArrivalByIdWithLength {
-    pub arrival: ArrivalById,
+// A frame that arrived with a length: of its eight bytes the first `length` were sent.
+#[derive(Debug, Clone, Copy, PartialEq, Eq)]
+pub struct WithLength<A> {
+    pub arrival: A,
     pub length: usize,
 }
+
+pub type ArrivalWithLength = WithLength<Arrival>;
+
+pub type ArrivalByIdWithLength = WithLength<ArrivalById>;
 
 // What a call answers where the counters are the caller's own.
 #[derive(Clone, Copy)]

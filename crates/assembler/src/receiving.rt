@@ -3,12 +3,12 @@ ghost use Rattle.std.specs.Prelude.{◌≡◌};
 ghost use Rattle.base.specs.Pick.{pick};
 ghost use Rattle.assembler.specs.View.{receive_of};
 ghost use Rattle.base.specs.Answer.{gives};
-ghost use Rattle.assembler.specs.Promises.{rules_of, entered, answer_to, Receives, ReceivesWithLength, ReceivesById, ReceivesByIdWithLength};
+ghost use Rattle.assembler.specs.Promises.{rules_of, entered, answer_to, ReceivesHeard};
 ghost use Rattle.assembler.specs.inner.Forms.{refused_as};
 
-use crate::arrivals::{heard_from, heard_from_with_length, heard_of, heard_with_length};
+use crate::arrivals::Arrive;
 use crate::bytes::{deliver, deliver_short, store};
-use crate::{Arrival, ArrivalById, ArrivalByIdWithLength, ArrivalWithLength, Pool, Received};
+use crate::{Pool, Received};
 use can_id::CanIdReadError;
 use fast_packet::{MAX_FAST_PACKET_PAYLOAD, is_listed};
 use session::{
@@ -92,61 +92,12 @@ fn receive_at(
     receive_heard(pool, counters, pgns, heard)
 }
 
-// One call, with pool and counters in and out by value.
-pub fn receive(pool: Pool, counters: Counters, pgns: &[u32], arrival: Arrival) -> Received
-    ensures { Receives pgns.now arrival pool counters result }
+// One call, with pool and counters in and out by value. A frame with a length that lacks a byte which is needed is Rejected, or breaks its session.
+pub fn receive<A: Arrive>(pool: Pool, counters: Counters, pgns: &[u32], arrival: A) -> Received
+    ensures { ReceivesHeard pgns.now (entered A.ENTRY pool (A.hears arrival)) pool counters result }
 {
-    receive_at(PoolKind::Original, pool, counters, pgns, heard_of(arrival))
-}
-
-// The same for a frame with a length. One that lacks a byte which is needed is Rejected, or breaks its session.
-pub fn receive_with_length(
-    pool: Pool,
-    counters: Counters,
-    pgns: &[u32],
-    x: ArrivalWithLength,
-) -> Received
-    ensures { ReceivesWithLength pgns.now x pool counters result }
-{
-    receive_at(
-        PoolKind::Original,
-        pool,
-        counters,
-        pgns,
-        heard_with_length(x),
-    )
-}
-
-// One call of a pool whose key has the destination: source, PGN and destination are the identifier's.
-pub fn receive_by_id(pool: Pool, counters: Counters, pgns: &[u32], arrival: ArrivalById) -> Received
-    ensures { ReceivesById pgns.now arrival pool counters result }
-{
-    let id = arrival.id;
-    match id.read() {
-        Ok(parts) => {
-            let heard = heard_from(arrival, parts);
-            receive_at(PoolKind::Addressed, pool, counters, pgns, heard)
-        }
-        Err(CanIdReadError::TooWide) => refused(Kind::TooWide, pool, counters),
-    }
-}
-
-// The same for a frame with a length.
-pub fn receive_by_id_with_length(
-    pool: Pool,
-    counters: Counters,
-    pgns: &[u32],
-    x: ArrivalByIdWithLength,
-) -> Received
-    ensures { ReceivesByIdWithLength pgns.now x pool counters result }
-{
-    let arrival = x.arrival;
-    let id = arrival.id;
-    match id.read() {
-        Ok(parts) => {
-            let heard = heard_from_with_length(x, parts);
-            receive_at(PoolKind::Addressed, pool, counters, pgns, heard)
-        }
+    match arrival.heard() {
+        Ok(heard) => receive_at(A::ENTRY, pool, counters, pgns, heard),
         Err(CanIdReadError::TooWide) => refused(Kind::TooWide, pool, counters),
     }
 }

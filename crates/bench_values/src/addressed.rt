@@ -2,10 +2,7 @@
 // length; and what a pool of the original's kind answers, in a batch too. The part of each slot's key is told.
 use crate::{batching, left, receiving, say};
 use assembler::{
-    Arrival, ArrivalById, ArrivalByIdWithLength, ArrivalWithLength, Pool, Received,
-    process_frame_by_id_through, process_frame_by_id_with_length_through, process_frame_through,
-    process_frame_with_length_through, receive, receive_by_id, receive_by_id_with_length,
-    receive_with_length,
+    Arrival, ArrivalById, ArrivalByIdWithLength, ArrivalWithLength, Pool, Received, receive,
 };
 use can_id::CanId;
 use session::{Counters, Mode, PoolKind};
@@ -115,15 +112,9 @@ fn show_by_id_with_length<W: Write>(
         arrival: arrival,
         length: length,
     };
-    show(
-        out,
-        receive_by_id_with_length(pool, counters, &[ANSWER, ENGINE], x),
-    )?;
+    show(out, receive(pool, counters, &[ANSWER, ENGINE], x))?;
     say::text(out, b"  lent: ")?;
-    show(
-        out,
-        process_frame_by_id_with_length_through(pool, counters, &[ANSWER, ENGINE], x),
-    )
+    show(out, receiving::lent(pool, counters, &[ANSWER, ENGINE], x))
 }
 
 // At the entry that is handed the identifier.
@@ -131,12 +122,12 @@ fn by_id<W: Write>(out: &mut W, words: &[u8], k: Kept, arrival: ArrivalById) -> 
     let pool = k.pool;
     let counters = k.counters;
     say::text(out, words)?;
-    let r = receive_by_id(pool, counters, &[ANSWER, ENGINE], arrival);
+    let r = receive(pool, counters, &[ANSWER, ENGINE], arrival);
     show(out, r)?;
     say::text(out, b"  lent: ")?;
     show(
         out,
-        process_frame_by_id_through(pool, counters, &[ANSWER, ENGINE], arrival),
+        receiving::lent(pool, counters, &[ANSWER, ENGINE], arrival),
     )?;
     say::text(out, b"  at length 8: ")?;
     show_by_id_with_length(out, k, arrival, 8)?;
@@ -154,15 +145,9 @@ fn show_plain_with_length<W: Write>(
         length: 8,
     };
     say::text(out, b"  at length 8: ")?;
-    show(
-        out,
-        receive_with_length(pool, counters, &[ANSWER, ENGINE], x),
-    )?;
+    show(out, receive(pool, counters, &[ANSWER, ENGINE], x))?;
     say::text(out, b"  lent: ")?;
-    show(
-        out,
-        process_frame_with_length_through(pool, counters, &[ANSWER, ENGINE], x),
-    )
+    show(out, receiving::lent(pool, counters, &[ANSWER, ENGINE], x))
 }
 
 // At the entry that is handed PGN and source, and in a batch.
@@ -175,7 +160,7 @@ fn by_pgn<W: Write>(out: &mut W, words: &[u8], k: Kept, arrival: Arrival) -> io:
     say::text(out, b"  lent: ")?;
     show(
         out,
-        process_frame_through(pool, counters, &[ANSWER, ENGINE], arrival),
+        receiving::lent(pool, counters, &[ANSWER, ENGINE], arrival),
     )?;
     show_plain_with_length(out, pool, counters, arrival)?;
     batching::show_with_parts(out, pool, counters, arrival)?;
@@ -298,7 +283,7 @@ fn held_by_id(pgn: u32, part: u16) -> Kept {
     let k = fresh(PoolKind::Addressed);
     let fresh_pool = k.pool;
     let counters = k.counters;
-    let r = receive_by_id(fresh_pool, counters, &[ANSWER, ENGINE], frame(TO_16, 0, 16));
+    let r = receive(fresh_pool, counters, &[ANSWER, ENGINE], frame(TO_16, 0, 16));
     let mut pool = r.pool;
     pool.heads[0].pgn = pgn;
     pool.heads[0].part = part;

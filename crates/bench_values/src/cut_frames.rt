@@ -1,9 +1,6 @@
 // A frame cut short, by document 02's No. 5: each case on a pool of one slot with room, by value and with the counters lent.
 use crate::{left, receiving, say};
-use assembler::{
-    Arrival, ArrivalWithLength, Pool, Received, process_frame_with_length_through,
-    receive_with_length,
-};
+use assembler::{Arrival, ArrivalWithLength, Pool, Received, receive};
 use session::Counters;
 use std::io::{self, Write};
 
@@ -39,12 +36,9 @@ fn show<W: Write>(
     x: ArrivalWithLength,
 ) -> io::Result<()> {
     say::text(out, words)?;
-    show_answer(out, receive_with_length(pool, counters, &[PGN], x))?;
+    show_answer(out, receive(pool, counters, &[PGN], x))?;
     say::text(out, b"  lent: ")?;
-    show_answer(
-        out,
-        process_frame_with_length_through(pool, counters, &[PGN], x),
-    )
+    show_answer(out, receiving::lent(pool, counters, &[PGN], x))
 }
 
 fn on_a_fresh_pool<W: Write>(out: &mut W, words: &[u8], x: ArrivalWithLength) -> io::Result<()> {
@@ -62,7 +56,7 @@ fn after_a_first_frame<W: Write>(
 ) -> io::Result<()> {
     let made = Pool::new(1);
     let pool = made.pool;
-    let r = receive_with_length(pool, left::no_counts(), &[PGN], frame(0, announced, 8));
+    let r = receive(pool, left::no_counts(), &[PGN], frame(0, announced, 8));
     let opened = r.pool;
     let counters = r.counters;
     show(out, words, opened, counters, x)

@@ -1,10 +1,35 @@
 // Receiving: what a frame is answered, and what it leaves, by the single call and in a batch; and refusal 1.
 use crate::{batching, left, say};
-use assembler::{Arrival, Made, MadePool, Pool, Received, receive};
+use assembler::{
+    Arrival, Arrive, Made, MadePool, Pool, Processed, Received, process_frame, receive,
+};
 use session::{Counters, Kind, Mode, PoolKind};
 use std::io::{self, Write};
 
 const PGN: u32 = 127489;
+
+// What the call answers that is lent the counters, with the counters after it.
+pub(crate) fn lent<A: Arrive>(
+    pool: Pool,
+    counters: Counters,
+    pgns: &[u32],
+    arrival: A,
+) -> Received {
+    let mut after = counters;
+    let Processed {
+        kind,
+        payload,
+        length,
+        pool: left,
+    } = process_frame(pool, &mut after, pgns, arrival);
+    Received {
+        kind,
+        payload,
+        length,
+        pool: left,
+        counters: after,
+    }
+}
 
 // A frame of sequence 0; of a first frame, index 0, the byte after it is the announced size.
 pub(crate) fn frame(now_ms: u64, source_address: u8, index: u8, next: u8) -> Arrival {

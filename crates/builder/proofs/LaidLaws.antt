@@ -22,3 +22,5 @@ module _ (fast : Bool) (sequence index sent : ℕ) (p : List ℕ) {x : Laid} whe
     pub laid_later : (sent ≡ 0 → ⊥) → x ≡ laid_at head 255 1 next sent p → x ≡ laid_of fast sequence index sent p
     unfolding laid_of laid_at pick
     laid_later z e = e ∙ rw (f, ne_eqb sent 0 z, h, n)
+
+pub ruleset laid = (laid_raw, laid_first, laid_later)

@@ -1,7 +1,8 @@
 -- What the next frame is in each case, by plain facts: `search (needs, framing)` finds the case. Assumes nothing.
-use Rattle.std.proofs.Common.{◌≡◌, ℕ, ◌+◌, ◌%◌, ◌<◌, ◌≤◌, Bool, true, false, not, ◌&&◌, ◌||◌, eqb, ltb, List, [], Option, Result, Ok, Err, length, sym, refl, ◌∙◌, arith, ltb-false, ne_eqb, le-leb}
-use borrow.Author.Tests.{lt-leb}
+use Rattle.std.proofs.Common.{◌≡◌, ℕ, ◌+◌, ◌%◌, ◌<◌, ◌≤◌, Bool, true, false, ◌||◌, ltb, List, [], Option, Result, Ok, Err, length, refl, ◌∙◌, arith, ne_eqb, le-leb}
+use borrow.Author.Tests.{lt-leb, lt-ltb, le-ltb, eq-eqb}
 use Rattle.base.specs.Pick.{pick}
+use Rattle.base.proofs.Cases.{less?, same?}
 use Rattle.can_id.specs.Build.{of_built, error_number, error_carries, build_of}
 use Rattle.can_id.specs.declared.CanId.{CanId}
 use Rattle.can_id.specs.declared.CanIdBuildError.{CanIdBuildError}
@@ -21,69 +22,43 @@ pub made_with : (pgn source : ℕ) (to : Option ℕ) (p l : List ℕ) (held : �
     ≡ new_builder pgn source to p l held
 made_with pgn source to p l held t e = rw e
 
--- ---- a step by tests that the code makes at once, where the definition makes them one by one
-never : {A : Type 0} → true ≡ false → A
-never e = let z : ◌≡◌ {A = ℕ} 0 1 = cc in absurd (omega arith)
-
-refuse : (t f w : Bool) (r y z : Step) → (t || (not f && w)) ≡ true → r ≡ pick t r (pick f y (pick w r z))
-unfolding pick
-refuse true f w r y z h = refl
-refuse false true w r y z h = never (sym h)
-refuse false false true r y z h = refl
-refuse false false false r y z h = never (sym h)
-
--- ---- the frame that the bytes make
--- one of the three, whichever of the tests hold
-framed_one : (t f w : Bool) (z : Bool) (r : Step) (id : ℕ) (x y v : Laid) → (t || (not f && w)) ≡ false
-    → laid_step id (pick f (pick z x y) v) ≡ pick t r (pick f (pick z (laid_step id x) (laid_step id y)) (pick w r (laid_step id v)))
-unfolding pick
-framed_one true f w z r id x y v h = never h
-framed_one false true w true r id x y v h = refl
-framed_one false true w false r id x y v h = refl
-framed_one false false true z r id x y v h = never h
-framed_one false false false z r id x y v h = refl
-
-not_long : (t u : Bool) → (t || u) ≡ false → t ≡ false
-not_long true u h = never h
-not_long false u h = refl
-
-once : (t u : Bool) (r e z : Step) → (t && u) ≡ true → r ≡ pick t (pick u r e) z
-unfolding pick
-once true true r e z h = refl
-once true false r e z h = never (sym h)
-once false u r e z h = never (sym h)
-
-over : (t u : Bool) (r e z : Step) → (t && u) ≡ false → e ≡ z → e ≡ pick t (pick u r e) z
-unfolding pick
-over true true r e z h k = never h
-over true false r e z h k = refl
-over false u r e z h k = k
-
 -- ---- the steps
--- what is refused by its length: over 223 bytes, or over 8 and not fast
-abbrev pub unframed : Bool → List ℕ → Bool
-unframed fast p = ltb max_payload (length p) || (not fast && ltb 8 (length p))
-
 module _ (id : ℕ) (b : FastPacketBuilder) (index sent : ℕ) (p : List ℕ) {x : Step} where
-  pub framed_refused : unframed b.fast p ≡ true → x ≡ refused_step 2 [] index (length p) → x ≡ framed_step id b index sent p
-  unfolding framed_step
-  framed_refused h e = e ∙ refuse (ltb max_payload (length p)) b.fast (ltb 8 (length p)) _ _ _ h
+  pub framed_long : max_payload < length p → x ≡ refused_step 2 [] index (length p) → x ≡ framed_step id b index sent p
+  unfolding framed_step pick
+  framed_long h e = e ∙ simp (lt-ltb max_payload (length p) h)
 
-  pub framed_sent : {l : Laid} → unframed b.fast p ≡ false → l ≡ laid_of b.fast b.sequence_id index sent p → x ≡ laid_step id l → x ≡ framed_step id b index sent p
-  unfolding framed_step laid_of
-  framed_sent h d e =
-      let m = ltb-false max_payload (length p) (not_long _ _ h) in
-      let s : length p % 256 ≡ length p = omega arith in
-      e ∙ rw (d, s) (framed_one (ltb max_payload (length p)) b.fast (ltb 8 (length p)) (eqb sent 0) _ id _ _ _ h)
+  pub framed_wide : b.fast ≡ false → 8 < length p → x ≡ refused_step 2 [] index (length p) → x ≡ framed_step id b index sent p
+  framed_wide f h e =
+      less? max_payload (length p)
+      (λ g. framed_long g e)
+      (λ g. unfold framed_step pick in e ∙ simp (le-ltb max_payload (length p) g, f, lt-ltb 8 (length p) h))
+
+  sent_by : (f : Bool) {l : Laid} → b.fast ≡ f → length p ≤ max_payload → (f ≡ false → length p ≤ 8) → l ≡ laid_of b.fast b.sequence_id index sent p → x ≡ laid_step id l → x ≡ framed_step id b index sent p
+  unfolding framed_step laid_of pick
+  sent_by true q h short d e =
+      let s : length p % 256 ≡ length p = omega (arith, h) in
+      same? sent 0
+      (λ z. e ∙ simp (d, q, s, eq-eqb sent 0 z, le-ltb max_payload (length p) h))
+      (λ z. e ∙ simp (d, q, s, ne_eqb sent 0 z, le-ltb max_payload (length p) h))
+  sent_by false q h short d e = e ∙ simp (d, q, le-ltb max_payload (length p) h, le-ltb 8 (length p) (short refl))
+
+  pub framed_sent : {l : Laid} → length p ≤ max_payload → (b.fast ≡ false → length p ≤ 8) → l ≡ laid_of b.fast b.sequence_id index sent p → x ≡ laid_step id l → x ≡ framed_step id b index sent p
+  framed_sent h short d e = sent_by b.fast refl h short d e
+
+pub ruleset framing = (framed_long, framed_wide, framed_sent)
 
 module _ (b : FastPacketBuilder) (index sent : ℕ) (p : List ℕ) {x : Step} where
-  pub next_empty : (eqb (length p) 0 && eqb index 0) ≡ true → x ≡ refused_step 7 [] 1 sent → x ≡ next_of b index sent p
-  unfolding next_of
-  next_empty h e = e ∙ once (eqb (length p) 0) (eqb index 0) _ _ _ h
-
-  pub next_end : (eqb (length p) 0 && eqb index 0) ≡ false → length p ≤ sent → x ≡ end_step index sent → x ≡ next_of b index sent p
+  pub next_empty : length p ≡ 0 → index ≡ 0 → x ≡ refused_step 7 [] 1 sent → x ≡ next_of b index sent p
   unfolding next_of pick
-  next_end h k e = e ∙ over (eqb (length p) 0) (eqb index 0) _ _ _ h (simp (le-leb (length p) sent k))
+  next_empty h i e = e ∙ simp (eq-eqb (length p) 0 h, eq-eqb index 0 i)
+
+  pub next_end : (length p ≡ 0 → index ≡ 0 → ⊥) → length p ≤ sent → x ≡ end_step index sent → x ≡ next_of b index sent p
+  unfolding next_of pick
+  next_end h k e =
+      same? (length p) 0
+      (λ z. e ∙ simp (eq-eqb (length p) 0 z, ne_eqb index 0 (h z)))
+      (λ z. e ∙ simp (ne_eqb (length p) 0 z, le-leb (length p) sent k))
 
 module _ (b : FastPacketBuilder) (index sent : ℕ) (p : List ℕ) (k : sent < length p) (r : Result CanId CanIdBuildError) (a : of_built r ≡ build_of (id_builder b)) where
   built : next_of b index sent p ≡ built_step (of_built r) b index sent p
@@ -97,3 +72,5 @@ module _ (b : FastPacketBuilder) (index sent : ℕ) (p : List ℕ) (k : sent < l
 
   pub next_refused : {x : Step} (f : CanIdBuildError) → r ≡ Err f → x ≡ refused_step (error_number f) (error_carries f) index (length p) → x ≡ next_of b index sent p
   next_refused f q e = e ∙ rw (built, q)
+
+pub ruleset asking = (next_empty, next_end, next_framed)

@@ -120,12 +120,12 @@ impl FastPacketBuilder {
     }
 
     // The frame, with the identifier.
-    #[tactic(auto, using(crate::proofs::NextLaws::framed_refused, crate::proofs::NextLaws::framed_sent))]
+    #[tactic(auto, using(crate::proofs::NextLaws::framing))]
     fn framed(self, id: CanId, frame_index: u8, bytes_sent: usize, payload: &[u8]) -> Next
         ensures { of_next result ≡ framed_step id.0 self frame_index bytes_sent payload.now }
     {
         let total_len = payload.len();
-        if (total_len > MAX_FAST_PACKET_PAYLOAD) | (!self.fast & (total_len > 8)) {
+        if total_len > MAX_FAST_PACKET_PAYLOAD || (!self.fast && total_len > 8) {
             return Next::refused(CanIdBuildError::InvalidData, frame_index, total_len);
         }
         let Laid {
@@ -148,13 +148,13 @@ impl FastPacketBuilder {
     }
 
     // The next frame of a message with this payload, at a frame index and after some bytes sent.
-    #[tactic(auto, using(crate::proofs::NextLaws::next_empty, crate::proofs::NextLaws::next_end, crate::proofs::NextLaws::next_framed))]
+    #[tactic(auto, using(crate::proofs::NextLaws::asking))]
     pub fn next_frame(self, frame_index: u8, bytes_sent: usize, payload: &[u8]) -> Next
         ensures { of_next result ≡ next_of self frame_index bytes_sent payload.now }
     {
         let total_len = payload.len();
         // An empty payload has nothing to send: say so once instead of ending as if every frame had gone out.
-        if (total_len == 0) & (frame_index == 0) {
+        if total_len == 0 && frame_index == 0 {
             return Next::refused(CanIdBuildError::EmptyPayload, 1, bytes_sent);
         }
         if bytes_sent >= total_len {

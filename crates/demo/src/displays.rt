@@ -2,7 +2,7 @@
 // the key has the destination they are delivered as two.
 use crate::gateway::{Both, Gateway, after};
 use crate::{engine, gateway, say};
-use assembler::{Arrival, ArrivalById, Pool, Received, receive, receive_by_id};
+use assembler::{Arrival, ArrivalById, Pool, Received, receive};
 use builder::FastPacketBuilder;
 use can_id::{CanFrame, CanId};
 use session::{Mode, PoolKind};
@@ -66,7 +66,7 @@ fn heard_by_destination(g: Gateway, now_ms: u64, frame: CanFrame) -> Received {
     };
     let pool = g.pool;
     let counters = g.counters;
-    receive_by_id(pool, counters, &[PGN], arrival)
+    receive(pool, counters, &[PGN], arrival)
 }
 
 // Whose a message is stands in its bytes: the first six came in one frame, the seventh in the next.

@@ -1,7 +1,7 @@
 // Engine hours reassembled: an old half message, a frame cut short, a full pool, a clock set back, and frames that are not taken.
 use crate::gateway::{Both, Gateway, after};
 use crate::{engine, gateway, say};
-use assembler::{Arrival, ArrivalWithLength, Pool, Received, receive, receive_with_length};
+use assembler::{Arrival, ArrivalWithLength, Pool, Received, receive};
 use session::Mode;
 use std::io::{self, Write};
 
@@ -167,7 +167,7 @@ fn hear_two_bytes<W: Write>(
     };
     let pool = g.pool;
     let counters = g.counters;
-    let r = receive_with_length(pool, counters, &[engine::PGN], x);
+    let r = receive(pool, counters, &[engine::PGN], x);
     show_answer(out, r)?;
     Ok(after(r))
 }

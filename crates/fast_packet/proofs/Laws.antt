@@ -1,47 +1,58 @@
--- The laws that the proofs of `fast_packet` go by: the walk through the list, and the bytes of a frame cut short. Assumes nothing.
-use Prim.Native.Nat.{ℕ, ◌+◌, ◌-◌, ◌<◌, ◌≤◌, min}
-use mathlib.Core.Bool.{Bool, false, ◌||◌}
-use mathlib.Core.List.{List, []}
-use mathlib.Core.Path.{◌≡◌, sym, ◌∙◌}
-use native.Mathlib.Omega.{arith}
-use lib.Dec.{eqb}
-use lib.ListN.{length, get_or, take, set, length-take, get_or-eq_default}
-use lib.Seq.{get_or-take}
-use Rattle.base.proofs.Any.{any_none, any_turn, any_done}
-use Rattle.base.proofs.Fills.{get_or_in, pasted, fill_none, fill_turn, fill_done}
+-- The laws that the proofs of `fast_packet` go by: the fold over the list, and the bytes of a frame cut short. Assumes nothing.
+use Rattle.std.proofs.Common.{◌≡◌, ℕ, zero, suc, ◌≤◌, min, Bool, true, false, ◌||◌, eqb, List, [], ◌∷◌, ◌++◌, length, take, drop, replicate, fold, refl, ap, ◌∙◌, arith}
+use Rattle.base.specs.Lists.{any, fill}
 use Rattle.fast_packet.specs.FastPacket.{listed_in, filled_from}
 
+-- ---- the list
+or_assoc : (a b c : Bool) → ((a || b) || c) ≡ (a || (b || c))
+or_assoc true b c = refl
+or_assoc false b c = refl
+
+or_none : (a : Bool) → a ≡ (a || false)
+or_none true = refl
+or_none false = refl
+
 module _ (pgn : ℕ) where
-  pub listed_none : false ≡ listed_in pgn []
+  -- what the list's walk does at each number
+  abbrev pub hit_by : Bool → ℕ → Bool
+  hit_by hit x = hit || eqb pgn x
+
+  folded : (l : List ℕ) (hit : Bool) → fold hit_by hit l ≡ (hit || any (eqb pgn) l)
+  unfolding any
+  folded [] hit = or_none hit
+  folded (x ∷ l) hit = folded l (hit_by hit x) ∙ or_assoc hit (eqb pgn x) (any (eqb pgn) l)
+
+  pub listed_fold : (l : List ℕ) {r : Bool} → r ≡ fold hit_by false l → r ≡ listed_in pgn l
   unfolding listed_in
-  listed_none = any_none (eqb pgn)
+  listed_fold l e = e ∙ folded l false
 
-  pub listed_turn : (l : List ℕ) (i : ℕ) (hit r : Bool) → hit ≡ listed_in pgn (take i l) → r ≡ (hit || eqb pgn (get_or l i 0)) → i < length l → r ≡ listed_in pgn (take (i + 1) l)
-  unfolding listed_in
-  listed_turn l i hit r e er h = any_turn (eqb pgn) l i 0 hit r e er h
+-- ---- a row of 0xFF whose first places are written is the filled row
+fill_nil : (m : ℕ) → replicate m 255 ≡ fill m []
+unfolding fill
+fill_nil zero = refl
+fill_nil (suc m) = ap (λ (t : List ℕ). 255 ∷ t) (fill_nil m)
 
-  pub listed_done : (l : List ℕ) (i : ℕ) (hit : Bool) → hit ≡ listed_in pgn (take i l) → i ≡ length l → hit ≡ listed_in pgn l
-  unfolding listed_in
-  listed_done l i hit e h = any_done (eqb pgn) l i hit e h
+pub fill_parts : (n m : ℕ) (s : List ℕ) → n ≡ min m (length s) → take n s ++ drop n (replicate m 255) ≡ fill m s
+unfolding fill
+fill_parts zero zero s h = refl
+fill_parts zero (suc m) [] h = fill_nil (suc m)
+fill_parts zero (suc m) (x ∷ s) h = absurd (omega arith)
+fill_parts (suc n) zero s h = absurd (omega arith)
+fill_parts (suc n) (suc m) [] h = absurd (omega arith)
+fill_parts (suc n) (suc m) (x ∷ s) h = ap (λ (t : List ℕ). x ∷ t) (fill_parts n m s (omega arith))
 
-module _ (bytes : List ℕ) (len i : ℕ) (eight : length bytes ≡ 8) (inside : i < 8) where
-  pub kept_byte : i < len → get_or bytes i 0 ≡ get_or (take (min len 8) bytes) i 255
-  kept_byte h = get_or_in bytes i 0 255 (omega arith) ∙ sym (get_or-take (min len 8) bytes i 255 (omega arith))
+take_twice : (n : ℕ) (s : List ℕ) → take n (take n s) ≡ take n s
+take_twice zero s = refl
+take_twice (suc n) [] = refl
+take_twice (suc n) (x ∷ s) = ap (λ (t : List ℕ). x ∷ t) (take_twice n s)
 
-  pub filled_byte : len ≤ i → 255 ≡ get_or (take (min len 8) bytes) i 255
-  filled_byte h = sym (get_or-eq_default (take (min len 8) bytes) 255 (simp length-take (omega arith)))
+length_kept : (n : ℕ) (s : List ℕ) → n ≤ length s → length (take n s) ≡ n
+length_kept zero s h = refl
+length_kept (suc n) [] h = absurd (omega arith)
+length_kept (suc n) (x ∷ s) h = ap suc (length_kept n s (omega arith))
 
-pub ruleset cut = (kept_byte, filled_byte)
-
--- ---- the loop that writes the frame, `d` being what it starts from: a turn, and the last list is the definition's
-module _ (bytes d : List ℕ) (len k : ℕ) (out : List ℕ) (eight : length d ≡ 8) (e : out ≡ pasted d 0 (take (min len 8) bytes) k) where
-  pub cut_turn : (x : ℕ) → k < 8 → x ≡ get_or (take (min len 8) bytes) k 255 → set out k x ≡ pasted d 0 (take (min len 8) bytes) (k + 1)
-  cut_turn x h g =
-      let z : k - 0 ≡ k = omega arith in
-      fill_turn d 0 (take (min len 8) bytes) k x out eight (omega arith) h e (rw z g)
-
-  pub cut_done : k ≤ 8 → 8 ≤ k → out ≡ filled_from len bytes
-  unfolding filled_from
-  cut_done h g = fill_done d 0 (take (min len 8) bytes) k out eight (omega arith) g (omega arith) e
-
-pub ruleset cutting = (fill_none, cut_turn, cut_done)
+pub cut_short : (bytes : List ℕ) (len k : ℕ) {l : List ℕ} → length bytes ≡ 8 → k ≡ min len 8 → l ≡ take k bytes → l ++ drop k (replicate 8 255) ≡ filled_from len bytes
+unfolding filled_from
+cut_short bytes len k eight e el =
+    let m : k ≡ min 8 (length (take k bytes)) = rw (length_kept k bytes (omega arith)) (omega arith) in
+    rw (el, ← e, ← fill_parts k 8 (take k bytes) m, take_twice k bytes) refl

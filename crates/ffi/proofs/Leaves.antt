@@ -34,8 +34,8 @@ use Rattle.assembler.specs.View.{slots_of, pool_of, zeros, why_kind, reply_kind,
 use Rattle.assembler.specs.declared.Pool.{Pool}
 use Rattle.assembler.specs.declared.Arrival.{Arrival}
 use Rattle.assembler.specs.declared.ArrivalById.{ArrivalById}
-use Rattle.assembler.specs.declared.ArrivalByIdWithLength.{ArrivalByIdWithLength}
-use Rattle.assembler.specs.declared.ArrivalWithLength.{ArrivalWithLength}
+use Rattle.assembler.specs.Arrivals.{ArrivalByIdWithLength}
+use Rattle.assembler.specs.Arrivals.{ArrivalWithLength}
 use Rattle.assembler.specs.Arrivals.{heard_of, heard_with_length, heard_by_id, heard_by_id_with_length}
 use Rattle.assembler.specs.Promises.{rules_of, same_kind, entered, at_original, at_addressed, answer_to}
 use Rattle.assembler.specs.declared.Received.{Received}

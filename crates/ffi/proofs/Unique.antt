@@ -7,8 +7,8 @@ use Rattle.base.proofs.Cases.{determined}
 use Rattle.fast_packet.specs.FastPacket.{filled_from}
 use Rattle.assembler.specs.declared.Arrival.{Arrival}
 use Rattle.assembler.specs.declared.ArrivalById.{ArrivalById}
-use Rattle.assembler.specs.declared.ArrivalByIdWithLength.{ArrivalByIdWithLength}
-use Rattle.assembler.specs.declared.ArrivalWithLength.{ArrivalWithLength}
+use Rattle.assembler.specs.Arrivals.{ArrivalByIdWithLength}
+use Rattle.assembler.specs.Arrivals.{ArrivalWithLength}
 use Rattle.batch.specs.Rows.{Rows}
 use Rattle.oracle.specs.Rows.{row_in}
 use Rattle.oracle.specs.Strict.{delivered_to}

@@ -11,8 +11,8 @@ use Rattle.assembler.specs.Arrivals.{heard_of, heard_with_length, heard_by_id, h
 use Rattle.assembler.specs.Promises.{at_original, at_addressed, answer_to}
 use Rattle.assembler.specs.declared.Arrival.{Arrival}
 use Rattle.assembler.specs.declared.ArrivalById.{ArrivalById}
-use Rattle.assembler.specs.declared.ArrivalByIdWithLength.{ArrivalByIdWithLength}
-use Rattle.assembler.specs.declared.ArrivalWithLength.{ArrivalWithLength}
+use Rattle.assembler.specs.Arrivals.{ArrivalByIdWithLength}
+use Rattle.assembler.specs.Arrivals.{ArrivalWithLength}
 use Rattle.numbers.specs.Pool.{mode_from, pool_kind_from, size_under, pool_from, counters_from, CallMemory, CallLeft, PoolMemory, PoolLeft}
 
 -- ---- a pool made

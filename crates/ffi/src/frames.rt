@@ -13,6 +13,7 @@ use numbers::{
 // ---- a builder made and set, in place
 
 // Returns the number that the caller holds from now on.
+#[tactic(auto, unfolding(crate::specs::Frames::new_builder_to))]
 pub fn hf_raw_builder_new(
     pgn: u32,
     source_address: u8,
@@ -24,11 +25,12 @@ pub fn hf_raw_builder_new(
 ) -> u8
     ensures { NewBuilderLeft pgn source_address destination payload.now pgns.now sequence_id result builder.new }
 {
-    let to = destination_from(destination as u64);
+    let to = destination_from(u64::from(destination));
     let made = FastPacketBuilder::new(pgn, source_address, to, payload, pgns, sequence_id);
     lay_made(made, builder)
 }
 
+#[tactic(auto, unfolding(crate::specs::Frames::sequence_set))]
 pub fn hf_raw_builder_with_sequence_id(builder: &mut [u64; 6], sequence_id: u8)
     ensures { builder.new ≡ sequence_set builder.old sequence_id }
 {
@@ -36,6 +38,7 @@ pub fn hf_raw_builder_with_sequence_id(builder: &mut [u64; 6], sequence_id: u8)
     *builder = builder_numbers(b.with_sequence_id(sequence_id));
 }
 
+#[tactic(auto, unfolding(crate::specs::Frames::priority_set))]
 pub fn hf_raw_builder_with_priority(builder: &mut [u64; 6], priority: u8)
     ensures { builder.new ≡ priority_set builder.old priority }
 {
@@ -43,6 +46,7 @@ pub fn hf_raw_builder_with_priority(builder: &mut [u64; 6], priority: u8)
     *builder = builder_numbers(b.with_priority(priority));
 }
 
+#[tactic(auto, unfolding(crate::specs::Frames::destination_set))]
 pub fn hf_raw_builder_to_destination(builder: &mut [u64; 6], destination: u8)
     ensures { builder.new ≡ destination_set builder.old destination }
 {
@@ -53,6 +57,7 @@ pub fn hf_raw_builder_to_destination(builder: &mut [u64; 6], destination: u8)
 // ---- the next frame, at any frame index and bytes sent
 
 // 0 for a frame, 100 for End, or a refusal's number.
+#[tactic(auto, unfolding(crate::specs::Frames::next_with))]
 pub fn hf_raw_next_frame(
     builder: &[u64; 6],
     frame_index: u8,
@@ -74,6 +79,7 @@ pub fn hf_raw_next_frame(
 // ---- frame by frame
 
 // The place before the first frame.
+#[tactic(auto, unfolding(crate::specs::Frames::started_place))]
 pub fn hf_raw_builder_build(builder: &[u64; 6], place: &mut [u64; 2])
     ensures { place.new ≡ started_place builder.now }
 {
@@ -93,6 +99,7 @@ fn step_in(item: Item) -> Next
 }
 
 // As `hf_raw_next_frame`; the place goes on in the lent memory.
+#[tactic(auto, unfolding(crate::specs::Frames::turn_with))]
 pub fn hf_raw_frame_iterator_next(
     builder: &[u64; 6],
     place: &mut [u64; 2],

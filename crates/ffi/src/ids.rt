@@ -13,6 +13,7 @@ pub fn hf_can_id_read(id: u32, parts: &mut [u32; 4]) -> u32
 }
 
 // From these parts as they are.
+#[tactic(auto, unfolding(crate::specs::Ids::builder_of_parts))]
 pub fn hf_can_id_build(
     priority: u8,
     pgn: u32,
@@ -23,33 +24,36 @@ pub fn hf_can_id_build(
     ensures { PartsBuilt priority pgn source_address destination result value.new }
 {
     let b = CanIdBuilder {
-        priority: priority,
-        pgn: pgn,
-        source_address: source_address,
-        destination: destination_from(destination as u64),
+        priority,
+        pgn,
+        source_address,
+        destination: destination_from(u64::from(destination)),
     };
     answered(b.build(), value)
 }
 
+#[tactic(auto, using(base::proofs::Cases::when_lt, base::proofs::Cases::when_ge), unfolding(crate::specs::Ids::set_priority))]
 fn set_priority(b: CanIdBuilder, priority: u16) -> CanIdBuilder
     ensures { result ≡ set_priority b priority }
 {
-    if priority < 256 {
-        return b.with_priority(priority as u8);
+    match u8::try_from(priority) {
+        Ok(priority) => b.with_priority(priority),
+        Err(_) => b,
     }
-    b
 }
 
+#[tactic(auto, using(base::proofs::Cases::when_lt, base::proofs::Cases::when_ge), unfolding(crate::specs::Ids::set_destination))]
 fn set_destination(b: CanIdBuilder, destination: u16) -> CanIdBuilder
     ensures { result ≡ set_destination b destination }
 {
-    if destination < 256 {
-        return b.to_destination(destination as u8);
+    match u8::try_from(destination) {
+        Ok(address) => b.to_destination(address),
+        Err(_) => b,
     }
-    b
 }
 
 // By the setters: a priority or a destination of 256 or more is not set.
+#[tactic(auto, unfolding(crate::specs::Ids::set_of))]
 pub fn hf_can_id_build_with(
     pgn: u32,
     source_address: u8,
@@ -66,6 +70,7 @@ pub fn hf_can_id_build_with(
     answered(b.build(), value)
 }
 
+#[tactic(auto, unfolding(crate::specs::Ids::both_of))]
 fn both_set(pgn: u32, source_address: u8, priority: u8, destination: u8) -> CanIdBuilder
     ensures { result ≡ both_of pgn source_address priority destination }
 {

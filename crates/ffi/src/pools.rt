@@ -2,11 +2,11 @@
 // numbers. A mode is 0, as the original, or 1, where a clock that was set back is silence; a kind is 0, as the original, or 1, where the key has the
 // destination; any other number is no mode and no kind, and makes the pool impossible.
 ghost use Rattle.ffi.specs.Calls.{NewPoolLeft, PoolWithModeLeft, PoolWithKindLeft, DefaultPoolLeft, FrameLeft, FrameWithLengthLeft, FrameByIdLeft, FrameByIdWithLengthLeft};
+ghost use Rattle.ffi.specs.inner.Calls.{HeardLeft};
 
 use assembler::{
-    Arrival, ArrivalById, ArrivalByIdWithLength, ArrivalWithLength, Made, MadePool, POOL_BYTES,
-    Pool, process_frame_by_id_through, process_frame_by_id_with_length_through,
-    process_frame_through, process_frame_with_length_through, receive, receive_by_id,
+    Arrival, ArrivalById, ArrivalByIdWithLength, ArrivalWithLength, Arrive, Made, MadePool,
+    POOL_BYTES, Pool, Processed, Received, process_frame, receive,
 };
 use can_id::CanId;
 use fast_packet::MAX_FAST_PACKET_PAYLOAD;
@@ -86,6 +86,63 @@ pub fn hf_raw_pool_default(
     leave_made(made, heads, bytes, size, mode, kind)
 }
 
+// A frame heard by the call that is lent the counters, on a pool and counters from numbers.
+fn processed<A: Arrive>(
+    size: usize,
+    mode: u32,
+    kind: u32,
+    heads: &mut [u64; POOL_NUMBERS],
+    bytes: &mut [u8; POOL_BYTES],
+    counters: &mut [u32; 5],
+    pgns: &[u32],
+    arrival: A,
+    payload: &mut [u8; MAX_FAST_PACKET_PAYLOAD],
+    length: &mut usize,
+) -> u32
+    ensures { HeardLeft size mode kind pgns.now A.ENTRY (A.hears arrival)
+        (record { heads = heads.old; bytes = bytes.old; counters = counters.old; payload = payload.old; length = length.old })
+        result (record { heads = heads.new; bytes = bytes.new; counters = counters.new; payload = payload.new; length = length.new }) }
+{
+    let pool = pool_from(size, mode, kind, heads, bytes);
+    let mut after = counters_from(counters);
+    let Processed {
+        kind: answered,
+        payload: message,
+        length: sent,
+        pool: left,
+    } = process_frame(pool, &mut after, pgns, arrival);
+    let r = Received {
+        kind: answered,
+        payload: message,
+        length: sent,
+        pool: left,
+        counters: after,
+    };
+    leave(r, heads, bytes, counters, payload, length)
+}
+
+// The same by the call that has the counters by value.
+fn received<A: Arrive>(
+    size: usize,
+    mode: u32,
+    kind: u32,
+    heads: &mut [u64; POOL_NUMBERS],
+    bytes: &mut [u8; POOL_BYTES],
+    counters: &mut [u32; 5],
+    pgns: &[u32],
+    arrival: A,
+    payload: &mut [u8; MAX_FAST_PACKET_PAYLOAD],
+    length: &mut usize,
+) -> u32
+    ensures { HeardLeft size mode kind pgns.now A.ENTRY (A.hears arrival)
+        (record { heads = heads.old; bytes = bytes.old; counters = counters.old; payload = payload.old; length = length.old })
+        result (record { heads = heads.new; bytes = bytes.new; counters = counters.new; payload = payload.new; length = length.new }) }
+{
+    let pool = pool_from(size, mode, kind, heads, bytes);
+    let r = receive(pool, counters_from(counters), pgns, arrival);
+    leave(r, heads, bytes, counters, payload, length)
+}
+
 // Refusal 1 for an impossible pool or one of the other kind, 102 FragmentConsumed, 103 MessageComplete, 104 NotListed, 105 Rejected, 106 PoolFull or 107 Lost.
 pub fn hf_raw_process_frame(
     size: usize,
@@ -106,17 +163,16 @@ pub fn hf_raw_process_frame(
         (record { heads = heads.old; bytes = bytes.old; counters = counters.old; payload = payload.old; length = length.old })
         result (record { heads = heads.new; bytes = bytes.new; counters = counters.new; payload = payload.new; length = length.new }) }
 {
-    let p = pool_from(size, mode, kind, heads, bytes);
-    let c = counters_from(counters);
-    let d = *data;
+    let data = *data;
     let arrival = Arrival {
-        now_ms: now_ms,
-        pgn: pgn,
-        source_address: source_address,
-        data: d,
+        now_ms,
+        pgn,
+        source_address,
+        data,
     };
-    let r = process_frame_through(p, c, pgns, arrival);
-    leave(r, heads, bytes, counters, payload, length)
+    processed(
+        size, mode, kind, heads, bytes, counters, pgns, arrival, payload, length,
+    )
 }
 
 // The same by the call that has the counters by value.
@@ -139,17 +195,16 @@ pub fn hf_raw_receive(
         (record { heads = heads.old; bytes = bytes.old; counters = counters.old; payload = payload.old; length = length.old })
         result (record { heads = heads.new; bytes = bytes.new; counters = counters.new; payload = payload.new; length = length.new }) }
 {
-    let p = pool_from(size, mode, kind, heads, bytes);
-    let c = counters_from(counters);
-    let d = *data;
+    let data = *data;
     let arrival = Arrival {
-        now_ms: now_ms,
-        pgn: pgn,
-        source_address: source_address,
-        data: d,
+        now_ms,
+        pgn,
+        source_address,
+        data,
     };
-    let r = receive(p, c, pgns, arrival);
-    leave(r, heads, bytes, counters, payload, length)
+    received(
+        size, mode, kind, heads, bytes, counters, pgns, arrival, payload, length,
+    )
 }
 
 // The same for a frame with a length.
@@ -173,21 +228,20 @@ pub fn hf_raw_process_frame_with_length(
         (record { heads = heads.old; bytes = bytes.old; counters = counters.old; payload = payload.old; length = length.old })
         result (record { heads = heads.new; bytes = bytes.new; counters = counters.new; payload = payload.new; length = length.new }) }
 {
-    let p = pool_from(size, mode, kind, heads, bytes);
-    let c = counters_from(counters);
-    let d = *data;
+    let data = *data;
     let arrival = Arrival {
-        now_ms: now_ms,
-        pgn: pgn,
-        source_address: source_address,
-        data: d,
+        now_ms,
+        pgn,
+        source_address,
+        data,
     };
     let x = ArrivalWithLength {
-        arrival: arrival,
+        arrival,
         length: frame_length,
     };
-    let r = process_frame_with_length_through(p, c, pgns, x);
-    leave(r, heads, bytes, counters, payload, length)
+    processed(
+        size, mode, kind, heads, bytes, counters, pgns, x, payload, length,
+    )
 }
 
 // By the identifier, on a pool whose key has the destination: refusal 8 for one that is too wide, before all else; then as the entries above.
@@ -209,16 +263,15 @@ pub fn hf_raw_process_frame_by_id(
         (record { heads = heads.old; bytes = bytes.old; counters = counters.old; payload = payload.old; length = length.old })
         result (record { heads = heads.new; bytes = bytes.new; counters = counters.new; payload = payload.new; length = length.new }) }
 {
-    let p = pool_from(size, mode, kind, heads, bytes);
-    let c = counters_from(counters);
-    let d = *data;
+    let data = *data;
     let arrival = ArrivalById {
-        now_ms: now_ms,
+        now_ms,
         id: CanId(id),
-        data: d,
+        data,
     };
-    let r = process_frame_by_id_through(p, c, pgns, arrival);
-    leave(r, heads, bytes, counters, payload, length)
+    processed(
+        size, mode, kind, heads, bytes, counters, pgns, arrival, payload, length,
+    )
 }
 
 // The same by the call that has the counters by value.
@@ -240,16 +293,15 @@ pub fn hf_raw_receive_by_id(
         (record { heads = heads.old; bytes = bytes.old; counters = counters.old; payload = payload.old; length = length.old })
         result (record { heads = heads.new; bytes = bytes.new; counters = counters.new; payload = payload.new; length = length.new }) }
 {
-    let p = pool_from(size, mode, kind, heads, bytes);
-    let c = counters_from(counters);
-    let d = *data;
+    let data = *data;
     let arrival = ArrivalById {
-        now_ms: now_ms,
+        now_ms,
         id: CanId(id),
-        data: d,
+        data,
     };
-    let r = receive_by_id(p, c, pgns, arrival);
-    leave(r, heads, bytes, counters, payload, length)
+    received(
+        size, mode, kind, heads, bytes, counters, pgns, arrival, payload, length,
+    )
 }
 
 // The same for a frame with a length.
@@ -272,18 +324,17 @@ pub fn hf_raw_process_frame_by_id_with_length(
         (record { heads = heads.old; bytes = bytes.old; counters = counters.old; payload = payload.old; length = length.old })
         result (record { heads = heads.new; bytes = bytes.new; counters = counters.new; payload = payload.new; length = length.new }) }
 {
-    let p = pool_from(size, mode, kind, heads, bytes);
-    let c = counters_from(counters);
-    let d = *data;
+    let data = *data;
     let arrival = ArrivalById {
-        now_ms: now_ms,
+        now_ms,
         id: CanId(id),
-        data: d,
+        data,
     };
     let x = ArrivalByIdWithLength {
-        arrival: arrival,
+        arrival,
         length: frame_length,
     };
-    let r = process_frame_by_id_with_length_through(p, c, pgns, x);
-    leave(r, heads, bytes, counters, payload, length)
+    processed(
+        size, mode, kind, heads, bytes, counters, pgns, x, payload, length,
+    )
 }

@@ -19,7 +19,7 @@ use Rattle.session.specs.Frames.{index_of, size_of, bad_size, is_empty, cut_firs
 use Rattle.session.specs.Heads.{in_turn, cut_next, is_next}
 use Rattle.session.proofs.Cuts.{eight_sent, eight_first, eight_cut}
 use Rattle.assembler.specs.declared.Arrival.{Arrival}
-use Rattle.assembler.specs.declared.ArrivalWithLength.{ArrivalWithLength}
+use Rattle.assembler.specs.Arrivals.{ArrivalWithLength}
 use Rattle.assembler.specs.declared.Pool.{Pool}
 use Rattle.assembler.specs.declared.Processed.{Processed}
 use Rattle.assembler.specs.declared.Received.{Received}

@@ -15,7 +15,7 @@ use Rattle.assembler.specs.declared.Pool.{Pool}
 use Rattle.assembler.specs.declared.Processed.{Processed}
 use Rattle.assembler.specs.declared.Received.{Received}
 use Rattle.assembler.specs.declared.Arrival.{Arrival}
-use Rattle.assembler.specs.declared.ArrivalWithLength.{ArrivalWithLength}
+use Rattle.assembler.specs.Arrivals.{ArrivalWithLength}
 use Rattle.assembler.specs.Arrivals.{heard_of, cut_to, heard_with_length}
 use Rattle.assembler.specs.Call.{Call, EightBytes}
 use Rattle.assembler.specs.Possible.{FrameOk, hears, refused}

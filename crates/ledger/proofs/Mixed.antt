@@ -13,7 +13,7 @@ use Rattle.session.specs.declared.Kind.TheVariants.{FragmentConsumed, MessageCom
 use Rattle.session.specs.declared.PoolKind.TheVariants.{Original}
 use Rattle.session.specs.Kinds.{kind_number}
 use Rattle.assembler.specs.declared.Arrival.{Arrival}
-use Rattle.assembler.specs.declared.ArrivalWithLength.{ArrivalWithLength}
+use Rattle.assembler.specs.Arrivals.{ArrivalWithLength}
 use Rattle.assembler.specs.declared.Received.{Received}
 use Rattle.assembler.specs.Call.{Call}
 use Rattle.assembler.specs.Step.{padded}

@@ -12,8 +12,8 @@ use Rattle.session.specs.Counting.{fresh_counters}
 use Rattle.assembler.specs.declared.Pool.{Pool}
 use Rattle.assembler.specs.declared.Arrival.{Arrival}
 use Rattle.assembler.specs.declared.ArrivalById.{ArrivalById}
-use Rattle.assembler.specs.declared.ArrivalByIdWithLength.{ArrivalByIdWithLength}
-use Rattle.assembler.specs.declared.ArrivalWithLength.{ArrivalWithLength}
+use Rattle.assembler.specs.Arrivals.{ArrivalByIdWithLength}
+use Rattle.assembler.specs.Arrivals.{ArrivalWithLength}
 use Rattle.assembler.specs.declared.Received.{Received}
 use Rattle.assembler.specs.declared.Processed.{Processed}
 use Rattle.assembler.specs.Call.{Call, EightBytes}
@@ -109,10 +109,10 @@ after_batch z r kinds lengths arena = record { pool = r.pool; counters = r.count
 
 -- A public call that keeps its promise: the frames that it heard, and the state that it leaves. Where its bytes come from outside, they are what their type says.
 pub data Called (z : State) : List Call → State → Type 0 where
-  -- `receive`, and `process_frame_through`
+  -- `receive`, of an `Arrival`
   received : (pgns : List ℕ) (a : Arrival) {r : Received} → EightBytes a.«data» → Receives pgns a z.pool z.counters r
       → Called z (calls_heard pgns (at_original z.pool (heard_of a))) (after_entry (at_original z.pool (heard_of a)) z r)
-  -- `receive_with_length`, and `process_frame_with_length_through`
+  -- `receive`, of an `ArrivalWithLength`
   received_with_length : (pgns : List ℕ) (x : ArrivalWithLength) {r : Received} → EightBytes x.arrival.«data» → ReceivesWithLength pgns x z.pool z.counters r
       → Called z (calls_heard pgns (at_original z.pool (heard_with_length x))) (after_entry (at_original z.pool (heard_with_length x)) z r)
   -- `process_frame`, and `process_frame_with_length`
@@ -120,10 +120,10 @@ pub data Called (z : State) : List Call → State → Type 0 where
       → Called z (calls_heard pgns (at_original z.pool (heard_of a))) (after_lent (at_original z.pool (heard_of a)) z r after)
   processed_with_length : (pgns : List ℕ) (x : ArrivalWithLength) {r : Processed} {after : Counters} → EightBytes x.arrival.«data» → ProcessesWithLength pgns x z.pool z.counters r after
       → Called z (calls_heard pgns (at_original z.pool (heard_with_length x))) (after_lent (at_original z.pool (heard_with_length x)) z r after)
-  -- `receive_by_id`, and `process_frame_by_id_through`
+  -- `receive`, of an `ArrivalById`
   received_by_id : (pgns : List ℕ) (a : ArrivalById) {r : Received} → EightBytes a.«data» → ReceivesById pgns a z.pool z.counters r
       → Called z (calls_heard pgns (at_addressed z.pool (heard_by_id a))) (after_entry (at_addressed z.pool (heard_by_id a)) z r)
-  -- `receive_by_id_with_length`, and `process_frame_by_id_with_length_through`
+  -- `receive`, of an `ArrivalByIdWithLength`
   received_by_id_with_length : (pgns : List ℕ) (x : ArrivalByIdWithLength) {r : Received} → EightBytes x.arrival.«data» → ReceivesByIdWithLength pgns x z.pool z.counters r
       → Called z (calls_heard pgns (at_addressed z.pool (heard_by_id_with_length x))) (after_entry (at_addressed z.pool (heard_by_id_with_length x)) z r)
   -- `process_frame_by_id`, and `process_frame_by_id_with_length`

@@ -7,22 +7,17 @@ use lib.ListN.{length, get_or}
 use Rattle.base.specs.Answer.{Answer, code_of}
 use Rattle.builder.specs.Next.{Step}
 use Rattle.builder.specs.Frames.{Turn}
-use Rattle.session.specs.declared.Counters.{Counters}
-use Rattle.session.specs.declared.Heard.{Heard}
 use Rattle.session.specs.declared.Kind.{Kind}
-use Rattle.session.specs.declared.PoolKind.{PoolKind}
-use Rattle.session.specs.declared.PoolKind.TheVariants.{Original, Addressed}
-use Rattle.assembler.specs.Promises.{rules_of, entered, result_of, result_on, Answers}
-use Rattle.assembler.proofs.Entries.{Known, frame, wide, other, known_entered, known_by_id, known_by_id_with_length}
-use Rattle.assembler.specs.View.{slots_of, reply_by}
-use Rattle.assembler.specs.declared.Pool.{Pool}
+use Rattle.session.specs.declared.Kind.TheVariants.{ImpossiblePool, TooWide, NotListed, Rejected, PoolFull, Lost, FragmentConsumed, MessageComplete}
+use Rattle.assembler.specs.Promises.{rules_of}
+use Rattle.assembler.specs.View.{reply_by}
 use Rattle.numbers.specs.Frames.{next_code, builder_from}
 use Rattle.ffi.specs.Ids.{builder_of_parts, set_of, both_of}
 use Rattle.ffi.specs.Frames.{next_with, turn_with}
 use Rattle.ffi.specs.Batches.{batch_in}
 use Rattle.no_three.specs.NoThree.{NotThree, NoneIsThree, NoThree}
 use Rattle.no_three.proofs.Sending.{Other, OtherStep, read_other, read_case_other, build_other, next_other, built_case_other, next_case_other}
-use Rattle.no_three.proofs.Receiving.{size_other, made_other, kind_other, step_other, batch_other}
+use Rattle.no_three.proofs.Receiving.{size_other, made_other, kind_other, batch_other}
 use Rattle.no_three.proofs.Bench.{counted_other, split_other, delivered_other, check_other, split_case_other, reassembled_case_other, checked_case_other}
 
 -- what is equal to another number is another
@@ -37,16 +32,17 @@ by_answer e h = by (ap code_of e) h
 by_step : {s t : Step} → s ≡ t → OtherStep t → OtherStep s
 by_step e h = by (ap (λ (s : Step). next_code s.kind) e) h
 
--- an answer of the receive call
-result_other : (pgns : List ℕ) {a : Answer Heard} (p : Pool) (k : Counters) → Known a → Other (result_on pgns a p k).reply
-unfolding result_on result_of
-result_other pgns p k (frame f) = step_other (rules_of p) (slots_of p) k (record { pgns = pgns; heard = f })
-result_other pgns p k wide = omega arith
-result_other pgns p k other = omega arith
-
-by_reply : (pgns : List ℕ) (entry : PoolKind) (p : Pool) (k : Counters) {a : Answer Heard} → Known a → {kind : Kind} {payload : List ℕ} {n : ℕ} {left : Pool}
-    → Answers (result_on pgns (entered entry p a) p k) kind payload n left → Other (reply_by kind payload n)
-by_reply pgns entry p k known h = by_answer h.told (result_other pgns p k (known_entered entry p known))
+-- an answer of the receive call, by its kind
+reply_other : (kind : Kind) (payload : List ℕ) (n : ℕ) → Other (reply_by kind payload n)
+unfolding reply_by
+reply_other ImpossiblePool payload n = omega arith
+reply_other TooWide payload n = omega arith
+reply_other NotListed payload n = omega arith
+reply_other Rejected payload n = omega arith
+reply_other PoolFull payload n = omega arith
+reply_other Lost payload n = omega arith
+reply_other FragmentConsumed payload n = omega arith
+reply_other MessageComplete payload n = omega arith
 
 -- a row of kinds that is equal to one without it, up to an equal count
 by_row : {m n : ℕ} {row row' : List ℕ} → m ≡ n → row ≡ row' → NoneIsThree n row' → NoneIsThree m row
@@ -64,18 +60,8 @@ no_three =
       pool_with_mode = λ mode wanted r h. by_answer h.answer (size_other wanted);
       pool_with_kind = λ kind mode wanted r h. by_answer h.answer (size_other wanted);
       decide = λ mode bad listed found h heard r e. kind_other r.kind;
-      receive = λ pgns a p k r h. by_reply pgns Original p k (frame _) h.answer;
-      receive_with_length = λ pgns x p k r h. by_reply pgns Original p k (frame _) h.answer;
-      process_frame = λ pgns a p before after r h. by_reply pgns Original p before (frame _) h.answer;
-      process_frame_with_length = λ pgns x p before after r h. by_reply pgns Original p before (frame _) h.answer;
-      process_frame_through = λ pgns a p k r h. by_reply pgns Original p k (frame _) h.answer;
-      process_frame_with_length_through = λ pgns x p k r h. by_reply pgns Original p k (frame _) h.answer;
-      receive_by_id = λ pgns a p k r h. by_reply pgns Addressed p k (known_by_id a) h.answer;
-      receive_by_id_with_length = λ pgns x p k r h. by_reply pgns Addressed p k (known_by_id_with_length x) h.answer;
-      process_frame_by_id = λ pgns a p before after r h. by_reply pgns Addressed p before (known_by_id a) h.answer;
-      process_frame_by_id_with_length = λ pgns x p before after r h. by_reply pgns Addressed p before (known_by_id_with_length x) h.answer;
-      process_frame_by_id_through = λ pgns a p k r h. by_reply pgns Addressed p k (known_by_id a) h.answer;
-      process_frame_by_id_with_length_through = λ pgns x p k r h. by_reply pgns Addressed p k (known_by_id_with_length x) h.answer;
+      receive = λ pgns entry a p k r h. reply_other r.kind _ _;
+      process_frame = λ pgns entry a p before after r h. reply_other r.kind _ _;
       process_frames = λ list times pgns sources bytes kinds lengths arena p k r kinds' lengths' arena' h. (
         by_answer h.leaves_these.answer (batch_other (rules_of p) list _ p k kinds lengths arena).0,
         by_row h.leaves_these.taken h.leaves_these.told (batch_other (rules_of p) list _ p k kinds lengths arena).1,

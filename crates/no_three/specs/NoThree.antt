@@ -2,7 +2,7 @@
 -- A field has the name of the call that it is about. It says: whatever the call was asked, and whatever outcome its promise allows, the number by which the
 -- answer is told is not 3. A public call that is added joins, as a field or, if it tells no answer by a number, in the list at the end; `host/test` looks.
 use Rattle.std.specs.Prelude.{ℕ, ◌<◌, Bool, List, Result, ◌≢◌, ◌≡◌, get_or, take}
-use Rattle.base.specs.Answer.{code_of}
+use Rattle.base.specs.Answer.{Answer, code_of}
 use Rattle.can_id.specs.Read.{of_read, read_of}
 use Rattle.can_id.specs.Build.{of_built, build_of}
 use Rattle.can_id.specs.declared.CanIdBuilder.{CanIdBuilder}
@@ -28,13 +28,13 @@ use Rattle.session.specs.declared.PoolKind.{PoolKind}
 use Rattle.session.specs.declared.Plan.{Plan}
 use Rattle.assembler.specs.Making.{of_made, MakesPoolOf, MakesPoolIn, MakesPool}
 use Rattle.assembler.specs.View.{reply_by}
-use Rattle.assembler.specs.Promises.{Receives, ReceivesWithLength, ReceivesById, ReceivesByIdWithLength, Processes, ProcessesWithLength, ProcessesById, ProcessesByIdWithLength}
+use Rattle.assembler.specs.Promises.{entered, ReceivesHeard, ProcessesHeard}
 use Rattle.assembler.specs.declared.Pool.{Pool}
 use Rattle.assembler.specs.declared.MadePool.{MadePool}
 use Rattle.assembler.specs.declared.Arrival.{Arrival}
 use Rattle.assembler.specs.declared.ArrivalById.{ArrivalById}
-use Rattle.assembler.specs.declared.ArrivalByIdWithLength.{ArrivalByIdWithLength}
-use Rattle.assembler.specs.declared.ArrivalWithLength.{ArrivalWithLength}
+use Rattle.assembler.specs.Arrivals.{ArrivalByIdWithLength}
+use Rattle.assembler.specs.Arrivals.{ArrivalWithLength}
 use Rattle.assembler.specs.declared.Received.{Received}
 use Rattle.assembler.specs.declared.Processed.{Processed}
 use Rattle.batch.specs.Rows.{Rows, of_batched, frames_in, Batches}
@@ -78,30 +78,11 @@ pub record NoThree : Type 0 where
   pub pool_with_mode : (mode : Mode) (wanted : ℕ) (r : MadePool) → MakesPoolIn mode wanted r → NotThree (code_of (of_made r.result r.pool.size))
   pub pool_with_kind : (kind : PoolKind) (mode : Mode) (wanted : ℕ) (r : MadePool) → MakesPoolOf kind mode wanted r → NotThree (code_of (of_made r.result r.pool.size))
   pub decide : (mode : Mode) (bad listed found : Bool) (h : Head) (heard : Heard) (r : Plan) → r ≡ plan_of bad listed found (silent_by mode) heard h → NotThree (kind_number r.kind)
-  pub receive : (pgns : List ℕ) (a : Arrival) (p : Pool) (k : Counters) (r : Received)
-      → Receives pgns a p k r → NotThree (code_of (reply_by r.kind r.payload r.length))
-  pub receive_with_length : (pgns : List ℕ) (x : ArrivalWithLength) (p : Pool) (k : Counters) (r : Received)
-      → ReceivesWithLength pgns x p k r → NotThree (code_of (reply_by r.kind r.payload r.length))
-  pub process_frame : (pgns : List ℕ) (a : Arrival) (p : Pool) (before after : Counters) (r : Processed)
-      → Processes pgns a p before r after → NotThree (code_of (reply_by r.kind r.payload r.length))
-  pub process_frame_with_length : (pgns : List ℕ) (x : ArrivalWithLength) (p : Pool) (before after : Counters) (r : Processed)
-      → ProcessesWithLength pgns x p before r after → NotThree (code_of (reply_by r.kind r.payload r.length))
-  pub process_frame_through : (pgns : List ℕ) (a : Arrival) (p : Pool) (k : Counters) (r : Received)
-      → Receives pgns a p k r → NotThree (code_of (reply_by r.kind r.payload r.length))
-  pub process_frame_with_length_through : (pgns : List ℕ) (x : ArrivalWithLength) (p : Pool) (k : Counters) (r : Received)
-      → ReceivesWithLength pgns x p k r → NotThree (code_of (reply_by r.kind r.payload r.length))
-  pub receive_by_id : (pgns : List ℕ) (a : ArrivalById) (p : Pool) (k : Counters) (r : Received)
-      → ReceivesById pgns a p k r → NotThree (code_of (reply_by r.kind r.payload r.length))
-  pub receive_by_id_with_length : (pgns : List ℕ) (x : ArrivalByIdWithLength) (p : Pool) (k : Counters) (r : Received)
-      → ReceivesByIdWithLength pgns x p k r → NotThree (code_of (reply_by r.kind r.payload r.length))
-  pub process_frame_by_id : (pgns : List ℕ) (a : ArrivalById) (p : Pool) (before after : Counters) (r : Processed)
-      → ProcessesById pgns a p before r after → NotThree (code_of (reply_by r.kind r.payload r.length))
-  pub process_frame_by_id_with_length : (pgns : List ℕ) (x : ArrivalByIdWithLength) (p : Pool) (before after : Counters) (r : Processed)
-      → ProcessesByIdWithLength pgns x p before r after → NotThree (code_of (reply_by r.kind r.payload r.length))
-  pub process_frame_by_id_through : (pgns : List ℕ) (a : ArrivalById) (p : Pool) (k : Counters) (r : Received)
-      → ReceivesById pgns a p k r → NotThree (code_of (reply_by r.kind r.payload r.length))
-  pub process_frame_by_id_with_length_through : (pgns : List ℕ) (x : ArrivalByIdWithLength) (p : Pool) (k : Counters) (r : Received)
-      → ReceivesByIdWithLength pgns x p k r → NotThree (code_of (reply_by r.kind r.payload r.length))
+  -- at every form of the call: by the entry of either kind, and whatever is heard there
+  pub receive : (pgns : List ℕ) (entry : PoolKind) (a : Answer Heard) (p : Pool) (k : Counters) (r : Received)
+      → ReceivesHeard pgns (entered entry p a) p k r → NotThree (code_of (reply_by r.kind r.payload r.length))
+  pub process_frame : (pgns : List ℕ) (entry : PoolKind) (a : Answer Heard) (p : Pool) (before after : Counters) (r : Processed)
+      → ProcessesHeard pgns (entered entry p a) p before r after → NotThree (code_of (reply_by r.kind r.payload r.length))
   -- the answer, and each kind that is written into the row
   pub process_frames : (list times pgns sources bytes kinds lengths arena : List ℕ) (p : Pool) (k : Counters) (r : Batch) (kinds' lengths' arena' : List ℕ)
       → Batches list times pgns sources bytes p k kinds lengths arena r kinds' lengths' arena'

@@ -11,7 +11,7 @@
 
 ghost use Rattle.std.specs.Prelude.{◌≡◌, ◌+◌, ◌<◌, ◌≤◌, length};
 
-use assembler::{Arrival, Pool, Received, process_frame_through};
+use assembler::{Arrival, Pool, Processed, Received, process_frame};
 use builder::{FastPacketBuilder, Next};
 use can_id::{CanFrame, CanId};
 use fast_packet::MAX_FAST_PACKET_PAYLOAD;
@@ -217,17 +217,28 @@ fn arrival_in(line: &[u8; 44]) -> Arrival {
 
 fn hear<W: Write>(out: &mut W, s: State, line: &[u8; 44]) -> io::Result<State> {
     let pool = s.pool;
-    let counters = s.counters;
-    let r = process_frame_through(pool, counters, &[127489, 129029], arrival_in(line));
-    write_answer(out, r)?;
-    let after = r.pool;
-    let counted = r.counters;
-    let mode = s.mode;
+    let mut counters = s.counters;
+    let Processed {
+        kind,
+        payload,
+        length,
+        pool: after,
+    } = process_frame(pool, &mut counters, &[127489, 129029], arrival_in(line));
+    write_answer(
+        out,
+        Received {
+            kind,
+            payload,
+            length,
+            pool: after,
+            counters,
+        },
+    )?;
     Ok(State {
         more: true,
-        mode: mode,
+        mode: s.mode,
         pool: after,
-        counters: counted,
+        counters,
     })
 }
 

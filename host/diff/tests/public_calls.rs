@@ -58,7 +58,7 @@ fn public(text: &str) -> Vec<Public<'_>> {
             let body: Vec<&str> = lines[at + whole.len()..].iter().skip(1).take_while(|l| **l != end).copied().collect();
             let said = words(contract.split_once("ensures").map_or("", |c| c.1));
             found.push(Public {
-                call: of.clone() + rest.split('(').next().unwrap(),
+                call: of.clone() + rest.split(['(', '<']).next().unwrap(),
                 is_export: exported.is_some(),
                 stated: in_one_line(contract.split_once("fn ").unwrap().1),
                 body: in_one_line(&body.join("\n")),

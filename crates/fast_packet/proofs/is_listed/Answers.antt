@@ -1,14 +1,12 @@
--- `is_listed` meets its contract: hit says whether the PGN is among those passed. Assumes nothing.
-use borrow.Author.Rules.{rules}
-use native.Mathlib.Omega.{arith}
-use Rattle.fast_packet.proofs.Laws.{listed_none, listed_turn, listed_done}
+-- `is_listed` meets its contract: the fold says whether the PGN is among those passed. Assumes nothing.
+use Rattle.std.proofs.Common.{rules, tests}
+use Rattle.std.proofs.lemmas.Iterator.{YieldsList-from_slice}
+use Rattle.std.proofs.lemmas.Iterator.Consumers.{fold_from_yields_List}
+use Rattle.fast_packet.proofs.Laws.{hit_by, listed_fold}
 use Rattle.fast_packet.proofs.is_listed.Goals as goal
 
-pub loop-i-init : goal.loop-i-init
-loop-i-init c = (search rules, listed_none _)
-
-pub loop-i-preserved : goal.loop-i-preserved
-loop-i-preserved c = (omega arith, search listed_turn)
-
 pub returns : goal.returns
-returns c = listed_done c.args.pgn c.args.pgns.now c.loop-i.i _ c.loop-i.invariant.1 (omega arith)
+returns c =
+    let pgns = c.args.pgns.now in
+    let turns = fold_from_yields_List _ (hit_by c.args.pgn) _ _ c.fold.ensures.ran (YieldsList-from_slice pgns cc) (λ a x b q k. search (rules, tests)) in
+    listed_fold c.args.pgn pgns turns

@@ -1,13 +1,6 @@
--- `placed` meets its contract: after i turns i bytes of the payload stand where they belong. Assumes nothing.
-use Rattle.std.proofs.Common.{rules}
-use Rattle.builder.proofs.Copies.{copying}
+-- `placed` meets its contract: the row that was written is the frame's. Assumes nothing.
+use Rattle.builder.proofs.Copies.{placed_row}
 use Rattle.builder.proofs.frame_bytes.placed.Goals as goal
 
-pub loop-i-init : goal.loop-i-init
-loop-i-init c = search (rules, copying)
-
-pub loop-i-preserved : goal.loop-i-preserved
-loop-i-preserved c = search (rules, copying)
-
 pub returns : goal.returns
-returns c = search (rules, copying)
+returns c = placed_row _ _ _ _ _ _ _ _ c.requires.1 c.min.ensures c.min-count.ensures c.copy_from_slice.ensures.after

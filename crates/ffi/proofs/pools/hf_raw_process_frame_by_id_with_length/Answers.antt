@@ -1,6 +1,6 @@
--- `hf_raw_process_frame_by_id_with_length` meets its contract: it passes on what its calls say. Assumes nothing.
-use Rattle.ffi.proofs.Laws.{left_by, received_by_id_with_length_by}
+-- `hf_raw_process_frame_by_id_with_length` meets its contract: what the frame without a length gives is cut. Assumes nothing.
+use Rattle.ffi.proofs.Laws.{cut_left_by_id}
 use Rattle.ffi.proofs.pools.hf_raw_process_frame_by_id_with_length.Goals as goal
 
 pub returns : goal.returns
-returns c = left_by c.leave.ensures (received_by_id_with_length_by _ _ _ _ _ c.pool_from-p.ensures c.counters_from-c.ensures _ c.process_frame_by_id_with_length_through-r.ensures)
+returns c = cut_left_by_id _ _ _ _ _ c.processed.ensures

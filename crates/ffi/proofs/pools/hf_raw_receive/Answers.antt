@@ -1,6 +1,0 @@
--- `hf_raw_receive` meets its contract: it passes on what its calls say. Assumes nothing.
-use Rattle.ffi.proofs.Laws.{left_by, received_by}
-use Rattle.ffi.proofs.pools.hf_raw_receive.Goals as goal
-
-pub returns : goal.returns
-returns c = left_by c.leave.ensures (received_by _ _ _ _ _ c.pool_from-p.ensures c.counters_from-c.ensures _ c.receive-r.ensures)
