@@ -20,6 +20,7 @@ use assembler::Pool;
 use session::{Counters, FIRST_DATA, Head, Heard, Kind, Mode, POOL_LIMIT, PoolKind, count, decide};
 
 // A blank frame: what the pool is looked at with, before the first.
+#[tactic(auto, unfolding(crate::specs::inner::Ways::blank_heard))]
 fn blank() -> Heard
     ensures { result ≡ blank_heard }
 {
