@@ -11,9 +11,8 @@ mod bench_calls;
 mod building;
 mod cut_frames;
 mod frame_rows;
-mod left;
+mod held;
 mod receiving;
-mod say;
 mod set_back;
 mod wide;
 
@@ -35,7 +34,7 @@ fn main(rt: HostRuntime) -> io::Result<()> {
     addressed::broadcasts(&mut out)?;
     addressed::parts(&mut out)?;
     addressed::resets(&mut out)?;
-    receiving::made(&mut out)?;
+    receiving::pools_made(&mut out)?;
     receiving::refusals(&mut out)?;
     batching::refusals(&mut out)?;
     building::refusals(&mut out)?;

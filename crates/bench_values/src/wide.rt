@@ -1,11 +1,8 @@
 // Identifiers that are too wide, by document 02's No. 4: read, in a row of frames, and handed to the splitter. What was lent stays as it was, which the
 // numbers after the answer tell.
-use crate::bench_calls::{CLAIM, ENGINE, as_frames, show_checked, show_reassembled, show_split};
-use crate::frame_rows::{ROW_FRAMES, blank_row, row_of};
-use crate::say;
-use can_id::{CanId, CanIdParts};
-use oracle::{SliceRow, check_tx, reassemble};
-use splitter::{fast_packet_frames, fast_packet_rows};
+use crate::bench_calls::{self, CLAIM, ENGINE};
+use can_id::CanId;
+use oracle::SliceRow;
 use std::io::{self, Write};
 
 // PGN 127489 from source 35 and from source 36, and an address claim from 35, with flags above bit 28.
@@ -15,200 +12,128 @@ const WIDE_OTHER: u32 = 0x39F2_0124;
 
 const WIDE_CLAIM: u32 = 0x58EE_FF23;
 
-fn show_parts<W: Write>(out: &mut W, parts: CanIdParts) -> io::Result<()> {
-    say::text(out, b"priority ")?;
-    say::number(out, parts.priority as u64)?;
-    say::text(out, b", PGN ")?;
-    say::number(out, parts.pgn as u64)?;
-    say::counted(out, b", from ", parts.source_address as u64)
-}
-
-fn read<W: Write>(out: &mut W, words: &[u8], id: u32) -> io::Result<()> {
-    say::text(out, words)?;
+fn read<W: Write>(out: &mut W, id: u32) -> io::Result<()> {
+    write!(out, "identifier 0x{id:08X}: ")?;
     match CanId(id).read() {
-        Ok(parts) => show_parts(out, parts),
-        Err(error) => say::refusal(out, u64::from(error.number())),
+        Ok(parts) => {
+            write!(out, "priority {}, PGN {}", parts.priority, parts.pgn)?;
+            writeln!(out, ", from {}", parts.source_address)
+        }
+        Err(error) => writeln!(out, "refusal {}", error.number()),
     }
 }
 
-fn judge_into<W: Write>(
+// Six frames, each a message of one byte; then the first number of the list and the first byte of the arena.
+fn judge<W: Write>(
     out: &mut W,
-    words: &[u8],
-    ids: &[u32],
-    bytes: &[u8],
-    lens: &[usize],
+    words: &str,
+    ids: &[u32; 6],
+    lens: &[usize; 6],
     list: &mut [usize],
     arena: &mut [u8],
 ) -> io::Result<()> {
-    say::text(out, words)?;
-    show_reassembled(
-        out,
-        reassemble(SliceRow { ids, bytes, lens }, 35, 127489, list, arena),
-    )?;
-    let row = row_of(ids, bytes, lens);
-    as_frames(out)?;
-    show_reassembled(
-        out,
-        reassemble(&row[..lens.len().min(ROW_FRAMES)], 35, 127489, list, arena),
-    )
-}
-
-// Six frames, each a message of one byte.
-fn judge_six<W: Write>(
-    out: &mut W,
-    words: &[u8],
-    ids: &[u32],
-    lens: &[usize],
-    list: &mut [usize],
-    arena: &mut [u8],
-) -> io::Result<()> {
-    judge_into(
-        out,
-        words,
+    let slices = SliceRow {
         ids,
-        b"\x00\x01a\xFF\xFF\xFF\xFF\xFF\x00\x01b\xFF\xFF\xFF\xFF\xFF\x00\x01c\xFF\xFF\xFF\xFF\xFF\x00\x01d\xFF\xFF\xFF\xFF\xFF\x00\x01e\xFF\xFF\xFF\xFF\xFF\x00\x01f\xFF\xFF\xFF\xFF\xFF",
+        bytes: b"\x00\x01a\xFF\xFF\xFF\xFF\xFF\x00\x01b\xFF\xFF\xFF\xFF\xFF\x00\x01c\xFF\xFF\xFF\xFF\xFF\x00\x01d\xFF\xFF\xFF\xFF\xFF\x00\x01e\xFF\xFF\xFF\xFF\xFF\x00\x01f\xFF\xFF\xFF\xFF\xFF",
         lens,
-        list,
-        arena,
-    )
+    };
+    bench_calls::judge(out, words, slices, list, arena)?;
+    left(out, list.first().copied().unwrap_or(0), arena.first().copied().unwrap_or(0))
 }
 
 fn left<W: Write>(out: &mut W, number: usize, byte: u8) -> io::Result<()> {
-    say::text(out, b"  left: ")?;
-    say::number(out, number as u64)?;
-    say::counted(out, b" ", byte as u64)
+    writeln!(out, "  left: {number} {byte}")
 }
 
-// Into a list and an arena with room, where 9 stands at every place.
-fn judge<W: Write>(out: &mut W, words: &[u8], ids: &[u32], lens: &[usize]) -> io::Result<()> {
-    let mut list = [9usize; 18];
-    let mut arena = [9u8; 6];
-    judge_six(out, words, ids, lens, &mut list, &mut arena)?;
-    left(out, list[0], arena[0])
-}
-
-fn short<W: Write>(
-    out: &mut W,
-    words: &[u8],
-    list: &mut [usize],
-    arena: &mut [u8],
-) -> io::Result<()> {
-    judge_six(
-        out,
-        words,
-        &[ENGINE, ENGINE, ENGINE, ENGINE, ENGINE, WIDE],
-        &[8, 8, 8, 8, 8, 8],
-        list,
-        arena,
-    )
-}
-
+// Into a list and an arena, with room or not, where 9 stands at every place.
 fn rows<W: Write>(out: &mut W) -> io::Result<()> {
     judge(
         out,
-        b"frame 2 of length 7, frame 5 too wide: ",
+        "frame 2 of length 7, frame 5 too wide",
         &[ENGINE, ENGINE, ENGINE, ENGINE, ENGINE, WIDE],
         &[8, 8, 7, 8, 8, 8],
+        &mut [9; 18],
+        &mut [9; 6],
     )?;
     judge(
         out,
-        b"frame 0 of another source and too wide, all else good: ",
+        "frame 0 of another source and too wide, all else good",
         &[WIDE_OTHER, ENGINE, ENGINE, ENGINE, ENGINE, ENGINE],
-        &[8, 8, 8, 8, 8, 8],
+        &[8; 6],
+        &mut [9; 18],
+        &mut [9; 6],
     )
 }
 
 fn room<W: Write>(out: &mut W) -> io::Result<()> {
-    let mut list = [9usize; 18];
-    let mut arena = [9u8; 6];
-    let mut two = [9usize; 2];
-    let mut four = [9u8; 4];
-    short(
+    let ids = [ENGINE, ENGINE, ENGINE, ENGINE, ENGINE, WIDE];
+    judge(
         out,
-        b"frame 5 too wide, and a list of two numbers: ",
-        &mut two,
-        &mut arena,
+        "frame 5 too wide, and a list of two numbers",
+        &ids,
+        &[8; 6],
+        &mut [9; 2],
+        &mut [9; 6],
     )?;
-    left(out, two[0], arena[0])?;
-    short(
+    judge(
         out,
-        b"frame 5 too wide, and an arena of four bytes: ",
-        &mut list,
-        &mut four,
-    )?;
-    left(out, list[0], four[0])
+        "frame 5 too wide, and an arena of four bytes",
+        &ids,
+        &[8; 6],
+        &mut [9; 18],
+        &mut [9; 4],
+    )
 }
 
 // A claim's bytes, and then a message of one byte.
 fn check<W: Write>(
     out: &mut W,
-    words: &[u8],
-    ids: &[u32],
+    words: &str,
+    ids: &[u32; 2],
     expected: usize,
     base: u32,
 ) -> io::Result<()> {
-    let bytes = b"\xFF\xFF\xFF\xFF\xFF\xFF\xFF\xFF\x00\x01\x00\xFF\xFF\xFF\xFF\xFF";
-    say::text(out, words)?;
-    let lens = &[8, 8];
-    show_checked(
-        out,
-        check_tx(SliceRow { ids, bytes, lens }, 35, expected, base),
-    )?;
-    let row = row_of(ids, bytes, lens);
-    as_frames(out)?;
-    show_checked(out, check_tx(&row[..2], 35, expected, base))
+    let slices = SliceRow {
+        ids,
+        bytes: b"\xFF\xFF\xFF\xFF\xFF\xFF\xFF\xFF\x00\x01\x00\xFF\xFF\xFF\xFF\xFF",
+        lens: &[8, 8],
+    };
+    bench_calls::check(out, words, slices, expected, base)
 }
 
 fn checks<W: Write>(out: &mut W) -> io::Result<()> {
-    check(out, b"count 0, and too wide: ", &[CLAIM, WIDE], 0, 0)?;
+    check(out, "count 0, and too wide", &[CLAIM, WIDE], 0, 0)?;
     check(
         out,
-        b"base 4294967295, count 2, and too wide: ",
+        "base 4294967295, count 2, and too wide",
         &[CLAIM, WIDE],
         2,
-        4294967295,
+        u32::MAX,
     )?;
-    check(out, b"no claim, and too wide: ", &[ENGINE, WIDE], 1, 0)?;
-    check(
-        out,
-        b"a claim that is too wide: ",
-        &[WIDE_CLAIM, ENGINE],
-        1,
-        0,
-    )
+    check(out, "no claim, and too wide", &[ENGINE, WIDE], 1, 0)?;
+    check(out, "a claim that is too wide", &[WIDE_CLAIM, ENGINE], 1, 0)
 }
 
-// Into room for nine frames, where 9 stands at every place of the slices.
-fn split<W: Write>(out: &mut W, words: &[u8], sequence: u8, payload: &[u8]) -> io::Result<()> {
-    let mut ids = [9u32; 9];
-    let mut bytes = [9u8; 72];
-    let mut lens = [9usize; 9];
-    say::text(out, words)?;
-    show_split(
-        out,
-        fast_packet_rows(WIDE, sequence, payload, &mut ids, &mut bytes, &mut lens),
-    )?;
-    as_frames(out)?;
-    let mut row = blank_row();
-    show_split(out, fast_packet_frames(WIDE, sequence, payload, &mut row))?;
-    left(out, lens[0], bytes[0])
+fn split<W: Write>(out: &mut W, words: &str, sequence: u8, payload: &[u8]) -> io::Result<()> {
+    let (length, byte) = bench_calls::split(out, words, WIDE, sequence, payload)?;
+    left(out, length, byte)
 }
 
 fn splits<W: Write>(out: &mut W) -> io::Result<()> {
-    split(out, b"splitting nothing, and too wide: ", 0, b"")?;
-    split(out, b"sequence 8, and too wide: ", 8, b"1234567")?;
-    split(out, b"seven bytes, and too wide: ", 0, b"1234567")?;
+    split(out, "splitting nothing, and too wide", 0, b"")?;
+    split(out, "sequence 8, and too wide", 8, b"1234567")?;
+    split(out, "seven bytes, and too wide", 0, b"1234567")?;
     split(
         out,
-        b"63 bytes into nine frames, and too wide: ",
+        "63 bytes into nine frames, and too wide",
         0,
         b"123456789012345678901234567890123456789012345678901234567890123",
     )
 }
 
 pub(crate) fn refusals<W: Write>(out: &mut W) -> io::Result<()> {
-    read(out, b"identifier 0x1FFFFFFF: ", 0x1FFF_FFFF)?;
-    read(out, b"identifier 0x20000000: ", 0x2000_0000)?;
+    read(out, 0x1FFF_FFFF)?;
+    read(out, 0x2000_0000)?;
     rows(out)?;
     room(out)?;
     checks(out)?;

@@ -7,7 +7,6 @@ mod engine;
 mod gateway;
 mod identifiers;
 mod reassembly;
-mod say;
 
 use std::io::{self, BufWriter, Write};
 

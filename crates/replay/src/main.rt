@@ -9,13 +9,12 @@
 // asked for it on a clock of its own. host/diff/src/bin/replay_list.rs makes both.
 #![tactic(auto)]
 
-ghost use Rattle.std.specs.Prelude.{◌≡◌, ◌+◌, ◌<◌, ◌≤◌, length};
+ghost use Rattle.std.specs.Prelude.{◌+◌, ◌*◌, ◌<◌, ◌≤◌};
 
-use assembler::{Arrival, Pool, Processed, Received, process_frame};
+use assembler::{Arrival, Pool, Processed, process_frame};
 use builder::{FastPacketBuilder, Next};
-use can_id::{CanFrame, CanId};
-use fast_packet::MAX_FAST_PACKET_PAYLOAD;
-use session::{Counters, Kind, Mode};
+use can_id::CanFrame;
+use session::{Counters, Mode};
 use std::io::{self, BufReader, BufWriter, ErrorKind, Read, Write};
 
 const LINE: usize = 44;
@@ -24,298 +23,163 @@ const LONGEST: usize = 300;
 
 // ---- reading
 
-fn wide(x: u8) -> u64
-    ensures { result < 256 }
-{
-    x as u64
-}
-
 // The value of an upper-case hex digit.
-fn value(digit: u8) -> u64
+fn value(digit: u8) -> u8
     ensures { result < 16 }
 {
-    let x = wide(digit);
-    if x < 58 { x % 16 } else { (x + 9) % 16 }
+    if digit < 58 {
+        digit % 16
+    } else {
+        (digit % 16 + 9) % 16
+    }
 }
 
-fn two(line: &[u8; 44], at: usize) -> u64
-    requires { at + 2 ≤ 44 }
-    ensures { result < 0x100 }
+// N bytes, two digits each, from some place of the line on.
+fn bytes<const N: usize>(line: &[u8; LINE], at: usize) -> [u8; N]
+    requires { at + 2 * N ≤ 44 }
 {
-    value(line[at]) * 16 + value(line[at + 1])
+    let mut out = [0; N];
+    for (i, byte) in out.iter_mut().enumerate() {
+        *byte = value(line[at + 2 * i]) * 16 + value(line[at + 2 * i + 1]);
+    }
+    out
 }
 
-fn byte(line: &[u8; 44], at: usize) -> u8
+fn byte(line: &[u8; LINE], at: usize) -> u8
     requires { at + 2 ≤ 44 }
 {
-    two(line, at) as u8
+    bytes::<1>(line, at)[0]
 }
 
-fn four(line: &[u8; 44], at: usize) -> u64
+fn half(line: &[u8; LINE], at: usize) -> u16
     requires { at + 4 ≤ 44 }
-    ensures { result < 0x1_0000 }
 {
-    two(line, at) * 0x100 + two(line, at + 2)
+    u16::from_be_bytes(bytes(line, at))
 }
 
-fn eight(line: &[u8; 44], at: usize) -> u64
-    requires { at + 8 ≤ 44 }
-    ensures { result < 0x1_0000_0000 }
-{
-    four(line, at) * 0x1_0000 + four(line, at + 4)
-}
-
-fn word(line: &[u8; 44], at: usize) -> u32
+fn word(line: &[u8; LINE], at: usize) -> u32
     requires { at + 8 ≤ 44 }
 {
-    eight(line, at) as u32
-}
-
-fn long(line: &[u8; 44], at: usize) -> u64
-    requires { at + 16 ≤ 44 }
-{
-    eight(line, at) * 0x1_0000_0000 + eight(line, at + 8)
+    u32::from_be_bytes(bytes(line, at))
 }
 
 // ---- writing
 
-fn digit(x: u8) -> u8 {
-    let d = x % 16;
-    if d < 10 { d + 48 } else { d + 55 }
-}
-
-fn write_byte<W: Write>(out: &mut W, x: u8) -> io::Result<()> {
-    out.write_all(&[digit(x / 16), digit(x)])
-}
-
-fn write_number<W: Write>(out: &mut W, n: u64) -> io::Result<()> {
-    write!(out, " {n}")
-}
-
-fn write_payload<W: Write>(
-    out: &mut W,
-    payload: [u8; MAX_FAST_PACKET_PAYLOAD],
-    n: usize,
-) -> io::Result<()> {
-    out.write_all(b" ")?;
-    for x in payload.iter().take(n) {
-        write_byte(out, *x)?;
-    }
-    Ok(())
-}
-
-fn write_frame<W: Write>(out: &mut W, data: [u8; 8]) -> io::Result<()> {
-    out.write_all(b" ")?;
-    for x in data {
-        write_byte(out, x)?;
+fn write_bytes<W: Write>(out: &mut W, bytes: &[u8]) -> io::Result<()> {
+    for byte in bytes {
+        write!(out, "{byte:02X}")?;
     }
     Ok(())
 }
 
 // ---- frames heard
 
-fn write_kind<W: Write>(out: &mut W, kind: Kind) -> io::Result<()> {
-    match kind {
-        Kind::ImpossiblePool => out.write_all(b"ImpossiblePool"),
-        Kind::TooWide => out.write_all(b"TooWide"),
-        Kind::NotListed => out.write_all(b"NotListed"),
-        Kind::Rejected => out.write_all(b"Rejected"),
-        Kind::PoolFull => out.write_all(b"PoolFull"),
-        Kind::Lost => out.write_all(b"Lost"),
-        Kind::FragmentConsumed => out.write_all(b"FragmentConsumed"),
-        Kind::MessageComplete => out.write_all(b"MessageComplete"),
-    }
-}
-
-fn write_answer<W: Write>(out: &mut W, r: Received) -> io::Result<()> {
-    let kind = r.kind;
-    let c = r.counters;
-    let payload = r.payload;
-    write_kind(out, kind)?;
-    write_number(out, c.expired_sessions as u64)?;
-    write_number(out, c.pool_exhausted as u64)?;
-    write_number(out, c.rejected_frames as u64)?;
-    write_number(out, c.lost_fragments as u64)?;
-    write_number(out, c.unknown_pgn as u64)?;
-    write_payload(out, payload, r.length)?;
-    out.write_all(b"\n")
-}
-
+// A pool with its counters, and the mode of the pools that are made from here on.
 #[derive(Drop)]
 struct State {
-    more: bool,
     mode: Mode,
     pool: Pool,
     counters: Counters,
 }
 
 fn fresh(mode: Mode, size: usize) -> State {
-    let pool = match Pool::with_mode(size, mode) {
-        Ok(pool) => pool,
-        Err(refused) => refused.pool,
-    };
-    let counters = Counters {
-        expired_sessions: 0,
-        pool_exhausted: 0,
-        rejected_frames: 0,
-        lost_fragments: 0,
-        unknown_pgn: 0,
-    };
     State {
-        more: true,
-        mode: mode,
-        pool: pool,
-        counters: counters,
-    }
-}
-
-fn mode_of(n: u64) -> Mode {
-    if n == 0 {
-        Mode::AsOriginal
-    } else {
-        Mode::SetBackIsSilence
-    }
-}
-
-// The pool stays as it is, in the mode that it was made with.
-fn in_mode(s: State, mode: Mode) -> State {
-    let pool = s.pool;
-    let counters = s.counters;
-    State {
-        more: s.more,
-        mode: mode,
-        pool: pool,
-        counters: counters,
+        mode,
+        pool: Pool::with_mode(size, mode).unwrap_or_else(|refused| refused.pool),
+        counters: Counters::default(),
     }
 }
 
 // The value of a digit that goes on after 9 with a.
 fn size_of(digit: u8) -> usize {
     if digit < b'a' {
-        (digit % 16) as usize
+        usize::from(digit % 16)
     } else {
-        (digit - b'a') as usize + 10
+        usize::from(digit - b'a') + 10
     }
 }
 
-fn arrival_in(line: &[u8; 44]) -> Arrival {
-    let data = [
-        byte(line, 27),
-        byte(line, 29),
-        byte(line, 31),
-        byte(line, 33),
-        byte(line, 35),
-        byte(line, 37),
-        byte(line, 39),
-        byte(line, 41),
-    ];
+fn arrival_in(line: &[u8; LINE]) -> Arrival {
     Arrival {
-        now_ms: long(line, 1),
+        now_ms: u64::from_be_bytes(bytes(line, 1)),
         pgn: word(line, 17),
         source_address: byte(line, 25),
-        data: data,
+        data: bytes(line, 27),
     }
 }
 
-fn hear<W: Write>(out: &mut W, s: State, line: &[u8; 44]) -> io::Result<State> {
-    let pool = s.pool;
-    let mut counters = s.counters;
-    let Processed {
-        kind,
-        payload,
-        length,
-        pool: after,
-    } = process_frame(pool, &mut counters, &[127489, 129029], arrival_in(line));
-    write_answer(
-        out,
-        Received {
-            kind,
-            payload,
-            length,
-            pool: after,
-            counters,
-        },
-    )?;
-    Ok(State {
-        more: true,
-        mode: s.mode,
-        pool: after,
-        counters,
-    })
+fn write_answer<W: Write>(out: &mut W, answer: &Processed, counters: &Counters) -> io::Result<()> {
+    write!(out, "{:?}", answer.kind)?;
+    write!(out, " {}", counters.expired_sessions)?;
+    write!(out, " {}", counters.pool_exhausted)?;
+    write!(out, " {}", counters.rejected_frames)?;
+    write!(out, " {}", counters.lost_fragments)?;
+    write!(out, " {} ", counters.unknown_pgn)?;
+    for byte in answer.payload.iter().take(answer.length) {
+        write!(out, "{byte:02X}")?;
+    }
+    writeln!(out)
+}
+
+fn hear<W: Write>(out: &mut W, state: &mut State, line: &[u8; LINE]) -> io::Result<()> {
+    let answer = process_frame(
+        state.pool,
+        &mut state.counters,
+        &[127489, 129029],
+        arrival_in(line),
+    );
+    state.pool = answer.pool;
+    write_answer(out, &answer, &state.counters)
 }
 
 // ---- frames built
 
-// Zeros where there is no frame.
-fn frame_in(next: Next) -> CanFrame {
-    match next.answer {
-        Ok(Some(frame)) => frame,
-        _ => CanFrame {
-            id: CanId(0),
-            data: [0; 8],
-            len: 0,
-        },
-    }
-}
-
+// Without a frame there are zeros in its place.
 fn write_next<W: Write>(out: &mut W, next: Next) -> io::Result<()> {
-    match next.answer {
-        Ok(Some(_)) => out.write_all(b"Frame")?,
-        Ok(None) => out.write_all(b"End")?,
-        Err(error) => {
-            out.write_all(b"Refused")?;
-            write_number(out, u64::from(error.number()))?;
+    let frame = match next.answer {
+        Ok(Some(frame)) => {
+            write!(out, "Frame")?;
+            frame
         }
+        Ok(None) => {
+            write!(out, "End")?;
+            CanFrame::default()
+        }
+        Err(error) => {
+            write!(out, "Refused {}", error.number())?;
+            CanFrame::default()
+        }
+    };
+    write!(out, " {} ", frame.id.0)?;
+    write_bytes(out, &frame.data)?;
+    writeln!(out, " {} {} {}", frame.len, next.frame_index, next.bytes_sent)
+}
+
+fn payload() -> [u8; LONGEST] {
+    let mut payload = [0; LONGEST];
+    let mut value: u8 = 1;
+    for byte in payload.iter_mut() {
+        *byte = value;
+        value = value.wrapping_add(7);
     }
-    let frame = frame_in(next);
-    let data = frame.data;
-    write_number(out, frame.id.0 as u64)?;
-    write_frame(out, data)?;
-    write_number(out, frame.len as u64)?;
-    write_number(out, next.frame_index as u64)?;
-    write_number(out, next.bytes_sent as u64)?;
-    out.write_all(b"\n")
+    payload
 }
 
-fn payload() -> [u8; 300]
-    ensures { 300 ≡ length result }
-{
-    let mut p = [0u8; 300];
-    let mut x: u8 = 1;
-    let mut i: usize = 0;
-    while i < LONGEST {
-        p[i] = x;
-        x = std::num::wrapping_add_u8(x, 7);
-        i += 1;
-    }
-    p
-}
-
-fn at_most(n: u64) -> usize
-    ensures { result ≤ 300 }
-{
-    if n < 300 { n as usize } else { LONGEST }
-}
-
-fn asked(b: FastPacketBuilder, index: u8, sent: usize, n: usize) -> Next
-    requires { n ≤ 300 }
-{
-    let p = payload();
-    b.next_frame(index, sent, &p[..n])
-}
-
-fn build<W: Write>(out: &mut W, line: &[u8; 44]) -> io::Result<()> {
-    let b = FastPacketBuilder {
+fn build<W: Write>(out: &mut W, line: &[u8; LINE]) -> io::Result<()> {
+    let builder = FastPacketBuilder {
         pgn: word(line, 1),
         source_address: byte(line, 9),
-        destination: u8::try_from(four(line, 11)).ok(),
+        destination: u8::try_from(half(line, 11)).ok(),
         priority: byte(line, 15),
         sequence_id: byte(line, 17),
-        fast: two(line, 19) != 0,
+        fast: byte(line, 19) != 0,
     };
-    let sent = four(line, 23) as usize;
-    let n = at_most(four(line, 27));
-    write_next(out, asked(b, byte(line, 21), sent, n))
+    let sent = usize::from(half(line, 23));
+    let length = usize::from(half(line, 27)).min(LONGEST);
+    write_next(
+        out,
+        builder.next_frame(byte(line, 21), sent, &payload()[..length]),
+    )
 }
 
 // ---- the list
@@ -329,36 +193,35 @@ fn read_line<R: Read>(input: &mut R, line: &mut [u8; LINE]) -> io::Result<bool> 
     }
 }
 
-fn turn<R: Read, W: Write>(input: &mut R, out: &mut W, s: State) -> io::Result<State> {
-    let mut line = [0u8; LINE];
-    if !read_line(input, &mut line)? {
-        let mut end = s;
-        end.more = false;
-        return Ok(end);
+fn turn<W: Write>(out: &mut W, state: &mut State, line: &[u8; LINE]) -> io::Result<()> {
+    match line[0] {
+        b'B' => build(out, line),
+        b'M' => {
+            state.mode = if byte(line, 1) == 0 {
+                Mode::AsOriginal
+            } else {
+                Mode::SetBackIsSilence
+            };
+            Ok(())
+        }
+        b'.' => hear(out, state, line),
+        digit => {
+            *state = fresh(state.mode, size_of(digit));
+            hear(out, state, line)
+        }
     }
-    if line[0] == b'B' {
-        build(out, &line)?;
-        return Ok(s);
-    }
-    if line[0] == b'M' {
-        return Ok(in_mode(s, mode_of(two(&line, 1))));
-    }
-    if line[0] == b'.' {
-        return hear(out, s, &line);
-    }
-    let mode = s.mode;
-    hear(out, fresh(mode, size_of(line[0])), &line)
 }
 
 fn main(rt: HostRuntime) -> io::Result<()> {
     let mut input = BufReader::new(rt.alloc(), rt.reader())?;
     let mut out = BufWriter::new(rt.alloc(), io::writer(&rt))?;
-    let mut s = fresh(Mode::AsOriginal, 4);
+    let mut state = fresh(Mode::AsOriginal, 4);
+    let mut line = [0u8; LINE];
     for _ in 0..u64::MAX {
-        if !s.more {
+        if !read_line(&mut input, &mut line)? {
             break;
         }
-        s = turn(&mut input, &mut out, s)?;
+        turn(&mut out, &mut state, &line)?;
     }
     out.flush()
 }
