@@ -86,28 +86,29 @@ fn both_ways<W: Write, A: Arrive + Copy>(out: &mut W, held: Held, arrival: A) ->
     Ok(by_value)
 }
 
-// Without a length, and at length 8.
-fn each_way<W: Write, A: Arrive + Copy>(
+// Without a length, and the same frame at length 8.
+fn each_way<W: Write, A: Arrive + Copy, B: Arrive + Copy>(
     out: &mut W,
     words: &str,
     held: Held,
     arrival: A,
+    at_eight: B,
 ) -> io::Result<Held> {
     write!(out, "{words}: ")?;
     let after = both_ways(out, held, arrival)?;
     write!(out, "  at length 8: ")?;
-    both_ways(out, held, WithLength { arrival, length: 8 })?;
+    both_ways(out, held, at_eight)?;
     Ok(after)
 }
 
 // At the entry that is handed the identifier.
 fn by_id<W: Write>(out: &mut W, words: &str, held: Held, arrival: ArrivalById) -> io::Result<Held> {
-    each_way(out, words, held, arrival)
+    each_way(out, words, held, arrival, WithLength { arrival, length: 8 })
 }
 
 // At the entry that is handed PGN and source, and in a batch.
 fn by_pgn<W: Write>(out: &mut W, words: &str, held: Held, arrival: Arrival) -> io::Result<Held> {
-    let after = each_way(out, words, held, arrival)?;
+    let after = each_way(out, words, held, arrival, WithLength { arrival, length: 8 })?;
     batching::show_with_parts(out, held, arrival)?;
     Ok(after)
 }

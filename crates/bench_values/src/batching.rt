@@ -32,6 +32,7 @@ fn refusal_number(error: BatchError) -> u8 {
 }
 
 // What a batch of one frame leaves beside the answer, which is shown; of a message the first byte and the seventh.
+#[derive(Clone, Copy)]
 struct Answered {
     length: usize,
     first: u8,

@@ -2,7 +2,7 @@
 ghost use Rattle.std.specs.Prelude.{◌≡◌};
 ghost use Rattle.numbers.specs.Frames.{builder_from, builder_numbers, BuilderLeft, iterator_from, place_numbers, NextLeft, after_next, place_on};
 
-use crate::numbers::{address_number, byte_on, destination_from, error_carries, flag};
+use crate::numbers::{address_number, destination_from, error_carries, flag, laid_on};
 use builder::{FastPacketBuilder, FrameIterator, MadeBuilder, Next};
 
 // ---- a builder as numbers
@@ -102,5 +102,6 @@ pub fn place_numbers(t: FrameIterator) -> [u64; 2]
 pub fn go_on(place: &mut [u64; 2], next: Next)
     ensures { place.new ≡ place_on place.old next }
 {
-    *place = [byte_on(place[0], next.frame_index), next.bytes_sent as u64];
+    let index = laid_on(place[0], place[0] % 0x100, u64::from(next.frame_index));
+    *place = [index, next.bytes_sent as u64];
 }

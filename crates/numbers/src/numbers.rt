@@ -2,7 +2,7 @@
 ghost use Rattle.std.specs.Prelude.{◌≡◌, ◌%◌};
 ghost use Rattle.base.specs.Pick.{pick};
 ghost use Rattle.can_id.specs.Build.{error_carries};
-ghost use Rattle.numbers.specs.Numbers.{is_set, laid_on, to_address, address_of, carries_of, BuiltLeft, ReadLeft};
+ghost use Rattle.numbers.specs.Numbers.{laid_on, to_address, address_of, carries_of, BuiltLeft, ReadLeft};
 
 use can_id::{CanId, CanIdBuildError, CanIdParts, CanIdReadError};
 
@@ -13,46 +13,12 @@ pub(crate) fn flag(x: bool) -> u64
     u64::from(x)
 }
 
-// ---- a number to be written over the one that was read: that one itself, where the field that was read from it is still right
-
-#[tactic(auto, using(crate::proofs::Laws::flags))]
-pub(crate) fn flag_on(old: u64, x: bool) -> u64
-    ensures { result ≡ laid_on old (pick (is_set old) 1 0) (pick x 1 0) }
-{
-    if (old != 0) == x { old } else { flag(x) }
-}
-
+// The number to be written over one that was read: that one itself, where what was read from it is still right.
 #[tactic(auto, using(base::proofs::Cases::when_eq, base::proofs::Cases::when_ne), unfolding(crate::specs::Numbers::laid_on))]
-pub(crate) fn byte_on(number: u64, x: u8) -> u64
-    ensures { result ≡ laid_on number (number % 0x100) x }
+pub(crate) fn laid_on(old: u64, read: u64, new: u64) -> u64
+    ensures { result ≡ laid_on old read new }
 {
-    if number % 0x100 == u64::from(x) {
-        number
-    } else {
-        u64::from(x)
-    }
-}
-
-#[tactic(auto, using(base::proofs::Cases::when_eq, base::proofs::Cases::when_ne), unfolding(crate::specs::Numbers::laid_on))]
-pub(crate) fn half_on(old: u64, x: u16) -> u64
-    ensures { result ≡ laid_on old (old % 0x1_0000) x }
-{
-    if old % 0x1_0000 == u64::from(x) {
-        old
-    } else {
-        u64::from(x)
-    }
-}
-
-#[tactic(auto, using(base::proofs::Cases::when_eq, base::proofs::Cases::when_ne), unfolding(crate::specs::Numbers::laid_on))]
-pub(crate) fn word_on(old: u64, x: u32) -> u64
-    ensures { result ≡ laid_on old (old % 0x1_0000_0000) x }
-{
-    if old % 0x1_0000_0000 == u64::from(x) {
-        old
-    } else {
-        u64::from(x)
-    }
+    if read == new { old } else { new }
 }
 
 // An address, or none from 256 on.

@@ -5,7 +5,7 @@ ghost use Rattle.std.proofs.lemmas.List.Edits.{sets};
 ghost use Rattle.session.specs.Rules.{pool_limit};
 ghost use Rattle.numbers.specs.Pool.{head_numbers, head_at, head_over, heads_from, laid_over, mode_number, mode_from, pool_kind_number, pool_kind_from, size_under, pool_from, counters_from, counter_numbers, delivered_on, CallLeft, blank_heads, MadePoolLeft, MakesPoolAsked};
 
-use crate::numbers::{byte_on, flag_on, half_on, word_on};
+use crate::numbers::{flag, laid_on};
 use assembler::{ImpossiblePool, POOL_BYTES, Pool, Received};
 use fast_packet::MAX_FAST_PACKET_PAYLOAD;
 use session::{Counters, Head, Kind, Mode, POOL_LIMIT, PoolKind, fresh_head};
@@ -47,17 +47,18 @@ fn heads_from(n: &[u64; POOL_NUMBERS]) -> [Head; POOL_LIMIT]
     heads
 }
 
+#[tactic(auto, unfolding(crate::specs::Pool::head_over, crate::specs::Numbers::is_set))]
 fn head_over(n: &[u64; POOL_NUMBERS], at: usize, h: Head) -> [u64; HEAD_NUMBERS]
     requires { at + head_numbers ≤ head_numbers * pool_limit }
     ensures { result ≡ head_over n.now at h }
 {
     [
-        flag_on(n[at], h.in_progress),
-        byte_on(n[at + 1], h.source_address),
-        byte_on(n[at + 2], h.sequence_id),
-        byte_on(n[at + 3], h.last_frame_index),
-        word_on(n[at + 4], h.pgn),
-        half_on(n[at + 5], h.part),
+        laid_on(n[at], flag(n[at] != 0), flag(h.in_progress)),
+        laid_on(n[at + 1], n[at + 1] % 0x100, u64::from(h.source_address)),
+        laid_on(n[at + 2], n[at + 2] % 0x100, u64::from(h.sequence_id)),
+        laid_on(n[at + 3], n[at + 3] % 0x100, u64::from(h.last_frame_index)),
+        laid_on(n[at + 4], n[at + 4] % 0x1_0000_0000, u64::from(h.pgn)),
+        laid_on(n[at + 5], n[at + 5] % 0x1_0000, u64::from(h.part)),
         h.expected_size as u64,
         h.current_size as u64,
         h.last_seen_ms,
@@ -82,17 +83,8 @@ pub fn put_heads(n: &mut [u64; POOL_NUMBERS], heads: [Head; POOL_LIMIT])
     }
 }
 
-// ---- a mode as a number: 0 as the original, 1 a clock that was set back is silence
-
-#[tactic(auto, unfolding(crate::specs::Pool::mode_number))]
-fn mode_number(mode: Mode) -> u32
-    ensures { result ≡ mode_number mode }
-{
-    match mode {
-        Mode::AsOriginal => 0,
-        Mode::SetBackIsSilence => 1,
-    }
-}
+// ---- a mode as a number: 0 as the original, 1 a clock that was set back is silence. No TryFrom: C may hand any number, and the entries promise of each how
+// it is read.
 
 #[tactic(auto, unfolding(crate::specs::Pool::mode_from, base::specs::Pick::pick))]
 fn mode_from(number: u32) -> Mode
@@ -105,16 +97,6 @@ fn mode_from(number: u32) -> Mode
 }
 
 // ---- and a kind: 0 the original's, 1 with the destination in the key
-
-#[tactic(auto, unfolding(crate::specs::Pool::pool_kind_number))]
-fn pool_kind_number(kind: PoolKind) -> u32
-    ensures { result ≡ pool_kind_number kind }
-{
-    match kind {
-        PoolKind::Original => 0,
-        PoolKind::Addressed => 1,
-    }
-}
 
 #[tactic(auto, unfolding(crate::specs::Pool::pool_kind_from, base::specs::Pick::pick))]
 fn pool_kind_from(asked: u32) -> PoolKind
@@ -241,12 +223,13 @@ fn fresh_heads(heads: &mut [u64; POOL_NUMBERS], h: [Head; POOL_LIMIT])
 }
 
 // The size of a pool, and the numbers of its mode and kind.
+#[tactic(auto, unfolding(crate::specs::Pool::mode_number, crate::specs::Pool::pool_kind_number))]
 fn leave_form(pool: Pool, size: &mut usize, mode: &mut u32, kind: &mut u32)
     ensures { (size.new ≡ pool.size) × (mode.new ≡ mode_number pool.mode) × (kind.new ≡ pool_kind_number pool.kind) }
 {
     *size = pool.size;
-    *mode = mode_number(pool.mode);
-    *kind = pool_kind_number(pool.kind);
+    *mode = pool.mode as u32;
+    *kind = pool.kind as u32;
 }
 
 pub fn leave_made(

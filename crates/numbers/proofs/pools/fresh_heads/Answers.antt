@@ -3,10 +3,6 @@ use borrow.Author.Rules.{rules}
 use Rattle.numbers.specs.Pool.{blank_heads}
 use Rattle.numbers.proofs.pools.fresh_heads.Goals as goal
 
-pub put_heads-requires : goal.put_heads-requires
-unfolding blank_heads
-put_heads-requires c = search rules
-
 pub returns : goal.returns
 unfolding blank_heads
 returns c = c.put_heads.ensures
