@@ -40,7 +40,7 @@ struct Answered {
     held: Held,
 }
 
-fn answered<W: Write>(out: &mut W, held: Held, arrival: Arrival) -> io::Result<Answered> {
+fn heard_in_a_batch<W: Write>(out: &mut W, held: Held, arrival: Arrival) -> io::Result<Answered> {
     let mut kinds = [0; 1];
     let mut lengths = [0; 1];
     let mut arena = [0; 7];
@@ -61,7 +61,7 @@ fn answered<W: Write>(out: &mut W, held: Held, arrival: Arrival) -> io::Result<A
 }
 
 pub(crate) fn show<W: Write>(out: &mut W, held: Held, arrival: Arrival) -> io::Result<()> {
-    let answered = answered(out, held, arrival)?;
+    let answered = heard_in_a_batch(out, held, arrival)?;
     answered.held.show(out, answered.length)
 }
 
@@ -72,7 +72,7 @@ pub(crate) fn show_with_time<W: Write>(
     arrival: Arrival,
 ) -> io::Result<()> {
     write!(out, "  ")?;
-    let answered = answered(out, held, arrival)?;
+    let answered = heard_in_a_batch(out, held, arrival)?;
     answered.held.show_with_time(out, answered.length)
 }
 
@@ -82,7 +82,7 @@ pub(crate) fn show_with_parts<W: Write>(
     held: Held,
     arrival: Arrival,
 ) -> io::Result<()> {
-    let answered = answered(out, held, arrival)?;
+    let answered = heard_in_a_batch(out, held, arrival)?;
     tell_message(out, answered.length, answered.first, answered.last)?;
     answered.held.show_with_parts(out)
 }
