@@ -1,6 +1,6 @@
 -- `receiving::receive_heard` meets its contract: the walk sees what the searches find, and the last lines carry out the plan, which is the step. Assumes nothing.
 use borrow.Author.Rules.{rules}
-use mathlib.Core.Path.{◌≡◌, refl}
+use mathlib.Core.Path.{◌≡◌}
 use lib.ListN.{length}
 use native.Mathlib.Omega.{arith}
 use Rattle.session.specs.Rules.{rules_by}
