@@ -3,7 +3,7 @@ use Prim.Native.Nat.{ℕ, zero, suc, ◌+◌, ◌<◌, min}
 use mathlib.Core.Path.{◌≡◌, refl, sym, ap, ◌∙◌}
 use mathlib.Core.Bool.{Bool, true, false, not, ◌&&◌, true≢false}
 use mathlib.Core.List.{List, [], ◌∷◌}
-use Rattle.std.proofs.Common.{Option, Some, None}
+use Rattle.std.proofs.Common.{Some, None}
 use lib.ListN.{length, get_or, take}
 use lib.Dec.{eqb, ltb, leb}
 use native.Mathlib.Omega.{arith}
@@ -59,16 +59,6 @@ known_by_id a = go (leb 0x2000_0000 a.id.0)
     go : (b : Bool) → Known (heard_from a (pick b (refuses 8 []) (gives (parts_of a.id.0))))
     go true = wide
     go false = frame _
-
-known_cut : (n : ℕ) {a : Answer Heard} → Known a → Known (all_cut_to n a)
-unfolding all_cut_to
-known_cut n (frame f) = frame _
-known_cut n wide = wide
-known_cut n other = other
-
-pub known_by_id_with_length : (x : ArrivalByIdWithLength) → Known (heard_by_id_with_length x)
-unfolding heard_by_id_with_length
-known_by_id_with_length x = known_cut x.length (known_by_id x.arrival)
 
 -- ---- the answer to each
 
@@ -161,19 +151,7 @@ ok_by_id_with_length p pgns x ok = go (leb 0x2000_0000 x.arrival.id.0)
     go true = unfold entered in refused
     go false = ok_entered Addressed p pgns _ (filled_ok x.length x.arrival.«data» ok) (part_fits_lem x.arrival.id.0)
 
--- ---- the cases, as the code meets them: `search (needs, entering)` finds the case
-
-pub part_none : (d : Option ℕ) → d ≡ None → 0 ≡ part_of d
-unfolding part_of
-part_none d e = rw e
-
-pub part_to : (d : Option ℕ) (n : ℕ) → d ≡ Some n → n + 1 ≡ part_of d
-unfolding part_of
-part_to d n e = rw e
-
-pub cut_heard : (n : ℕ) (a : Answer Heard) (f g : Heard) → gives f ≡ a → g ≡ cut_to n f → gives g ≡ all_cut_to n a
-unfolding all_cut_to
-cut_heard n a f g e eg = rw (← e, eg)
+-- ---- the entry of a kind, as the code tests it
 
 -- the derived test of kinds is the definition's
 pub equal_kinds : (a b : PoolKind) → sameb the_type a b ≡ same_kind a b
@@ -197,5 +175,3 @@ module _ (pgns : List ℕ) (entry : PoolKind) (p : Pool) (k : Counters) (f : Hea
   pub at_own : t ≡ false → r ≡ receive_of (rules_of p) pgns f p k → r ≡ answer_to pgns (entered entry p (gives f)) p k
   unfolding entered pick
   at_own y e = e ∙ rw (kinds_agree y) (sym (answer_steps pgns p k f))
-
-pub ruleset entering = (part_none, part_to, cut_heard, at_other, at_own)

@@ -1,62 +1,73 @@
 // The receive call. It is straight-line code with one walk: a plan that changes nothing writes the same head back, stores and delivers no bytes.
 ghost use Rattle.std.specs.Prelude.{◌≡◌};
-ghost use Rattle.base.specs.Pick.{pick};
+ghost use Rattle.session.specs.inner.Search.{found_in};
 ghost use Rattle.assembler.specs.View.{receive_of};
 ghost use Rattle.base.specs.Answer.{gives};
 ghost use Rattle.assembler.specs.Promises.{rules_of, entered, answer_to, ReceivesHeard};
 ghost use Rattle.assembler.specs.inner.Forms.{refused_as};
 
 use crate::arrivals::Arrive;
-use crate::bytes::{deliver, deliver_short, store};
+use crate::bytes::copy;
 use crate::{Pool, Received};
 use can_id::CanIdReadError;
 use fast_packet::{MAX_FAST_PACKET_PAYLOAD, is_listed};
 use session::{
-    Counters, Heard, Kind, POOL_LIMIT, PoolKind, count, decide, look, nothing_found, place_for,
-    within_limit,
+    Counters, FIRST_DATA, Found, Heard, Kind, POOL_LIMIT, PoolKind, count, decide, look,
+    nothing_found, place_for, within_limit,
 };
 
-fn either(b: bool, x: usize, y: usize) -> usize
-    ensures { result ≡ pick b x y }
-{
-    if b { x } else { y }
+impl Pool {
+    // What one walk over the heads finds, from the last to the first. Of a pool that is too large nothing is looked at.
+    fn found(&self, heard: Heard) -> Found
+        ensures { result ≡ found_in (rules_of self.now) heard self.now.size self.now.heads }
+    {
+        if POOL_LIMIT < self.size {
+            return nothing_found(true);
+        }
+        let mut found = nothing_found(false);
+        for i in (0..self.size).rev() {
+            found = look(self.kind, self.mode, self.heads[i], found, i, heard);
+        }
+        found
+    }
 }
 
 // One call of a frame as the steps hear it.
 fn receive_heard(pool: Pool, counters: Counters, pgns: &[u32], heard: Heard) -> Received
     ensures { result ≡ receive_of (rules_of pool) pgns.now heard pool counters }
 {
-    let mut q = pool;
-    // of a pool that is too large nothing is looked at
-    let crowded = POOL_LIMIT < q.size;
-    let mut s = nothing_found(crowded);
-    let mut i = either(crowded, 0, q.size);
-    while 0 < i {
-        i -= 1;
-        s = look(q.kind, q.mode, q.heads[i], s, i, heard);
-    }
+    let mut pool = pool;
+    let seen = pool.found(heard);
     let listed = is_listed(pgns, heard.pgn);
-    let place = place_for(s, heard);
-    let found = place < POOL_LIMIT;
+    let place = place_for(seen, heard);
     let g = within_limit(place);
-    let d = decide(q.mode, s.bad, listed, found, q.heads[g], heard);
-    let h = d.head;
-    q.heads[g] = h;
+    let plan = decide(
+        pool.mode,
+        seen.bad,
+        listed,
+        place < POOL_LIMIT,
+        pool.heads[g],
+        heard,
+    );
+    pool.heads[g] = plan.head;
     let frame = heard.data;
     let start = g * MAX_FAST_PACKET_PAYLOAD;
-    store(&mut q.bytes, start + d.at, frame, d.from, d.count);
-    let mut payload = [0u8; MAX_FAST_PACKET_PAYLOAD];
-    deliver(&mut payload, &q.bytes, start, d.whole);
-    deliver_short(&mut payload, frame, d.short);
-    let mark = d.mark;
-    let c = count(counters, mark);
-    let kind = d.kind;
+    copy(
+        &mut pool.bytes,
+        start + plan.at,
+        &frame,
+        plan.from,
+        plan.count,
+    );
+    let mut payload = [0; MAX_FAST_PACKET_PAYLOAD];
+    copy(&mut payload, 0, &pool.bytes, start, plan.whole);
+    copy(&mut payload, 0, &frame, FIRST_DATA, plan.short);
     Received {
-        kind: kind,
-        payload: payload,
-        length: d.whole + d.short,
-        pool: q,
-        counters: c,
+        kind: plan.kind,
+        payload,
+        length: plan.whole + plan.short,
+        pool,
+        counters: count(counters, plan.mark),
     }
 }
 
