@@ -1,4 +1,6 @@
 // Rows of frames as records.
+ghost use Rattle.std.specs.Prelude.{◌≤◌};
+
 use oracle::{FrameRow, SliceRow};
 use splitter::Frame;
 
@@ -16,14 +18,16 @@ pub(crate) fn blank_row() -> [Frame; ROW_FRAMES] {
 }
 
 // How many frames separate slices have, up to nine.
-pub(crate) fn count_of(slices: SliceRow) -> usize {
+pub(crate) fn count_of(slices: SliceRow) -> usize
+    ensures { result ≤ 9 }
+{
     slices.count().min(ROW_FRAMES)
 }
 
 // The first nine frames of separate slices, and blank ones after them.
 pub(crate) fn row_of(slices: SliceRow) -> [Frame; ROW_FRAMES] {
     let mut row = blank_row();
-    for i in 0..count_of(slices) {
+    for i in 0..slices.count().min(ROW_FRAMES) {
         row[i] = slices.frame(i);
     }
     row
