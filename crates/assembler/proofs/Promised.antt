@@ -13,14 +13,12 @@ use Rattle.session.specs.declared.Kind.{Kind}
 use Rattle.session.specs.declared.Mode.{Mode}
 use Rattle.session.specs.declared.PoolKind.{PoolKind}
 use Rattle.session.specs.declared.Kind.TheVariants as kind
-use Rattle.session.specs.declared.Kind.TheVariants.{ImpossiblePool, NotListed, Rejected, PoolFull, Lost, FragmentConsumed, MessageComplete}
-use Rattle.assembler.specs.declared.Made.{Made}
-use Rattle.assembler.specs.declared.Made.TheVariants as made
-use Rattle.assembler.specs.declared.MadePool.{MadePool}
+use Rattle.session.specs.declared.Kind.TheVariants.{NotListed, Rejected, PoolFull, Lost, FragmentConsumed, MessageComplete}
+use Rattle.assembler.specs.declared.ImpossiblePool.{ImpossiblePool}
 use Rattle.assembler.specs.declared.Pool.{Pool}
 use Rattle.assembler.specs.declared.Processed.{Processed}
 use Rattle.assembler.specs.declared.Received.{Received}
-use Rattle.assembler.specs.Making.{size_made, pool_made, of_made, MakesPoolOf}
+use Rattle.assembler.specs.Making.{size_made, pool_made, of_made, made_pool, MakesPoolOf}
 use Rattle.assembler.specs.Arrivals.{of_heard}
 use Rattle.assembler.specs.View.{why_kind, reply_kind, reply_payload, reply_length, reply_by, reply_of}
 use Rattle.assembler.specs.Promises.{entered, Result, Answers, answer_to, ReceivesHeard, ProcessesHeard}
@@ -29,27 +27,25 @@ use Rattle.assembler.proofs.Entries.{Known, frame, wide, known_entered, answer_r
 
 -- ---- a pool made
 
--- the case that 01's answer names
-unfoldable pub case_of : Answer ℕ → Made
-case_of (gives n) = made.Fresh
-case_of (refuses k carried) = made.ImpossiblePool
+-- the answer that 01's answer and the pool name
+unfoldable pub made_as : Answer ℕ → Pool → ResultOf Pool ImpossiblePool
+made_as (gives n) p = Ok p
+made_as (refuses k carried) p = Err (record { pool = p })
 
-case_back : (m : Made) (size : ℕ) → case_of (of_made m size) ≡ m
-unfolding of_made case_of
-case_back made.Fresh size = refl
-case_back made.ImpossiblePool size = refl
+made_back : (r : ResultOf Pool ImpossiblePool) → made_as (of_made r) (made_pool r) ≡ r
+unfolding of_made made_pool made_as
+made_back (Ok p) = refl
+made_back (Err e) = refl
 
-pub made_by : (kind : PoolKind) (mode : Mode) (wanted : ℕ) {r : MadePool} → MakesPoolOf kind mode wanted r → r ≡ record { result = case_of (size_made wanted); pool = pool_made kind mode (size_made wanted) }
-made_by kind mode wanted {r} h =
-    let case : r.result ≡ case_of (size_made wanted) = sym (case_back r.result r.pool.size) ∙ ap case_of h.answer in
-    rw (case, h.left) refl
+pub made_by : (kind : PoolKind) (mode : Mode) (wanted : ℕ) {r : ResultOf Pool ImpossiblePool} → MakesPoolOf kind mode wanted r → r ≡ made_as (size_made wanted) (pool_made kind mode (size_made wanted))
+made_by kind mode wanted {r} h = sym (made_back r) ∙ ap (λ (a : Answer ℕ). made_as a (made_pool r)) h.answer ∙ ap (made_as (size_made wanted)) h.left
 
 -- ---- the receive call
 
 -- 01's numbers give the kind back
 kind_back : (kind : Kind) (payload : List ℕ) (length : ℕ) → reply_kind (reply_by kind payload length) ≡ kind
 unfolding reply_kind why_kind reply_by pick
-kind_back ImpossiblePool payload length = refl
+kind_back kind.ImpossiblePool payload length = refl
 kind_back kind.TooWide payload length = refl
 kind_back NotListed payload length = refl
 kind_back Rejected payload length = refl

@@ -17,7 +17,7 @@ use Rattle.assembler.specs.declared.Arrival.{Arrival}
 use Rattle.assembler.specs.declared.ArrivalById.{ArrivalById}
 use Rattle.assembler.specs.Arrivals.{ArrivalByIdWithLength}
 use Rattle.assembler.specs.Arrivals.{ArrivalWithLength}
-use Rattle.assembler.specs.declared.MadePool.{MadePool}
+use Rattle.assembler.specs.declared.ImpossiblePool.{ImpossiblePool}
 use Rattle.assembler.specs.declared.Pool.{Pool}
 use Rattle.assembler.specs.declared.Processed.{Processed}
 use Rattle.assembler.specs.declared.Received.{Received}
@@ -28,13 +28,13 @@ use Rattle.assembler.proofs.Promised.{made_by, received_by, processed_by}
 
 -- ---- making a pool
 
-pub with_kind_unique : (size : ℕ) (mode : Mode) (kind : PoolKind) (r s : MadePool) → MakesPoolOf kind mode size r → MakesPoolOf kind mode size s → r ≡ s
+pub with_kind_unique : (size : ℕ) (mode : Mode) (kind : PoolKind) (r s : ResultOf Pool ImpossiblePool) → MakesPoolOf kind mode size r → MakesPoolOf kind mode size s → r ≡ s
 with_kind_unique size mode kind r s p q = determined (made_by kind mode size p) (made_by kind mode size q)
 
-pub with_mode_unique : (size : ℕ) (mode : Mode) (r s : MadePool) → MakesPoolIn mode size r → MakesPoolIn mode size s → r ≡ s
+pub with_mode_unique : (size : ℕ) (mode : Mode) (r s : ResultOf Pool ImpossiblePool) → MakesPoolIn mode size r → MakesPoolIn mode size s → r ≡ s
 with_mode_unique size mode r s = with_kind_unique size mode Original r s
 
-pub new_unique : (size : ℕ) (r s : MadePool) → MakesPool size r → MakesPool size s → r ≡ s
+pub new_unique : (size : ℕ) (r s : ResultOf Pool ImpossiblePool) → MakesPool size r → MakesPool size s → r ≡ s
 new_unique size r s = with_mode_unique size AsOriginal r s
 
 pub default_unique : (r s : Pool) → r ≡ fresh_pool 4 → s ≡ fresh_pool 4 → r ≡ s

@@ -1,5 +1,5 @@
 -- A fresh pool, and what making one gives.
-use Rattle.std.specs.Prelude.{[], ◌≡◌, ℕ, ◌*◌, replicate, ltb}
+use Rattle.std.specs.Prelude.{Result, Ok, Err, [], ◌≡◌, ℕ, ◌*◌, replicate, ltb}
 use Rattle.base.specs.Answer.{Answer, gives, refuses}
 use Rattle.base.specs.Pick.{pick}
 use Rattle.fast_packet.specs.FastPacket.{max_payload}
@@ -10,9 +10,7 @@ use Rattle.session.specs.declared.PoolKind.TheVariants.{Original}
 use Rattle.session.specs.Rules.{pool_limit}
 use Rattle.session.specs.Heads.{fresh_head}
 use Rattle.assembler.specs.declared.Pool.{Pool}
-use Rattle.assembler.specs.declared.MadePool.{MadePool}
-use Rattle.assembler.specs.declared.Made.{Made}
-use Rattle.assembler.specs.declared.Made.TheVariants.{Fresh, ImpossiblePool}
+use Rattle.assembler.specs.declared.ImpossiblePool.{ImpossiblePool}
 
 -- a buffer of 223 bytes for each slot
 abbrev pub pool_bytes : ℕ
@@ -35,20 +33,29 @@ unfoldable pub pool_made : PoolKind → Mode → Answer ℕ → Pool
 pool_made kind mode (gives n) = fresh_pool_in kind mode n
 pool_made kind mode (refuses k carried) = fresh_pool_in kind mode 0
 
+-- what making a pool gives: the pool, or the refusal with a pool
+abbrev pub Made : Type 0
+Made = Result Pool ImpossiblePool
+
 -- 01's number of each case; what is given is the size
-unfoldable pub of_made : Made → ℕ → Answer ℕ
-of_made Fresh size = gives size
-of_made ImpossiblePool size = refuses 1 []
+unfoldable pub of_made : Made → Answer ℕ
+of_made (Ok p) = gives p.size
+of_made (Err e) = refuses 1 []
+
+-- the pool, in either case
+unfoldable pub made_pool : Made → Pool
+made_pool (Ok p) = p
+made_pool (Err e) = e.pool
 
 -- what `Pool::with_kind` promises
-pub record MakesPoolOf (kind : PoolKind) (mode : Mode) (wanted : ℕ) (r : MadePool) : Type 0 where
-  pub answer : of_made r.result r.pool.size ≡ size_made wanted
-  pub left : r.pool ≡ pool_made kind mode (size_made wanted)
+pub record MakesPoolOf (kind : PoolKind) (mode : Mode) (wanted : ℕ) (r : Made) : Type 0 where
+  pub answer : of_made r ≡ size_made wanted
+  pub left : made_pool r ≡ pool_made kind mode (size_made wanted)
 
 -- what `Pool::with_mode` promises: of the original's kind
-abbrev pub MakesPoolIn : Mode → ℕ → MadePool → Type 0
+abbrev pub MakesPoolIn : Mode → ℕ → Made → Type 0
 MakesPoolIn mode wanted r = MakesPoolOf Original mode wanted r
 
 -- what `Pool::new` promises: as the original
-abbrev pub MakesPool : ℕ → MadePool → Type 0
+abbrev pub MakesPool : ℕ → Made → Type 0
 MakesPool wanted r = MakesPoolIn AsOriginal wanted r

@@ -31,17 +31,9 @@ pub struct Pool {
     pub bytes: [u8; POOL_BYTES],
 }
 
-// How the making of a pool went. Above the limit it is refused by 1.
+// The refusal of a size above the limit, with a fresh pool of size 0.
 #[derive(Clone, Copy)]
-pub enum Made {
-    Fresh,
-    ImpossiblePool,
-}
-
-// What making a pool gives.
-#[derive(Clone, Copy)]
-pub struct MadePool {
-    pub result: Made,
+pub struct ImpossiblePool {
     pub pool: Pool,
 }
 

@@ -76,8 +76,7 @@ fn started(pool: Pool) -> Kept {
 }
 
 fn fresh(kind: PoolKind) -> Kept {
-    let made = Pool::with_kind(2, Mode::AsOriginal, kind);
-    let pool = made.pool;
+    let pool = receiving::pool_of(Pool::with_kind(2, Mode::AsOriginal, kind));
     started(pool)
 }
 

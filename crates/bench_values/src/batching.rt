@@ -1,5 +1,5 @@
 // A batch of one frame, and the batch's own refusals.
-use crate::{left, say};
+use crate::{left, receiving, say};
 use assembler::{Arrival, Pool};
 use batch::{Batch, BatchError, FrameRows, Taken, process_frames};
 use session::{Counters, Mode, PoolKind};
@@ -156,7 +156,6 @@ pub(crate) fn refusals<W: Write>(out: &mut W) -> io::Result<()> {
     without_kinds(out, b"a batch with no row for its kinds: ", pool)?;
     pool.size = 33;
     without_kinds(out, b"  and for a pool of size 33: ", pool)?;
-    let made = Pool::with_kind(4, Mode::AsOriginal, PoolKind::Addressed);
-    let addressed = made.pool;
+    let addressed = receiving::pool_of(Pool::with_kind(4, Mode::AsOriginal, PoolKind::Addressed));
     without_kinds(out, b"  and for an addressed pool: ", addressed)
 }

@@ -42,8 +42,7 @@ fn show<W: Write>(
 }
 
 fn on_a_fresh_pool<W: Write>(out: &mut W, words: &[u8], x: ArrivalWithLength) -> io::Result<()> {
-    let made = Pool::new(1);
-    let pool = made.pool;
+    let pool = receiving::pool_of(Pool::new(1));
     show(out, words, pool, left::no_counts(), x)
 }
 
@@ -54,8 +53,7 @@ fn after_a_first_frame<W: Write>(
     announced: u8,
     x: ArrivalWithLength,
 ) -> io::Result<()> {
-    let made = Pool::new(1);
-    let pool = made.pool;
+    let pool = receiving::pool_of(Pool::new(1));
     let r = receive(pool, left::no_counts(), &[PGN], frame(0, announced, 8));
     let opened = r.pool;
     let counters = r.counters;

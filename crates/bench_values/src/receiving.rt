@@ -1,12 +1,20 @@
 // Receiving: what a frame is answered, and what it leaves, by the single call and in a batch; and refusal 1.
 use crate::{batching, left, say};
 use assembler::{
-    Arrival, Arrive, Made, MadePool, Pool, Processed, Received, process_frame, receive,
+    Arrival, Arrive, ImpossiblePool, Pool, Processed, Received, process_frame, receive,
 };
 use session::{Counters, Kind, Mode, PoolKind};
 use std::io::{self, Write};
 
 const PGN: u32 = 127489;
+
+// The pool, in either case.
+pub(crate) fn pool_of(made: Result<Pool, ImpossiblePool>) -> Pool {
+    match made {
+        Ok(pool) => pool,
+        Err(refused) => refused.pool,
+    }
+}
 
 // What the call answers that is lent the counters, with the counters after it.
 pub(crate) fn lent<A: Arrive>(
@@ -72,8 +80,7 @@ fn show<W: Write>(out: &mut W, pool: Pool, counters: Counters, arrival: Arrival)
 
 // A pool of one slot, which source 35 has taken at 0: seven bytes are announced, one is missing.
 fn taken() -> Received {
-    let made = Pool::new(1);
-    let pool = made.pool;
+    let pool = pool_of(Pool::new(1));
     receive(pool, left::no_counts(), &[PGN], frame(0, 35, 0, 7))
 }
 
@@ -114,13 +121,12 @@ pub(crate) fn continuations<W: Write>(out: &mut W) -> io::Result<()> {
     heard_by_one(out, b"a continuation after 501 ms: ", frame(501, 35, 1, 7))
 }
 
-fn show_made<W: Write>(out: &mut W, made: MadePool) -> io::Result<()> {
-    let result = made.result;
-    let pool = made.pool;
-    match result {
-        Made::Fresh => say::text(out, b"fresh")?,
-        Made::ImpossiblePool => say::refused_by(out, 1)?,
+fn show_made<W: Write>(out: &mut W, made: Result<Pool, ImpossiblePool>) -> io::Result<()> {
+    match made {
+        Ok(_) => say::text(out, b"fresh")?,
+        Err(_) => say::refused_by(out, 1)?,
     }
+    let pool = pool_of(made);
     say::text(out, b", size ")?;
     say::number(out, pool.size as u64)
 }
@@ -142,7 +148,7 @@ fn made_in_a_mode<W: Write>(out: &mut W, words: &[u8], size: usize, mode: Mode) 
     say::text(out, words)?;
     let made = Pool::with_mode(size, mode);
     show_made(out, made)?;
-    let pool = made.pool;
+    let pool = pool_of(made);
     let kept = pool.mode;
     say::text(out, b", ")?;
     show_mode(out, kept)?;
@@ -166,7 +172,7 @@ fn made_of_a_kind<W: Write>(
     say::text(out, words)?;
     let made = Pool::with_kind(size, mode, kind);
     show_made(out, made)?;
-    let pool = made.pool;
+    let pool = pool_of(made);
     let kept = pool.mode;
     let of = pool.kind;
     say::text(out, b", ")?;

@@ -10,8 +10,7 @@ const PGN: u32 = 127489;
 
 // A pool of one slot, which source 35 has taken at this time: fourteen bytes are announced, eight are missing.
 fn taken(mode: Mode, now_ms: u64) -> Received {
-    let made = Pool::with_mode(1, mode);
-    let pool = made.pool;
+    let pool = receiving::pool_of(Pool::with_mode(1, mode));
     receive(pool, left::no_counts(), &[PGN], frame(now_ms, 35, 0, 14))
 }
 

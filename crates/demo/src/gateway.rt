@@ -1,6 +1,6 @@
 // A gateway: a pool with its counters, and what is told of its answers; and two of them side by side.
 use crate::say;
-use assembler::{MadePool, Pool, Received};
+use assembler::{ImpossiblePool, Pool, Received};
 use session::{Counters, Kind};
 use std::io::{self, Write};
 
@@ -10,8 +10,11 @@ pub(crate) struct Gateway {
     pub(crate) counters: Counters,
 }
 
-pub(crate) fn started(made: MadePool) -> Gateway {
-    let pool = made.pool;
+pub(crate) fn started(made: Result<Pool, ImpossiblePool>) -> Gateway {
+    let pool = match made {
+        Ok(pool) => pool,
+        Err(refused) => refused.pool,
+    };
     let counters = Counters {
         expired_sessions: 0,
         pool_exhausted: 0,

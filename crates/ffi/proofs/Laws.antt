@@ -18,7 +18,7 @@ use Rattle.assembler.specs.declared.Processed.{Processed}
 use Rattle.assembler.specs.inner.Forms.{received_of}
 use Rattle.assembler.proofs.Forms.{frame_cut, by_id_cut}
 use Rattle.ffi.specs.inner.Calls.{HeardLeft}
-use Rattle.assembler.specs.declared.Made.TheVariants.{Fresh}
+use Rattle.std.proofs.Common.{Ok}
 use Rattle.assembler.specs.declared.Pool.{Pool}
 use Rattle.batch.specs.Rows.{Rows, bytes_in, batch_of, BatchLeft, taken_in, Batches}
 use Rattle.batch.proofs.Promised.{batched_by}
@@ -36,7 +36,7 @@ pub made_by : {a b : Answer ℕ} {p q : Pool} {before after : PoolMemory} {code 
 made_by {b = b} {p} {before = before} {after} {code} h e f =
     subst (λ (x : Pool). PoolLeft b x before code after) f (subst (λ (x : Answer ℕ). PoolLeft x p before code after) e h)
 
-pub default_by : {p : Pool} → p ≡ fresh_pool 4 → of_made Fresh p.size ≡ gives 4
+pub default_by : {p : Pool} → p ≡ fresh_pool 4 → of_made (Ok p) ≡ gives 4
 unfolding of_made fresh_pool fresh_pool_in
 default_by e = ap (λ (p : Pool). gives p.size) e
 

@@ -5,8 +5,8 @@ ghost use Rattle.ffi.specs.Calls.{NewPoolLeft, PoolWithModeLeft, PoolWithKindLef
 ghost use Rattle.ffi.specs.inner.Calls.{HeardLeft};
 
 use assembler::{
-    Arrival, ArrivalById, ArrivalByIdWithLength, ArrivalWithLength, Arrive, Made, MadePool,
-    POOL_BYTES, Pool, Processed, Received, process_frame, receive,
+    Arrival, ArrivalById, ArrivalByIdWithLength, ArrivalWithLength, Arrive, POOL_BYTES, Pool,
+    Processed, Received, process_frame, receive,
 };
 use can_id::CanId;
 use fast_packet::MAX_FAST_PACKET_PAYLOAD;
@@ -78,12 +78,7 @@ pub fn hf_raw_pool_default(
     ensures { DefaultPoolLeft (record { heads = heads.old; bytes = bytes.old; size = size.old; mode = mode.old; kind = kind.old })
         result (record { heads = heads.new; bytes = bytes.new; size = size.new; mode = mode.new; kind = kind.new }) }
 {
-    let pool = Pool::default();
-    let made = MadePool {
-        result: Made::Fresh,
-        pool: pool,
-    };
-    leave_made(made, heads, bytes, size, mode, kind)
+    leave_made(Ok(Pool::default()), heads, bytes, size, mode, kind)
 }
 
 // A frame heard by the call that is lent the counters, on a pool and counters from numbers.

@@ -104,6 +104,6 @@ no_three =
       told_checked = λ c code values h. by h.told (checked_case_other c);
       pool_asked = λ wanted mode kind r h. by_answer h.answer (size_other _);
       leave = λ r before after code h. by h.told (kind_other r.kind);
-      leave_made = λ made before after code h. by h.told (made_other made.result made.pool.size);
+      leave_made = λ made before after code h. by h.told (made_other made);
       kind_number = λ kind n h. by h (kind_other kind);
     }

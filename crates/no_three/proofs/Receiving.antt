@@ -12,11 +12,10 @@ use Rattle.session.specs.declared.Counters.{Counters}
 use Rattle.session.specs.declared.Kind.{Kind}
 use Rattle.session.specs.declared.Kind.TheVariants.{ImpossiblePool, TooWide, NotListed, Rejected, PoolFull, Lost, FragmentConsumed, MessageComplete}
 use Rattle.assembler.specs.Call.{Call}
-use Rattle.assembler.specs.Making.{size_made, of_made}
+use Rattle.assembler.specs.Making.{Made, size_made, of_made}
 use Rattle.assembler.specs.Slots.{Slots, impossible}
 use Rattle.assembler.specs.Step.{step_if, step, outcome}
-use Rattle.assembler.specs.declared.Made.{Made}
-use Rattle.assembler.specs.declared.Made.TheVariants as made
+use Rattle.std.proofs.Common.{Ok, Err}
 use Rattle.assembler.specs.declared.Pool.{Pool}
 use Rattle.batch.specs.Rows.{Rows, frame_in_rows, Run, empty_run, took, answer_in, run_from, run_of, BatchLeft, over, leaves, refused_by, batch_of, taken_in}
 use Rattle.no_three.specs.NoThree.{NotThree, NoneIsThree}
@@ -27,10 +26,10 @@ pub size_other : (wanted : ℕ) → Other (size_made wanted)
 unfolding size_made
 size_other wanted = pick_all Other _ (omega arith) (omega arith)
 
-pub made_other : (m : Made) (size : ℕ) → Other (of_made m size)
+pub made_other : (r : Made) → Other (of_made r)
 unfolding of_made
-made_other made.Fresh size = omega arith
-made_other made.ImpossiblePool size = omega arith
+made_other (Ok p) = omega arith
+made_other (Err e) = omega arith
 
 -- ---- one frame
 pub kind_other : (k : Kind) → NotThree (kind_number k)

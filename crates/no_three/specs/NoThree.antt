@@ -26,11 +26,10 @@ use Rattle.session.specs.declared.Heard.{Heard}
 use Rattle.session.specs.declared.Mode.{Mode}
 use Rattle.session.specs.declared.PoolKind.{PoolKind}
 use Rattle.session.specs.declared.Plan.{Plan}
-use Rattle.assembler.specs.Making.{of_made, MakesPoolOf, MakesPoolIn, MakesPool}
+use Rattle.assembler.specs.Making.{Made, of_made, MakesPoolOf, MakesPoolIn, MakesPool}
 use Rattle.assembler.specs.View.{reply_by}
 use Rattle.assembler.specs.Promises.{entered, ReceivesHeard, ProcessesHeard}
 use Rattle.assembler.specs.declared.Pool.{Pool}
-use Rattle.assembler.specs.declared.MadePool.{MadePool}
 use Rattle.assembler.specs.declared.Arrival.{Arrival}
 use Rattle.assembler.specs.declared.ArrivalById.{ArrivalById}
 use Rattle.assembler.specs.Arrivals.{ArrivalByIdWithLength}
@@ -74,9 +73,9 @@ pub record NoThree : Type 0 where
       → of_next r ≡ next_of b index sent payload → NotThree (next_code (of_answer r.answer))
   pub frame_iterator_next : (t : FrameIterator) (payload : List ℕ) (r : Item) → turn_of r ≡ next_turn t payload → NotThree (next_code (of_answer r.answer))
   -- ---- pools and the receive call
-  pub pool_new : (wanted : ℕ) (r : MadePool) → MakesPool wanted r → NotThree (code_of (of_made r.result r.pool.size))
-  pub pool_with_mode : (mode : Mode) (wanted : ℕ) (r : MadePool) → MakesPoolIn mode wanted r → NotThree (code_of (of_made r.result r.pool.size))
-  pub pool_with_kind : (kind : PoolKind) (mode : Mode) (wanted : ℕ) (r : MadePool) → MakesPoolOf kind mode wanted r → NotThree (code_of (of_made r.result r.pool.size))
+  pub pool_new : (wanted : ℕ) (r : Made) → MakesPool wanted r → NotThree (code_of (of_made r))
+  pub pool_with_mode : (mode : Mode) (wanted : ℕ) (r : Made) → MakesPoolIn mode wanted r → NotThree (code_of (of_made r))
+  pub pool_with_kind : (kind : PoolKind) (mode : Mode) (wanted : ℕ) (r : Made) → MakesPoolOf kind mode wanted r → NotThree (code_of (of_made r))
   pub decide : (mode : Mode) (bad listed found : Bool) (h : Head) (heard : Heard) (r : Plan) → r ≡ plan_of bad listed found (silent_by mode) heard h → NotThree (kind_number r.kind)
   -- at every form of the call: by the entry of either kind, and whatever is heard there
   pub receive : (pgns : List ℕ) (entry : PoolKind) (a : Answer Heard) (p : Pool) (k : Counters) (r : Received)
@@ -140,9 +139,9 @@ pub record NoThree : Type 0 where
   pub told_reassembled : (r : Reassembled) (code : ℕ) (values : List ℕ) → ToldInFive (of_reassembled r) code values → NotThree code
   pub split_number : (s : Split) (code : ℕ) → code ≡ code_of (of_split s) → NotThree code
   pub told_checked : (c : Checked) (code : ℕ) (values : List ℕ) → ToldInFive (of_checked c) code values → NotThree code
-  pub pool_asked : (wanted mode kind : ℕ) (r : MadePool) → MakesPoolAsked wanted mode kind r → NotThree (code_of (of_made r.result r.pool.size))
+  pub pool_asked : (wanted mode kind : ℕ) (r : Made) → MakesPoolAsked wanted mode kind r → NotThree (code_of (of_made r))
   pub leave : (r : Received) (before after : CallMemory) (code : ℕ) → CallLeft r before code after → NotThree code
-  pub leave_made : (made : MadePool) (before after : PoolMemory) (code : ℕ) → MadePoolLeft made before code after → NotThree code
+  pub leave_made : (made : Made) (before after : PoolMemory) (code : ℕ) → MadePoolLeft made before code after → NotThree code
   pub kind_number : (kind : Kind) (n : ℕ) → n ≡ kind_number kind → NotThree n
 
 -- No answer of these is told by a number, which is read off their types and not proved; a 3 that one of them gives is a priority, a count, an address or another

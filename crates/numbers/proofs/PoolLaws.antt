@@ -12,8 +12,7 @@ use Rattle.session.specs.Heads.{fresh_head}
 use Rattle.session.specs.declared.Head.{Head}
 use Rattle.session.specs.declared.Mode.{Mode}
 use Rattle.session.specs.declared.PoolKind.{PoolKind}
-use Rattle.assembler.specs.Making.{MakesPoolOf}
-use Rattle.assembler.specs.declared.MadePool.{MadePool}
+use Rattle.assembler.specs.Making.{Made, MakesPoolOf}
 use Rattle.numbers.specs.Numbers.{is_set, laid_on}
 use Rattle.numbers.specs.Pool.{head_numbers, pool_kind_from, head_at, head_over, heads_to, heads_from, laid_to, laid_over, mode_from, size_under, pool_from, MakesPoolAsked}
 use Rattle.numbers.proofs.Sets.{sets_snoc}
@@ -32,7 +31,7 @@ unfolding pool_from
 pool_by size mode kind heads bytes h d m s = rw (h, d, m, s) refl
 
 -- ---- a pool made, of the size, the mode and the kind that the numbers stand for
-pub asked_by : (wanted mode kind : ℕ) {s : ℕ} {m : Mode} {d : PoolKind} {r : MadePool} → s ≡ size_under mode kind wanted → m ≡ mode_from mode → d ≡ pool_kind_from kind → MakesPoolOf d m s r
+pub asked_by : (wanted mode kind : ℕ) {s : ℕ} {m : Mode} {d : PoolKind} {r : Made} → s ≡ size_under mode kind wanted → m ≡ mode_from mode → d ≡ pool_kind_from kind → MakesPoolOf d m s r
     → MakesPoolAsked wanted mode kind r
 asked_by wanted mode kind {s} {m} {r = r} e f g h =
     subst (λ (n : ℕ). MakesPoolOf (pool_kind_from kind) (mode_from mode) n r) e (subst (λ (x : Mode). MakesPoolOf (pool_kind_from kind) x s r) f (subst (λ (x : PoolKind). MakesPoolOf x m s r) g h))

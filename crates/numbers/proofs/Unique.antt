@@ -23,9 +23,8 @@ use Rattle.oracle.specs.declared.Checked.{Checked}
 use Rattle.numbers.specs.Fives.{ToldInFive}
 use Rattle.session.specs.declared.Counters.{Counters}
 use Rattle.session.specs.declared.Head.{Head}
-use Rattle.assembler.specs.Making.{of_made}
+use Rattle.assembler.specs.Making.{Made, of_made, made_pool}
 use Rattle.assembler.proofs.Unique.{with_kind_unique}
-use Rattle.assembler.specs.declared.MadePool.{MadePool}
 use Rattle.assembler.specs.declared.Pool.{Pool}
 use Rattle.assembler.specs.declared.Received.{Received}
 use Rattle.numbers.specs.Pool.{laid_over, mode_from, pool_kind_from, size_under, pool_from, counters_from, counter_numbers, CallMemory, CallLeft, PoolMemory, PoolLeft, MadePoolLeft, MakesPoolAsked}
@@ -97,7 +96,7 @@ split_count_unique x r s = determined
 pub pool_from_unique : (size mode kind : ℕ) (heads bytes : List ℕ) (r s : Pool) → r ≡ pool_from size mode kind heads bytes → s ≡ pool_from size mode kind heads bytes → r ≡ s
 pool_from_unique size mode kind heads bytes r s = determined
 
-pub pool_asked_unique : (wanted mode kind : ℕ) (r s : MadePool) → MakesPoolAsked wanted mode kind r → MakesPoolAsked wanted mode kind s → r ≡ s
+pub pool_asked_unique : (wanted mode kind : ℕ) (r s : Made) → MakesPoolAsked wanted mode kind r → MakesPoolAsked wanted mode kind s → r ≡ s
 pool_asked_unique wanted mode kind = with_kind_unique (size_under mode kind wanted) (mode_from mode) (pool_kind_from kind)
 
 pub counters_from_unique : (n : List ℕ) (r s : Counters) → r ≡ counters_from n → s ≡ counters_from n → r ≡ s
@@ -138,5 +137,5 @@ pub pool_left_unique : (answer : Answer ℕ) (pool : Pool) (before : PoolMemory)
 pool_left_unique answer pool before a b p q x y =
     (determined x.told y.told, pools_same p q (determined x.kept y.kept) (determined x.stored y.stored) (determined x.sized y.sized) (determined x.moded y.moded) (determined x.of_kind y.of_kind))
 
-pub leave_made_unique : (m : MadePool) (before : PoolMemory) (a b : ℕ) (p q : PoolMemory) → MadePoolLeft m before a p → MadePoolLeft m before b q → (a ≡ b) × (p ≡ q)
-leave_made_unique m = pool_left_unique (of_made m.result m.pool.size) m.pool
+pub leave_made_unique : (m : Made) (before : PoolMemory) (a b : ℕ) (p q : PoolMemory) → MadePoolLeft m before a p → MadePoolLeft m before b q → (a ≡ b) × (p ≡ q)
+leave_made_unique m = pool_left_unique (of_made m) (made_pool m)

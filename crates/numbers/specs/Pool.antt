@@ -14,9 +14,8 @@ use Rattle.session.specs.declared.Mode.{Mode}
 use Rattle.session.specs.declared.Mode.TheVariants.{AsOriginal, SetBackIsSilence}
 use Rattle.session.specs.declared.PoolKind.{PoolKind}
 use Rattle.session.specs.declared.PoolKind.TheVariants.{Original, Addressed}
-use Rattle.assembler.specs.Making.{of_made, MakesPoolOf}
+use Rattle.assembler.specs.Making.{Made, of_made, made_pool, MakesPoolOf}
 use Rattle.assembler.specs.declared.Pool.{Pool}
-use Rattle.assembler.specs.declared.MadePool.{MadePool}
 use Rattle.assembler.specs.declared.Received.{Received}
 use Rattle.numbers.specs.Numbers.{is_set, laid_on}
 
@@ -166,9 +165,9 @@ pub record PoolLeft (a : Answer ℕ) (p : Pool) (before : PoolMemory) (code : �
   pub of_kind : after.kind ≡ pool_kind_number p.kind
 
 -- the same of a pool that the code made
-abbrev pub MadePoolLeft : MadePool → PoolMemory → ℕ → PoolMemory → Type 0
-MadePoolLeft m before code after = PoolLeft (of_made m.result m.pool.size) m.pool before code after
+abbrev pub MadePoolLeft : Made → PoolMemory → ℕ → PoolMemory → Type 0
+MadePoolLeft m before code after = PoolLeft (of_made m) (made_pool m) before code after
 
 -- what making a pool by numbers promises: of the size that is wanted, in the mode and of the kind whose numbers are asked for
-abbrev pub MakesPoolAsked : ℕ → ℕ → ℕ → MadePool → Type 0
+abbrev pub MakesPoolAsked : ℕ → ℕ → ℕ → Made → Type 0
 MakesPoolAsked wanted mode kind r = MakesPoolOf (pool_kind_from kind) (mode_from mode) (size_under mode kind wanted) r

@@ -6,7 +6,7 @@ ghost use Rattle.session.specs.Rules.{pool_limit};
 ghost use Rattle.numbers.specs.Pool.{head_numbers, head_at, head_over, heads_from, laid_over, mode_number, mode_from, pool_kind_number, pool_kind_from, size_under, pool_from, counters_from, counter_numbers, delivered_on, CallLeft, blank_heads, MadePoolLeft, MakesPoolAsked};
 
 use crate::numbers::{byte_on, flag_on, half_on, word_on};
-use assembler::{Made, MadePool, POOL_BYTES, Pool, Received};
+use assembler::{ImpossiblePool, POOL_BYTES, Pool, Received};
 use fast_packet::MAX_FAST_PACKET_PAYLOAD;
 use session::{Counters, Head, Kind, Mode, POOL_LIMIT, PoolKind, fresh_head};
 
@@ -223,7 +223,7 @@ pub fn leave(
 // ---- a pool made
 
 // The pool that is wanted, in the mode and of the kind whose numbers are asked for; one that is no mode or no kind is refused as a size above the limit is.
-pub fn pool_asked(wanted: usize, mode: u32, kind: u32) -> MadePool
+pub fn pool_asked(wanted: usize, mode: u32, kind: u32) -> Result<Pool, ImpossiblePool>
     ensures { MakesPoolAsked wanted mode kind result }
 {
     Pool::with_kind(
@@ -240,8 +240,17 @@ fn fresh_heads(heads: &mut [u64; POOL_NUMBERS], h: [Head; POOL_LIMIT])
     put_heads(heads, h);
 }
 
+// The size of a pool, and the numbers of its mode and kind.
+fn leave_form(pool: Pool, size: &mut usize, mode: &mut u32, kind: &mut u32)
+    ensures { (size.new ≡ pool.size) × (mode.new ≡ mode_number pool.mode) × (kind.new ≡ pool_kind_number pool.kind) }
+{
+    *size = pool.size;
+    *mode = mode_number(pool.mode);
+    *kind = pool_kind_number(pool.kind);
+}
+
 pub fn leave_made(
-    made: MadePool,
+    made: Result<Pool, ImpossiblePool>,
     heads: &mut [u64; POOL_NUMBERS],
     bytes: &mut [u8; POOL_BYTES],
     size: &mut usize,
@@ -251,19 +260,18 @@ pub fn leave_made(
     ensures { MadePoolLeft made (record { heads = heads.old; bytes = bytes.old; size = size.old; mode = mode.old; kind = kind.old })
         result (record { heads = heads.new; bytes = bytes.new; size = size.new; mode = mode.new; kind = kind.new }) }
 {
-    let pool = made.pool;
-    *size = pool.size;
-    *mode = mode_number(pool.mode);
-    *kind = pool_kind_number(pool.kind);
-    let result = made.result;
-    match result {
-        Made::ImpossiblePool => u32::from(Kind::ImpossiblePool.number()),
-        Made::Fresh => {
+    match made {
+        Ok(pool) => {
+            leave_form(pool, size, mode, kind);
             let h = pool.heads;
             fresh_heads(heads, h);
             let b = pool.bytes;
             *bytes = b;
             0
+        }
+        Err(refused) => {
+            leave_form(refused.pool, size, mode, kind);
+            u32::from(Kind::ImpossiblePool.number())
         }
     }
 }

@@ -150,8 +150,10 @@ struct State {
 }
 
 fn fresh(mode: Mode, size: usize) -> State {
-    let made = Pool::with_mode(size, mode);
-    let pool = made.pool;
+    let pool = match Pool::with_mode(size, mode) {
+        Ok(pool) => pool,
+        Err(refused) => refused.pool,
+    };
     let counters = Counters {
         expired_sessions: 0,
         pool_exhausted: 0,

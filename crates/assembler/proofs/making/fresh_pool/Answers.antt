@@ -4,4 +4,4 @@ use Rattle.assembler.proofs.making.fresh_pool.Goals as goal
 
 pub returns : goal.returns
 unfolding fresh_pool_in
-returns c = rw c.fresh_head-h.ensures
+returns c = rw c.fresh_head.ensures
