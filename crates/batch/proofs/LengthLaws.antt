@@ -39,5 +39,3 @@ module _ (room used n : ℕ) where
 
   pub overfull : room < used → true ≡ no_room room used n
   overfull h = let l : room < used + n = omega arith in sym (lt-ltb room (used + n) l)
-
-pub ruleset room_rules = (room_left, overfull)

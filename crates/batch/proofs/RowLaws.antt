@@ -1,8 +1,7 @@
 -- The cases of the tests on rows, as the code meets them. Assumes nothing.
-use Rattle.std.proofs.Common.{◌≡◌, ℕ, ◌+◌, ◌-◌, ◌*◌, ◌<◌, ◌≤◌, Bool, true, false, ltb, sym, ◌∙◌, arith, ltb-false}
+use Rattle.std.proofs.Common.{◌≡◌, ℕ, ◌+◌, ◌≤◌, Bool, true, false, ltb, sym, ◌∙◌, ltb-false}
 use Rattle.std.specs.Prelude.{Ok, Err}
 use Rattle.base.specs.Pick.{pick}
-use Rattle.session.specs.Rules.{pool_limit}
 use Rattle.batch.specs.declared.BatchError.TheVariants.{ImpossiblePool, NoRoom}
 use Rattle.batch.specs.inner.Ways.{refusal_of}
 
@@ -24,18 +23,3 @@ module _ (bad short b : Bool) (eb : b ≡ bad) where
     pub refused_none : s ≡ false → Ok tt ≡ refusal_of bad short
     unfolding refusal_of pick
     refused_none z = rw (← eb, y, ← es, z)
-
--- where a place stands in memory
-pub head_place : (g : ℕ) → g < pool_limit → g * 40 < 18446744073709551616
-head_place g low = omega arith
-
-pub number_place : (g : ℕ) → g < pool_limit → g * 8 < 18446744073709551616
-number_place g low = omega arith
-
--- the loop's end comes nearer
-pub nearer : (n i : ℕ) → i < n → n - (i + 1) < n - i
-nearer n i turn = omega arith
-
--- a row that was long enough still is
-pub still_long : (i n m m₀ : ℕ) → i < n → m ≡ m₀ → n ≤ m₀ → i < m
-still_long i n m m₀ turn same long = omega arith

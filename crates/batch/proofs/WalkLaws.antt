@@ -46,13 +46,6 @@ module _ (time last : ℕ) where
   silent_is early small s es mode c e =
       silent_from early small ((last + (clock_end + 1 - s)) % (clock_end + 1)) (omega arith) (omega (arith, early, small, es)) mode c e
 
-  module _ (mode : Mode) where
-    pub open_is : (k : ℕ) (b : Bool) → b ≡ silent_by mode time last → (eqb k 0 || b) ≡ (eqb k 0 || silent_by mode time last)
-    open_is k b e = rw e
-
-    pub own_is : (k o s : ℕ) (b : Bool) → b ≡ (eqb k 0 || silent_by mode time last) → (b && eqb o s) ≡ ((eqb k 0 || silent_by mode time last) && eqb o s)
-    own_is k o s b e = rw e
-
 -- whether the place is live with the key
 module _ (mode : Mode) (keys lasts : List ℕ) (key time j : ℕ) where
   pub live_other : (get_or keys j 0 ≡ key → ⊥) → live_at mode keys lasts key time j ≡ false
@@ -96,14 +89,9 @@ module _ (mode : Mode) (keys owners lasts : List ℕ) (source time j : ℕ) wher
   unfolding own_at
   own_open e = rw e
 
-pub ruleset places = (open_is, own_is)
-
 -- ---- how far a walk has come
 
 module _ (t : ℕ → Bool) where
-  pub past_none : (i : ℕ) → Past t i i
-  past_none i = record { low = omega arith; fails = λ j l h. absurd (omega arith) }
-
   pub past_turn : (i s : ℕ) → Past t i s → t s ≡ false → Past t i (s + 1)
   past_turn i s p e = record { low = omega (arith, p.low); fails = λ j l h. less? j s (λ m. p.fails j l m) (λ m. let here : j ≡ s = omega arith in rw here e) }
 
@@ -226,9 +214,6 @@ module _ (mode : Mode) (keys owners lasts : List ℕ) (n key source time : ℕ) 
   chosen_none at = rw (first_none k n at.0, first_none o n (own_past 0 n at.1), first_none v n at.1)
 
   module _ (a : ℕ) (free : Stops k v 0 n (Other a)) where
-    pub free_unkeyed : k a ≡ false
-    free_unkeyed = free.1.fails a (omega arith) (omega arith)
-
     -- what the first part of the walk passed by, the second need not look at
     keys_on : (r : ℕ) → Past k a r → Past k 0 r
     keys_on r p = past_join k 0 a r (record { low = omega arith; fails = λ j l h. free.1.fails j l (omega arith) }) p

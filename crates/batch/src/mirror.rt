@@ -17,6 +17,7 @@ const PART_PLACE: u64 = 281_474_976_710_656;
 // A part that is no destination's; what is above it counts as it, so that a key fits in one number.
 const NO_PART: u16 = 511;
 
+#[tactic(auto, unfolding(crate::specs::inner::Mirror::packed))]
 fn pack(source: u8, pgn: u32, sequence: u8, part: u16) -> u64
     ensures { (result ≡ packed source pgn sequence part) × InRange source pgn sequence }
 {
@@ -36,6 +37,7 @@ fn key_of(h: Head) -> u64
     if h.in_progress { key } else { 0 }
 }
 
+#[tactic(auto, unfolding(crate::specs::inner::Mirror::frame_key, session::specs::Frames::sequence_of))]
 pub(crate) fn key_of_frame(heard: Heard) -> u64
     ensures { (result ≡ frame_key heard) × InRange heard.source_address heard.pgn (slice_index_or heard.«data» 0 0) }
 {

@@ -18,48 +18,21 @@ pub const POOL_NUMBERS: usize = HEAD_NUMBERS * POOL_LIMIT;
 
 // ---- heads as numbers
 
-fn number_at(n: &[u64; POOL_NUMBERS], i: usize) -> u64
-    requires { i < head_numbers * pool_limit }
-    ensures { result ≡ get_or n.now i 0 }
-{
-    n[i]
-}
-
-fn byte_at(n: &[u64; POOL_NUMBERS], i: usize) -> u8
-    requires { i < head_numbers * pool_limit }
-    ensures { result ≡ get_or n.now i 0 % 0x100 }
-{
-    (n[i] % 0x100) as u8
-}
-
-fn word_at(n: &[u64; POOL_NUMBERS], i: usize) -> u32
-    requires { i < head_numbers * pool_limit }
-    ensures { result ≡ get_or n.now i 0 % 0x1_0000_0000 }
-{
-    (n[i] % 0x1_0000_0000) as u32
-}
-
-fn half_at(n: &[u64; POOL_NUMBERS], i: usize) -> u16
-    requires { i < head_numbers * pool_limit }
-    ensures { result ≡ get_or n.now i 0 % 0x1_0000 }
-{
-    (n[i] % 0x1_0000) as u16
-}
-
+#[tactic(auto, unfolding(crate::specs::Pool::head_at, crate::specs::Numbers::is_set))]
 fn head_at(n: &[u64; POOL_NUMBERS], at: usize) -> Head
     requires { at + head_numbers ≤ head_numbers * pool_limit }
     ensures { result ≡ head_at n.now at }
 {
     Head {
-        in_progress: number_at(n, at) != 0,
-        source_address: byte_at(n, at + 1),
-        sequence_id: byte_at(n, at + 2),
-        last_frame_index: byte_at(n, at + 3),
-        pgn: word_at(n, at + 4),
-        part: half_at(n, at + 5),
-        expected_size: number_at(n, at + 6) as usize,
-        current_size: number_at(n, at + 7) as usize,
-        last_seen_ms: number_at(n, at + 8),
+        in_progress: n[at] != 0,
+        source_address: (n[at + 1] % 0x100) as u8,
+        sequence_id: (n[at + 2] % 0x100) as u8,
+        last_frame_index: (n[at + 3] % 0x100) as u8,
+        pgn: (n[at + 4] % 0x1_0000_0000) as u32,
+        part: (n[at + 5] % 0x1_0000) as u16,
+        expected_size: n[at + 6] as usize,
+        current_size: n[at + 7] as usize,
+        last_seen_ms: n[at + 8],
     }
 }
 
@@ -68,10 +41,8 @@ fn heads_from(n: &[u64; POOL_NUMBERS]) -> [Head; POOL_LIMIT]
 {
     let h = fresh_head();
     let mut heads = [h; POOL_LIMIT];
-    let mut k: usize = 0;
-    while k < POOL_LIMIT {
+    for k in 0..POOL_LIMIT {
         heads[k] = head_at(n, HEAD_NUMBERS * k);
-        k += 1;
     }
     heads
 }
@@ -98,26 +69,22 @@ fn put_head(n: &mut [u64; POOL_NUMBERS], at: usize, h: Head)
     ensures { n.new ≡ sets n.old at (head_over n.old at h) }
 {
     let numbers = head_over(n, at, h);
-    let mut k: usize = 0;
-    while k < HEAD_NUMBERS {
+    for k in 0..HEAD_NUMBERS {
         n[at + k] = numbers[k];
-        k += 1;
     }
 }
 
 pub fn put_heads(n: &mut [u64; POOL_NUMBERS], heads: [Head; POOL_LIMIT])
     ensures { n.new ≡ laid_over n.old heads }
 {
-    let mut k = 0;
-    while k < POOL_LIMIT {
-        let h = heads[k];
-        put_head(n, HEAD_NUMBERS * k, h);
-        k += 1;
+    for k in 0..POOL_LIMIT {
+        put_head(n, HEAD_NUMBERS * k, heads[k]);
     }
 }
 
 // ---- a mode as a number: 0 as the original, 1 a clock that was set back is silence
 
+#[tactic(auto, unfolding(crate::specs::Pool::mode_number))]
 fn mode_number(mode: Mode) -> u32
     ensures { result ≡ mode_number mode }
 {
@@ -127,6 +94,7 @@ fn mode_number(mode: Mode) -> u32
     }
 }
 
+#[tactic(auto, unfolding(crate::specs::Pool::mode_from, base::specs::Pick::pick))]
 fn mode_from(number: u32) -> Mode
     ensures { result ≡ mode_from number }
 {
@@ -138,6 +106,7 @@ fn mode_from(number: u32) -> Mode
 
 // ---- and a kind: 0 the original's, 1 with the destination in the key
 
+#[tactic(auto, unfolding(crate::specs::Pool::pool_kind_number))]
 fn pool_kind_number(kind: PoolKind) -> u32
     ensures { result ≡ pool_kind_number kind }
 {
@@ -147,6 +116,7 @@ fn pool_kind_number(kind: PoolKind) -> u32
     }
 }
 
+#[tactic(auto, unfolding(crate::specs::Pool::pool_kind_from, base::specs::Pick::pick))]
 fn pool_kind_from(asked: u32) -> PoolKind
     ensures { result ≡ pool_kind_from asked }
 {
@@ -220,17 +190,8 @@ fn deliver_on(
 )
     ensures { payload.new ≡ delivered_on payload.old kind message }
 {
-    match kind {
-        Kind::MessageComplete => {
-            *payload = message;
-        }
-        Kind::ImpossiblePool => {}
-        Kind::TooWide => {}
-        Kind::NotListed => {}
-        Kind::Rejected => {}
-        Kind::PoolFull => {}
-        Kind::Lost => {}
-        Kind::FragmentConsumed => {}
+    if kind == Kind::MessageComplete {
+        *payload = message;
     }
 }
 
@@ -247,18 +208,16 @@ pub fn leave(
         (record { heads = heads.old; bytes = bytes.old; counters = counters.old; payload = payload.old; length = length.old })
         result (record { heads = heads.new; bytes = bytes.new; counters = counters.new; payload = payload.new; length = length.new }) }
 {
-    let pool = r.pool;
-    let h = pool.heads;
+    let h = r.pool.heads;
     put_heads(heads, h);
-    let b = pool.bytes;
+    let b = r.pool.bytes;
     *bytes = b;
-    let c = r.counters;
-    *counters = counter_numbers(c);
+    let c = counter_numbers(r.counters);
+    *counters = c;
     *length = r.length;
-    let kind = r.kind;
     let message = r.payload;
-    deliver_on(kind, message, payload);
-    u32::from(kind.number())
+    deliver_on(r.kind, message, payload);
+    u32::from(r.kind.number())
 }
 
 // ---- a pool made

@@ -1,5 +1,4 @@
 -- `put_head` meets its contract: after k turns k numbers are laid. Assumes nothing.
-use Prim.Native.Nat.{◌≤◌, ◌-◌}
 use mathlib.Core.Path.{◌≡◌}
 use lib.ListN.{length, take}
 use lib.Seq.{sets}
@@ -7,7 +6,4 @@ use Rattle.numbers.specs.Pool.{head_numbers}
 use Rattle.numbers.proofs.pools.put_head.Given as goal
 
 abbrev pub invariant-loop-k : goal.invariant-loop-k
-invariant-loop-k l = (l.k ≤ head_numbers) × (length l.numbers ≡ head_numbers) × (l.n ≡ sets l.initial.n l.at (take l.k l.numbers))
-
-abbrev pub decreases-loop-k : goal.decreases-loop-k
-decreases-loop-k l = head_numbers - l.k
+invariant-loop-k l = (length l.numbers ≡ head_numbers) × (l.n ≡ sets l.initial.n l.at (take l.k l.numbers))
