@@ -17,7 +17,9 @@ use crate::search::walk;
 use crate::ways::{missed, ran_on, runs_on, short_in};
 use crate::{Batch, BatchError, Taken};
 use assembler::Pool;
-use session::{Counters, FIRST_DATA, Head, Heard, Kind, Mode, POOL_LIMIT, PoolKind, count, decide};
+use session::{
+    Counter, Counters, FIRST_DATA, Head, Heard, Kind, Mode, POOL_LIMIT, PoolKind, count, decide,
+};
 
 // A blank frame: what the pool is looked at with, before the first.
 #[tactic(auto, unfolding(crate::specs::inner::Ways::blank_heard))]
@@ -98,12 +100,18 @@ pub fn process_frames(
     for i in 0..n {
         let heard = frames.frame_at(i);
         let frame = heard.data;
-        let listed = list.has(heard.pgn);
-        let Some(g) = mirror.seek(mode, listed, heard) else {
+        // most frames of a bus: nothing is looked for
+        if !list.has(heard.pgn) {
+            c = count(c, Some(Counter::Unknown));
+            kinds[i] = Kind::NotListed.number();
+            lengths[i] = 0;
+            continue;
+        }
+        let Some(g) = mirror.seek(mode, heard) else {
             // a frame that takes no slot leaves the pool as it is
-            let short = short_in(listed, heard);
+            let short = short_in(heard);
             if short == 0 {
-                let (kind, mark) = missed(listed, heard);
+                let (kind, mark) = missed(heard);
                 c = count(c, mark);
                 kinds[i] = kind.number();
                 lengths[i] = 0;

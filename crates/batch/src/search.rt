@@ -1,5 +1,5 @@
 // The search for a slot.
-ghost use Rattle.std.specs.Prelude.{◌≡◌, ◌<◌, IfSome, slice_index_or, unwrap_or};
+ghost use Rattle.std.specs.Prelude.{◌≡◌, ◌<◌, true, IfSome, slice_index_or, unwrap_or};
 ghost use Rattle.session.specs.Rules.{rules_by, pool_limit};
 ghost use Rattle.session.specs.inner.Search.{found_in};
 ghost use Rattle.batch.specs.inner.Mirror.{InRange, frame_key, sought};
@@ -32,13 +32,10 @@ pub(crate) fn walk(
 }
 
 impl Mirror {
-    // The place that the frame takes, if it takes one.
-    pub(crate) fn seek(&self, mode: Mode, listed: bool, heard: Heard) -> Option<usize>
-        ensures { (unwrap_or result pool_limit ≡ sought mode self.now.keys self.now.owners self.now.lasts self.now.size listed (frame_key heard) heard) × IfSome result (λ g. g < pool_limit) × InRange heard.source_address heard.pgn (slice_index_or heard.«data» 0 0) }
+    // The place that a frame of a listed PGN takes, if it takes one.
+    pub(crate) fn seek(&self, mode: Mode, heard: Heard) -> Option<usize>
+        ensures { (unwrap_or result pool_limit ≡ sought mode self.now.keys self.now.owners self.now.lasts self.now.size true (frame_key heard) heard) × IfSome result (λ g. g < pool_limit) × InRange heard.source_address heard.pgn (slice_index_or heard.«data» 0 0) }
     {
-        if !listed {
-            return None;
-        }
         let key = key_of_frame(heard);
         let data = heard.data;
         if data[0] % 32 != 0 {

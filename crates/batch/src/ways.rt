@@ -1,19 +1,16 @@
 // The ways that most frames go, told apart before a plan is made.
-ghost use Rattle.std.specs.Prelude.{◌≡◌, ◌-◌, ◌<◌, ◌≤◌};
+ghost use Rattle.std.specs.Prelude.{◌≡◌, true, ◌-◌, ◌<◌, ◌≤◌};
 ghost use Rattle.session.specs.Heads.{copied_head};
 ghost use Rattle.batch.specs.inner.Ways.{short_in, miss_kind, miss_mark, runs_on};
 
 use fast_packet::MAX_FAST_PACKET_PAYLOAD;
 use session::{CONTINUATION_PAYLOAD, Counter, FIRST_FRAME_PAYLOAD, Head, Heard, Kind};
 
-// How many bytes the message has that comes in this one frame; 0 where none does.
+// How many bytes the message has that comes in this one frame of a listed PGN; 0 where none does.
 #[tactic(auto, using(crate::proofs::WayLaws::ways))]
-pub(crate) fn short_in(listed: bool, heard: Heard) -> usize
-    ensures { (result ≡ short_in listed heard) × (result ≤ 6) }
+pub(crate) fn short_in(heard: Heard) -> usize
+    ensures { (result ≡ short_in true heard) × (result ≤ 6) }
 {
-    if !listed {
-        return 0;
-    }
     let data = heard.data;
     if data[0] % 32 != 0 {
         return 0;
@@ -22,13 +19,10 @@ pub(crate) fn short_in(listed: bool, heard: Heard) -> usize
     if size <= FIRST_FRAME_PAYLOAD { size } else { 0 }
 }
 
-// What a frame that takes no slot and brings no message is told, and the counter that it raises.
-pub(crate) fn missed(listed: bool, heard: Heard) -> (Kind, Option<Counter>)
-    ensures { (result.0 ≡ miss_kind listed heard) × (result.1 ≡ miss_mark listed heard) }
+// What a frame of a listed PGN that takes no slot and brings no message is told, and the counter that it raises.
+pub(crate) fn missed(heard: Heard) -> (Kind, Option<Counter>)
+    ensures { (result.0 ≡ miss_kind true heard) × (result.1 ≡ miss_mark true heard) }
 {
-    if !listed {
-        return (Kind::NotListed, Some(Counter::Unknown));
-    }
     let data = heard.data;
     if data[0] % 32 != 0 {
         return (Kind::Lost, Some(Counter::Lost));
