@@ -6,6 +6,3 @@ use Rattle.ffi.proofs.batches.leave_batch.Goals as goal
 pub returns-in-Ok : goal.returns-in-Ok
 unfolding of_batched
 returns-in-Ok c = record { told = rw c.in-Ok.is; kept = c.put_heads.ensures; stored = refl; counted = c.counter_numbers.ensures; taken = c.counts_of.ensures }
-
-pub returns-in-Err : goal.returns-in-Err
-returns-in-Err c = record { told = rw (c.in-Err.is, c.refusal_number.ensures); kept = c.put_heads.ensures; stored = refl; counted = c.counter_numbers.ensures; taken = c.counts_of.ensures }
