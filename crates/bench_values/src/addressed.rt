@@ -153,7 +153,11 @@ pub(crate) fn entries<W: Write>(out: &mut W) -> io::Result<()> {
     )?;
     original_by_id(out, "original, by identifier 0x20000000", TOO_WIDE)?;
     original_by_id(out, "original, by the identifier of a listed PGN", TO_16)?;
-    original_by_id(out, "original, by the identifier of an unlisted PGN", UNLISTED)?;
+    original_by_id(
+        out,
+        "original, by the identifier of an unlisted PGN",
+        UNLISTED,
+    )?;
     addressed_by_pgn(out, "addressed, by a listed PGN", ANSWER)?;
     addressed_by_pgn(out, "addressed, by an unlisted PGN", CLAIM)
 }
@@ -193,11 +197,31 @@ pub(crate) fn two_displays<W: Write>(out: &mut W) -> io::Result<()> {
 
 pub(crate) fn broadcasts<W: Write>(out: &mut W) -> io::Result<()> {
     let mut held = fresh(PoolKind::Addressed);
-    held = by_id(out, "addressed, PGN 127489, frame 0", held, frame(TO_ALL, 0, 1))?;
-    by_id(out, "addressed, PGN 127489, frame 1", held, frame(TO_ALL, 1, 1))?;
+    held = by_id(
+        out,
+        "addressed, PGN 127489, frame 0",
+        held,
+        frame(TO_ALL, 0, 1),
+    )?;
+    by_id(
+        out,
+        "addressed, PGN 127489, frame 1",
+        held,
+        frame(TO_ALL, 1, 1),
+    )?;
     held = fresh(PoolKind::Original);
-    held = by_pgn(out, "original, PGN 127489, frame 0", held, plain(ENGINE, 0, 1))?;
-    by_pgn(out, "original, PGN 127489, frame 1", held, plain(ENGINE, 1, 1))?;
+    held = by_pgn(
+        out,
+        "original, PGN 127489, frame 0",
+        held,
+        plain(ENGINE, 0, 1),
+    )?;
+    by_pgn(
+        out,
+        "original, PGN 127489, frame 1",
+        held,
+        plain(ENGINE, 1, 1),
+    )?;
     Ok(())
 }
 
@@ -233,7 +257,11 @@ fn parts_of_answers<W: Write>(out: &mut W) -> io::Result<()> {
 }
 
 fn parts_by_pf<W: Write>(out: &mut W) -> io::Result<()> {
-    let pgns = [("127489", ENGINE), ("PF 239", 0x1_EF00), ("PF 240", 0x1_F000)];
+    let pgns = [
+        ("127489", ENGINE),
+        ("PF 239", 0x1_EF00),
+        ("PF 240", 0x1_F000),
+    ];
     for (words, pgn) in pgns {
         beside(out, words, pgn, 0)?;
         beside(out, words, pgn, 17)?;

@@ -21,7 +21,15 @@ fn batch_of(
         sources: &[arrival.source_address],
         data: &arrival.data,
     };
-    process_frames(held.pool, held.counters, &LISTED, rows, kinds, lengths, arena)
+    process_frames(
+        held.pool,
+        held.counters,
+        &LISTED,
+        rows,
+        kinds,
+        lengths,
+        arena,
+    )
 }
 
 fn refusal_number(error: BatchError) -> u8 {

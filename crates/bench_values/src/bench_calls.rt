@@ -192,7 +192,10 @@ pub(crate) fn check<W: Write>(
     show_checked(out, check_tx(slices, SOURCE, expected, base))?;
     let row = row_of(slices);
     write!(out, "  as frames: ")?;
-    show_checked(out, check_tx(&row[..count_of(slices)], SOURCE, expected, base))
+    show_checked(
+        out,
+        check_tx(&row[..count_of(slices)], SOURCE, expected, base),
+    )
 }
 
 // A record of 26 bytes with these hours, below 256, and another byte off the pattern or not.
@@ -204,19 +207,26 @@ fn record(hours: u8, odd: u8) -> [u8; 26] {
     payload
 }
 
-// The two records in slices, after the claim that stands there.
-fn check_rows<W: Write>(
-    out: &mut W,
-    first: [u8; 26],
-    sequence: u8,
-    second: [u8; 26],
-    expected: usize,
-    base: u32,
-) -> io::Result<()> {
+// What the transmit test sends: a claim, then two records of four frames each, laid by the splitter.
+#[derive(Drop)]
+struct Sent {
+    ids: [u32; ROW_FRAMES],
+    bytes: [u8; 8 * ROW_FRAMES],
+    lens: [usize; ROW_FRAMES],
+}
+
+fn sent_slices(first: [u8; 26], sequence: u8, second: [u8; 26]) -> Sent {
     let mut ids = [CLAIM; ROW_FRAMES];
     let mut bytes = [0xFF; 8 * ROW_FRAMES];
     let mut lens = [8; ROW_FRAMES];
-    let _ = fast_packet_rows(ENGINE, 0, &first, &mut ids[1..], &mut bytes[8..], &mut lens[1..]);
+    let _ = fast_packet_rows(
+        ENGINE,
+        0,
+        &first,
+        &mut ids[1..],
+        &mut bytes[8..],
+        &mut lens[1..],
+    );
     let _ = fast_packet_rows(
         ENGINE,
         sequence,
@@ -225,23 +235,10 @@ fn check_rows<W: Write>(
         &mut bytes[40..],
         &mut lens[5..],
     );
-    let sent = SliceRow {
-        ids: &ids,
-        bytes: &bytes,
-        lens: &lens,
-    };
-    show_checked(out, check_tx(sent, SOURCE, expected, base))
+    Sent { ids, bytes, lens }
 }
 
-// The same as frames.
-fn check_frames<W: Write>(
-    out: &mut W,
-    first: [u8; 26],
-    sequence: u8,
-    second: [u8; 26],
-    expected: usize,
-    base: u32,
-) -> io::Result<()> {
+fn sent_frames(first: [u8; 26], sequence: u8, second: [u8; 26]) -> [Frame; ROW_FRAMES] {
     let mut row = blank_row();
     row[0] = Frame {
         id: CLAIM,
@@ -250,11 +247,10 @@ fn check_frames<W: Write>(
     };
     let _ = fast_packet_frames(ENGINE, 0, &first, &mut row[1..]);
     let _ = fast_packet_frames(ENGINE, sequence, &second, &mut row[5..]);
-    write!(out, "  as frames: ")?;
-    show_checked(out, check_tx(&row[..], SOURCE, expected, base))
+    row
 }
 
-// A claim, then two records of four frames each: hours 7 with this odd byte, and these hours with this sequence.
+// Two records in slices and then as frames: hours 7 with this odd byte, and these hours with this sequence.
 fn check_two<W: Write>(
     out: &mut W,
     words: &str,
@@ -266,9 +262,17 @@ fn check_two<W: Write>(
 ) -> io::Result<()> {
     let first = record(7, odd);
     let second = record(hours, 0);
+    let sent = sent_slices(first, sequence, second);
+    let slices = SliceRow {
+        ids: &sent.ids,
+        bytes: &sent.bytes,
+        lens: &sent.lens,
+    };
     write!(out, "{words}: ")?;
-    check_rows(out, first, sequence, second, expected, base)?;
-    check_frames(out, first, sequence, second, expected, base)
+    show_checked(out, check_tx(slices, SOURCE, expected, base))?;
+    let row = sent_frames(first, sequence, second);
+    write!(out, "  as frames: ")?;
+    show_checked(out, check_tx(&row[..], SOURCE, expected, base))
 }
 
 fn counts<W: Write>(out: &mut W) -> io::Result<()> {

@@ -1,8 +1,7 @@
 // A frame cut short, by document 02's No. 5: each case on a pool of one slot with room, by value and with the counters lent.
 use crate::held::Held;
 use crate::receiving::{self, made};
-use assembler::WithLength;
-use assembler::Arrival;
+use assembler::{Arrival, WithLength};
 use session::{Mode, PoolKind};
 use std::io::{self, Write};
 

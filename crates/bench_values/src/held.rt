@@ -40,7 +40,11 @@ impl Held {
 
     fn tell_counters<W: Write>(&self, out: &mut W) -> io::Result<()> {
         let counters = &self.counters;
-        tell(out, "expired_sessions", u64::from(counters.expired_sessions))?;
+        tell(
+            out,
+            "expired_sessions",
+            u64::from(counters.expired_sessions),
+        )?;
         tell(out, "pool_exhausted", u64::from(counters.pool_exhausted))?;
         tell(out, "rejected_frames", u64::from(counters.rejected_frames))?;
         tell(out, "lost_fragments", u64::from(counters.lost_fragments))?;

@@ -138,7 +138,12 @@ fn made_of_a_kind<W: Write>(
     kind: PoolKind,
 ) -> io::Result<()> {
     let pool = show_made(out, words, Pool::with_kind(size, mode, kind))?;
-    writeln!(out, ", {}, {}", mode_words(pool.mode), kind_words(pool.kind))
+    writeln!(
+        out,
+        ", {}, {}",
+        mode_words(pool.mode),
+        kind_words(pool.kind)
+    )
 }
 
 fn made_of_each_kind<W: Write>(out: &mut W, words: &str, size: usize) -> io::Result<()> {

@@ -63,9 +63,19 @@ pub(crate) fn first_frames<W: Write>(out: &mut W) -> io::Result<()> {
 const LAST: u64 = u64::MAX;
 
 pub(crate) fn ends_of_the_clock<W: Write>(out: &mut W) -> io::Result<()> {
-    in_both_modes(out, 0, "continued at the last reading", frame(LAST, 35, 1, 7))?;
+    in_both_modes(
+        out,
+        0,
+        "continued at the last reading",
+        frame(LAST, 35, 1, 7),
+    )?;
     in_both_modes(out, LAST, "continued at 0", frame(0, 35, 1, 7))?;
-    in_both_modes(out, 0, "another key at the last reading", frame(LAST, 36, 0, 14))?;
+    in_both_modes(
+        out,
+        0,
+        "another key at the last reading",
+        frame(LAST, 36, 0, 14),
+    )?;
     in_both_modes(out, LAST, "another key at 0", frame(0, 36, 0, 14))
 }
 

@@ -38,7 +38,11 @@ fn judge<W: Write>(
         lens,
     };
     bench_calls::judge(out, words, slices, list, arena)?;
-    left(out, list.first().copied().unwrap_or(0), arena.first().copied().unwrap_or(0))
+    left(
+        out,
+        list.first().copied().unwrap_or(0),
+        arena.first().copied().unwrap_or(0),
+    )
 }
 
 fn left<W: Write>(out: &mut W, number: usize, byte: u8) -> io::Result<()> {

@@ -57,9 +57,15 @@ fn both_hear<W: Write>(
 }
 
 pub(crate) fn show<W: Write>(out: &mut W) -> io::Result<()> {
-    write!(out, "One gateway answers two displays at once, by PGN {PGN} and with one number;")?;
+    write!(
+        out,
+        "One gateway answers two displays at once, by PGN {PGN} and with one number;"
+    )?;
     writeln!(out, " each byte of an answer is its display's address")?;
-    writeln!(out, "  (as the original | where the key has the destination)")?;
+    writeln!(
+        out,
+        "  (as the original | where the key has the destination)"
+    )?;
     let mut both = Both {
         as_original: Gateway::new(4, Mode::AsOriginal, PoolKind::Original),
         otherwise: Gateway::new(4, Mode::AsOriginal, PoolKind::Addressed),

@@ -30,7 +30,11 @@ impl Gateway {
         match kind {
             Kind::ImpossiblePool | Kind::TooWide => write!(out, "refusal {}", kind.number()),
             Kind::NotListed => write!(out, "{kind:?}, unknown_pgn {}", counters.unknown_pgn),
-            Kind::Rejected => write!(out, "{kind:?}, rejected_frames {}", counters.rejected_frames),
+            Kind::Rejected => write!(
+                out,
+                "{kind:?}, rejected_frames {}",
+                counters.rejected_frames
+            ),
             Kind::PoolFull => write!(out, "{kind:?}, pool_exhausted {}", counters.pool_exhausted),
             Kind::Lost => write!(out, "{kind:?}, lost_fragments {}", counters.lost_fragments),
             Kind::FragmentConsumed | Kind::MessageComplete => write!(out, "{kind:?}"),

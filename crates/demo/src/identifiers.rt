@@ -23,7 +23,11 @@ fn show_reading<W: Write>(out: &mut W, id: CanId) -> io::Result<()> {
 }
 
 fn show_built<W: Write>(out: &mut W, builder: CanIdBuilder) -> io::Result<()> {
-    write!(out, "  PGN {} from {} ", builder.pgn, builder.source_address)?;
+    write!(
+        out,
+        "  PGN {} from {} ",
+        builder.pgn, builder.source_address
+    )?;
     show_destination(out, builder.destination)?;
     match builder.build() {
         Ok(id) => write!(out, ": 0x{:08x}", id.0)?,

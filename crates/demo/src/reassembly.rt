@@ -89,7 +89,10 @@ fn show_cut_frame<W: Write>(out: &mut W) -> io::Result<()> {
     hear_two_bytes(out, &mut g, 10, record, 1)?;
     hear(out, &mut g, 20, record, 2..4)?;
     let filled = Hours(0x13_FFFF);
-    writeln!(out, "  (filled up with 0xFF, the message would have read {filled})")?;
+    writeln!(
+        out,
+        "  (filled up with 0xFF, the message would have read {filled})"
+    )?;
     hear(out, &mut g, 1000, Record::new(35, 1, 0x13_0002), 0..4)?;
     show_counters(out, &g)
 }
@@ -126,9 +129,15 @@ fn both_hear<W: Write>(
 
 // The tail comes half an hour after the clock was set back.
 fn show_clock_set_back<W: Write>(out: &mut W) -> io::Result<()> {
-    write!(out, "The clock is set back by an hour after half of a message;")?;
+    write!(
+        out,
+        "The clock is set back by an hour after half of a message;"
+    )?;
     writeln!(out, " of the next with its number only the tail arrives")?;
-    writeln!(out, "  (as the original | where a clock that was set back is silence)")?;
+    writeln!(
+        out,
+        "  (as the original | where a clock that was set back is silence)"
+    )?;
     let mut both = Both {
         as_original: started(4),
         otherwise: Gateway::new(4, Mode::SetBackIsSilence, PoolKind::Original),
@@ -153,7 +162,10 @@ fn not_taken<W: Write>(
 }
 
 fn show_not_taken<W: Write>(out: &mut W) -> io::Result<()> {
-    write!(out, "A frame that is not taken: the answer says why, and its counter goes up")?;
+    write!(
+        out,
+        "A frame that is not taken: the answer says why, and its counter goes up"
+    )?;
     writeln!(out, " (a pool of one slot)")?;
     let mut g = started(1);
     let record = Record::new(35, 0, 7200);
@@ -163,11 +175,36 @@ fn show_not_taken<W: Write>(out: &mut W) -> io::Result<()> {
     unlisted.pgn = 60928;
     let mut overlong = other.arrival(10, 0);
     overlong.data[1] = 224;
-    not_taken(out, &mut g, "from 36, a PGN that is not in the list", unlisted)?;
-    not_taken(out, &mut g, "from 36, 224 bytes announced, one too many", overlong)?;
-    not_taken(out, &mut g, "from 36, a first frame, and no slot is free", other.arrival(10, 0))?;
-    not_taken(out, &mut g, "from 36, frame 1, and no message is open", other.arrival(10, 1))?;
-    not_taken(out, &mut g, "from 35, frame 2 where frame 1 is next", record.arrival(10, 2))
+    not_taken(
+        out,
+        &mut g,
+        "from 36, a PGN that is not in the list",
+        unlisted,
+    )?;
+    not_taken(
+        out,
+        &mut g,
+        "from 36, 224 bytes announced, one too many",
+        overlong,
+    )?;
+    not_taken(
+        out,
+        &mut g,
+        "from 36, a first frame, and no slot is free",
+        other.arrival(10, 0),
+    )?;
+    not_taken(
+        out,
+        &mut g,
+        "from 36, frame 1, and no message is open",
+        other.arrival(10, 1),
+    )?;
+    not_taken(
+        out,
+        &mut g,
+        "from 35, frame 2 where frame 1 is next",
+        record.arrival(10, 2),
+    )
 }
 
 pub(crate) fn show<W: Write>(out: &mut W) -> io::Result<()> {

@@ -152,7 +152,11 @@ fn write_next<W: Write>(out: &mut W, next: Next) -> io::Result<()> {
     };
     write!(out, " {} ", frame.id.0)?;
     write_bytes(out, &frame.data)?;
-    writeln!(out, " {} {} {}", frame.len, next.frame_index, next.bytes_sent)
+    writeln!(
+        out,
+        " {} {} {}",
+        frame.len, next.frame_index, next.bytes_sent
+    )
 }
 
 fn payload() -> [u8; LONGEST] {
