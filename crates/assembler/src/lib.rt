@@ -20,8 +20,8 @@ pub const DEFAULT_SESSIONS: usize = 4;
 // The buffers of all sessions, end to end.
 pub const POOL_BYTES: usize = POOL_LIMIT * MAX_FAST_PACKET_PAYLOAD;
 
-// A fixed pool of reusable sessions: session k is heads[k] with the MAX_FAST_PACKET_PAYLOAD bytes from MAX_FAST_PACKET_PAYLOAD * k on. Those from
-// `size` on are not used. Kind and mode are those that the pool was made with; no call changes them.
+// A fixed pool of reusable sessions: session k is heads[k] with the MAX_FAST_PACKET_PAYLOAD bytes from MAX_FAST_PACKET_PAYLOAD * k on, as C lends them. Those
+// from `size` on are not used. Kind and mode are those that the pool was made with; no call changes them.
 #[derive(Clone, Copy)]
 pub struct Pool {
     pub kind: PoolKind,
@@ -65,7 +65,8 @@ pub type ArrivalWithLength = WithLength<Arrival>;
 
 pub type ArrivalByIdWithLength = WithLength<ArrivalById>;
 
-// What a call answers where the counters are the caller's own.
+// What a call answers where the counters are the caller's own: a kind with payload and length beside it, the form that document 01 names in the place of the
+// original's enum with its array.
 #[derive(Clone, Copy)]
 pub struct Processed {
     pub kind: Kind,

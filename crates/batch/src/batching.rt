@@ -58,7 +58,7 @@ fn refusal(
     Ok(())
 }
 
-// Takes frames one after the other, as long as the arena has room for their messages.
+// Takes frames one after the other, as long as the arena has room for their messages. A kind is told by its number, since C lends the rows of the answers.
 pub fn process_frames(
     pool: Pool,
     counters: Counters,

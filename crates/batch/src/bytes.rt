@@ -9,7 +9,7 @@ use assembler::POOL_BYTES;
 use fast_packet::MAX_FAST_PACKET_PAYLOAD;
 use session::{CONTINUATION_PAYLOAD, FIRST_DATA, FIRST_FRAME_PAYLOAD, NEXT_DATA, Plan};
 
-// Puts the `n` bytes of `from` from place `start` on at place `at` of `to`.
+// Puts the `n` bytes of `from` from place `start` on at place `at` of `to`. The assembler has the same for itself: no public call has a `requires`.
 pub(crate) fn copy(to: &mut [u8], at: usize, from: &[u8], start: usize, n: usize)
     requires { (at + n ≤ length to.old) × (start + n ≤ length from.now) }
     ensures { to.new ≡ paste to.old at (drop start from.now) n }

@@ -47,7 +47,7 @@ pub(crate) fn key_of_frame(heard: Heard) -> u64
 
 // ---- the rows
 
-// Three rows side by side and no row of structs: a walk reads the keys alone.
+// Three rows side by side and no row of structs: a walk reads the keys alone, and is fast for it.
 #[derive(Drop)]
 pub(crate) struct Mirror {
     pub(crate) keys: [u64; POOL_LIMIT],

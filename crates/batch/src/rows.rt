@@ -14,7 +14,7 @@ fn eight(data: &[u8], at: usize) -> [u8; 8]
     out
 }
 
-// A time, a PGN, a source and eight bytes for each frame.
+// A time, a PGN, a source and eight bytes for each frame, in rows as C lends them.
 #[derive(Clone, Copy)]
 pub struct FrameRows<'a> {
     pub times: &'a [u64],

@@ -10,7 +10,7 @@ use session::{
     FIRST_FRAME_PAYLOAD, Found, Head, Heard, Mode, POOL_LIMIT, PoolKind, look, nothing_found,
 };
 
-// What the single call's walk sees. The batch asks it once, whether the pool is possible.
+// What the single call's walk sees. The batch asks it once, whether the pool is possible. Each call has its own walk, which its edit `pool_of_32_not_heard` changes.
 #[tactic(auto, using(crate::proofs::Sought::none_looked_at))]
 pub(crate) fn walk(
     kind: PoolKind,

@@ -65,6 +65,7 @@ fn head_over(n: &[u64; POOL_NUMBERS], at: usize, h: Head) -> [u64; HEAD_NUMBERS]
     ]
 }
 
+// No copy_from_slice: `laid_over`, which the entries promise, lays by `sets`, and std's law of a copy speaks of `paste`.
 fn put_head(n: &mut [u64; POOL_NUMBERS], at: usize, h: Head)
     requires { at + head_numbers ≤ head_numbers * pool_limit }
     ensures { n.new ≡ sets n.old at (head_over n.old at h) }
