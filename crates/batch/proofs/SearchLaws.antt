@@ -38,5 +38,3 @@ module _ (mode : Mode) (keys owners lasts : List ℕ) (n : ℕ) (listed : Bool) 
       pub sought_first : (r : ℕ) → quiet f ≡ false → r ≡ chosen_in mode keys owners lasts n key f.source_address f.now_ms → r ≡ sought mode keys owners lasts n listed key f
       unfolding sought pick index_of
       sought_first r q er = er ∙ rw (e, eq-eqb (get_or f.«data» 0 0 % 32) 0 z, q)
-
-pub ruleset seeking = (sought_unlisted, sought_next, sought_quiet, sought_first)

@@ -1,26 +1,19 @@
 -- What the next frame is in each case, by plain facts: `search (needs, framing)` finds the case. Assumes nothing.
-use Rattle.std.proofs.Common.{◌≡◌, ℕ, ◌+◌, ◌%◌, ◌<◌, ◌≤◌, Bool, true, false, ◌||◌, ltb, List, [], Option, Result, Ok, Err, length, refl, ◌∙◌, arith, ne_eqb, le-leb}
+use Rattle.std.proofs.Common.{◌≡◌, ℕ, ◌%◌, ◌<◌, ◌≤◌, Bool, true, false, List, [], Result, Ok, Err, length, refl, ◌∙◌, arith, ne_eqb, le-leb}
 use borrow.Author.Tests.{lt-leb, lt-ltb, le-ltb, eq-eqb}
 use Rattle.base.specs.Pick.{pick}
 use Rattle.base.proofs.Cases.{less?, same?}
 use Rattle.can_id.specs.Build.{of_built, error_number, error_carries, build_of}
 use Rattle.can_id.specs.declared.CanId.{CanId}
 use Rattle.can_id.specs.declared.CanIdBuildError.{CanIdBuildError}
-use Rattle.fast_packet.specs.FastPacket.{listed_in, max_payload}
+use Rattle.fast_packet.specs.FastPacket.{max_payload}
 use Rattle.builder.specs.inner.Laid.{laid_of, laid_step}
 use Rattle.builder.specs.declared.frame_bytes.Laid.{Laid}
-use Rattle.builder.specs.Builder.{new_builder, id_builder}
+use Rattle.builder.specs.Builder.{id_builder}
 use Rattle.builder.specs.Next.{Step, end_step, refused_step, framed_step, built_step, next_of}
 use Rattle.builder.specs.declared.FastPacketBuilder.{FastPacketBuilder}
 
 -- ---- a new builder, as the code comes by its framing
-pub made_with : (pgn source : ℕ) (to : Option ℕ) (p l : List ℕ) (held : ℕ) (t : Bool) → t ≡ listed_in pgn l
-    → record {
-      builder = record { pgn = pgn; source_address = source; destination = to; priority = 6; sequence_id = held % 8; fast = t || ltb 8 (length p) };
-      sequence_id = (held % 8 + 1) % 8;
-    }
-    ≡ new_builder pgn source to p l held
-made_with pgn source to p l held t e = rw e
 
 -- ---- the steps
 module _ (id : ℕ) (b : FastPacketBuilder) (index sent : ℕ) (p : List ℕ) {x : Step} where

@@ -1,21 +1,18 @@
 -- Heads and pools from numbers, and heads laid on numbers. Assumes nothing.
 use Prim.Native.Nat.{ℕ, ◌+◌, ◌*◌, ◌%◌, ◌<◌}
-use mathlib.Core.List.{List, [], ◌∷◌}
-use mathlib.Core.Path.{◌≡◌, refl, sym, ap, subst, ◌∙◌}
+use mathlib.Core.List.{List}
+use mathlib.Core.Path.{◌≡◌, refl, sym, ap, ◌∙◌}
 use lib.ListN.{get_or, set, take, length}
-use lib.Seq.{sets, take-suc, take-suc-set, take_all, length-take-le}
+use lib.Seq.{sets, take-suc-set, take_all}
 use native.Mathlib.Numerals.{add-one}
 use native.Mathlib.Omega.{arith}
-use Rattle.base.specs.Pick.{pick}
 use Rattle.session.specs.Rules.{pool_limit}
 use Rattle.session.specs.Heads.{fresh_head}
 use Rattle.session.specs.declared.Head.{Head}
 use Rattle.session.specs.declared.Mode.{Mode}
 use Rattle.session.specs.declared.PoolKind.{PoolKind}
-use Rattle.assembler.specs.Making.{Made, MakesPoolOf}
-use Rattle.numbers.specs.Numbers.{is_set, laid_on}
-use Rattle.numbers.specs.Pool.{head_numbers, pool_kind_from, head_at, head_over, heads_to, heads_from, laid_to, laid_over, mode_from, size_under, pool_from, MakesPoolAsked}
-use Rattle.numbers.proofs.Sets.{sets_snoc}
+use Rattle.numbers.specs.Numbers.{is_set}
+use Rattle.numbers.specs.Pool.{head_numbers, pool_kind_from, head_at, head_over, heads_to, heads_from, laid_to, laid_over, mode_from, size_under, pool_from}
 
 -- ---- a head and a pool read field by field
 pub head_by : (n : List ℕ) (at : ℕ) {b c d e p w f g h : ℕ}
@@ -31,10 +28,6 @@ unfolding pool_from
 pool_by size mode kind heads bytes h d m s = rw (h, d, m, s) refl
 
 -- ---- a pool made, of the size, the mode and the kind that the numbers stand for
-pub asked_by : (wanted mode kind : ℕ) {s : ℕ} {m : Mode} {d : PoolKind} {r : Made} → s ≡ size_under mode kind wanted → m ≡ mode_from mode → d ≡ pool_kind_from kind → MakesPoolOf d m s r
-    → MakesPoolAsked wanted mode kind r
-asked_by wanted mode kind {s} {m} {r = r} e f g h =
-    subst (λ (n : ℕ). MakesPoolOf (pool_kind_from kind) (mode_from mode) n r) e (subst (λ (x : Mode). MakesPoolOf (pool_kind_from kind) x s r) f (subst (λ (x : PoolKind). MakesPoolOf x m s r) g h))
 
 -- ---- heads read one after the other
 pub read_turn : (n : List ℕ) (k : ℕ) (hs : List Head) (h : Head) → take k hs ≡ heads_to k n → k < length hs → h ≡ head_at n (head_numbers * k) → take (k + 1) (set hs k h) ≡ heads_to (k + 1) n
@@ -44,29 +37,6 @@ read_turn n k hs h e l f = rw (add-one k, take-suc-set hs k h l, e, f)
 pub read_done : (n : List ℕ) (k : ℕ) (hs : List Head) → k ≡ pool_limit → length hs ≡ pool_limit → take k hs ≡ heads_to k n → hs ≡ heads_from n
 unfolding heads_from
 read_done n k hs e l t = sym (take_all k hs (omega (arith, e, l))) ∙ t ∙ ap (λ (j : ℕ). heads_to j n) e
-
--- ---- a head's numbers, one by one
-pub over_by : (n : List ℕ) (at : ℕ) (h : Head) {a b c d e p : ℕ}
-    → a ≡ laid_on (get_or n at 0) (pick (is_set (get_or n at 0)) 1 0) (pick h.in_progress 1 0) → b ≡ laid_on (get_or n (at + 1) 0) (get_or n (at + 1) 0 % 0x100) h.source_address
-    → c ≡ laid_on (get_or n (at + 2) 0) (get_or n (at + 2) 0 % 0x100) h.sequence_id → d ≡ laid_on (get_or n (at + 3) 0) (get_or n (at + 3) 0 % 0x100) h.last_frame_index
-    → e ≡ laid_on (get_or n (at + 4) 0) (get_or n (at + 4) 0 % 0x1_0000_0000) h.pgn
-    → p ≡ laid_on (get_or n (at + 5) 0) (get_or n (at + 5) 0 % 0x1_0000) h.part
-    → a ∷ b ∷ c ∷ d ∷ e ∷ p ∷ h.expected_size ∷ h.current_size ∷ h.last_seen_ms ∷ [] ≡ head_over n at h
-unfolding head_over
-over_by n at h a b c d e p = rw (a, b, c, d, e, p) refl
-
--- ---- and laid
-module _ (n₀ : List ℕ) (at : ℕ) (row : List ℕ) (k : ℕ) {n : List ℕ} (e : n ≡ sets n₀ at (take k row)) where
-  pub put_turn : k < length row → set n (at + k) (get_or row k 0) ≡ sets n₀ at (take (k + 1) row)
-  put_turn l =
-      let there : length (take k row) ≡ k = length-take-le k row (omega arith) in
-      ap (λ (m : List ℕ). set m (at + k) (get_or row k 0)) e
-      ∙ ap (λ (j : ℕ). set (sets n₀ at (take k row)) (at + j) (get_or row k 0)) (sym there)
-      ∙ sym (sets_snoc (take k row) n₀ at (get_or row k 0))
-      ∙ ap (sets n₀ at) (sym (take-suc row k 0 l) ∙ ap (λ (j : ℕ). take j row) (sym (add-one k)))
-
-  pub put_done : {r : List ℕ} → k ≡ length row → row ≡ r → n ≡ sets n₀ at r
-  put_done l f = e ∙ ap (sets n₀ at) (take_all k row (omega (arith, l)) ∙ f)
 
 -- ---- heads laid one after the other
 pub laid_none : (heads : List Head) (n : List ℕ) → n ≡ laid_to 0 n heads

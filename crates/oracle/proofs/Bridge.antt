@@ -381,10 +381,6 @@ module _ (s : Scan) (f : Frame) (clear : s.fault ≡ None) (narrow : is_wide f.i
     pub takes : fault_of s bs f.len ≡ None → scan_frame s f ≡ taken s bs
     takes e = judged (when_false _ _ own (when_false _ _ (ap is_faulty e) refl))
 
-  taken_clear : (taken s bs).fault ≡ None
-  unfolding taken
-  taken_clear = clear
-
   pub adds : scan_frame s f ≡ taken s bs → added_of s f ≡ added s bs
   unfolding added_of
   adds e = ap (λ (u : Scan). take (u.total - s.total) (drop (header_bytes bs) bs)) e

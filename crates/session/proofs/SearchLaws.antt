@@ -1,9 +1,9 @@
--- The cases of the search, as the code meets them: `search (needs, choices)` finds the case. Assumes nothing.
-use Prim.Native.Nat.{ℕ, ◌≤◌, ◌<◌}
+-- The cases of the search, as the code meets them. Assumes nothing.
+use Prim.Native.Nat.{ℕ, ◌<◌}
 use mathlib.Core.Path.{◌≡◌, refl}
 use mathlib.Core.Bool.{Bool, true, false, not, ◌&&◌, ◌||◌}
 use lib.Dec.{eqb}
-use borrow.Author.Tests.{lt-ltb, le-ltb}
+use borrow.Author.Tests.{lt-ltb}
 use Rattle.base.specs.Pick.{pick}
 use Rattle.session.specs.declared.Head.{Head}
 use Rattle.session.specs.declared.Heard.{Heard}
@@ -26,12 +26,6 @@ either_no b x y e = rw e
 pub first_here : (a b : ℕ) → a < pool_limit → a ≡ first_of a b
 unfolding first_of pick
 first_here a b l = rw (lt-ltb a pool_limit l)
-
-pub first_there : (a b : ℕ) → pool_limit ≤ a → b ≡ first_of a b
-unfolding first_of pick
-first_there a b l = rw (le-ltb a pool_limit l)
-
-pub ruleset choices = (either_yes, either_no, first_here, first_there)
 
 -- ---- one head: what each of the calls gave, put together
 pub look_is : (d : PoolKind) (m : Mode) (f : Heard) (h : Head) (s : Found) (i : ℕ) (silent keyed bad : Bool) (key live own free : ℕ)

@@ -45,10 +45,6 @@ module _ (R : Rules) (f : Heard) (n : ℕ) (hs : List Head) where
           let small : n ≤ pool_limit = ltb-false pool_limit n e in
           among {s = s} {i = i} small (omega arith) (rw ei (es ∙ seen_none R f n hs (omega (arith, w))))
 
-  pub walk_low : (s : Found) (i : ℕ) → Walk R f n hs s i → i ≤ pool_limit
-  walk_low s i (crowded h es z) = omega arith
-  walk_low s i (among h l es) = omega arith
-
   pub walk_turn : length hs ≡ pool_limit → (s r : Found) (i : ℕ) (d : Head) → Walk R f n hs s i → 0 < i → r ≡ looked R f (i - 1) (get_or hs (i - 1) d) s → Walk R f n hs r (i - 1)
   walk_turn w s r i d (crowded h es z) l er = absurd (omega arith)
   walk_turn w s r i d (among h g es) l er =

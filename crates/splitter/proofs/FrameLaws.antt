@@ -1,11 +1,10 @@
 -- Laws of a frame's eight bytes. Assumes nothing.
-use Rattle.std.proofs.Common.{◌≡◌, ℕ, suc, ◌+◌, ◌*◌, ◌≤◌, List, [], ◌∷◌, ◌++◌, length, set, take, drop, refl, sym, ap, ◌∙◌, arith, drop_of_length-le, drop-cons}
+use Rattle.std.proofs.Common.{◌≡◌, ℕ, suc, ◌+◌, ◌≤◌, List, [], ◌∷◌, ◌++◌, length, set, take, drop, refl, sym, ap, ◌∙◌, arith, drop_of_length-le, drop-cons}
 use borrow.Rule.Slice.PartMut.{put_mid}
 use lib.Seq.{sets, take_all}
 use Rattle.std.proofs.lemmas.List.Edits.{sets-eq}
 use Rattle.std.proofs.lemmas.Slice.{put_mid-paste}
-use Rattle.splitter.specs.Frames.{eight, frame_bytes}
-use Rattle.splitter.specs.declared.Frame.{Frame}
+use Rattle.splitter.specs.Frames.{eight}
 
 pub eight_same : (bs : List ℕ) → length bs ≡ 8 → eight bs ≡ bs
 unfolding eight
@@ -16,10 +15,6 @@ eight_same bs n =
 pub eight_long : (bs : List ℕ) → length (eight bs) ≡ 8
 unfolding eight
 eight_long bs = refl
-
-pub eight_more : (i : ℕ) (f : Frame) → 8 * (i + 1) ≡ 8 * i + length (frame_bytes f)
-unfolding eight
-eight_more i f = omega arith
 
 -- ---- a part of a slice is written over
 pub mid_sets : (l vs : List ℕ) (a k : ℕ) → k ≡ length vs → a + length vs ≤ length l → put_mid a k l vs ≡ sets l a vs

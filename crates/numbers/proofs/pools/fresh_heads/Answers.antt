@@ -1,5 +1,4 @@
 -- `fresh_heads` meets its contract: it passes on what its calls say. Assumes nothing.
-use borrow.Author.Rules.{rules}
 use Rattle.numbers.specs.Pool.{blank_heads}
 use Rattle.numbers.proofs.pools.fresh_heads.Goals as goal
 
