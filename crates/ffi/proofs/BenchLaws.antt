@@ -4,4 +4,3 @@ use mathlib.Core.List.{List}
 use mathlib.Core.Path.{◌≡◌, subst}
 use Rattle.base.specs.Answer.{Answer}
 use Rattle.numbers.specs.Fives.{ToldInFive}
-

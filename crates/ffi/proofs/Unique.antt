@@ -65,6 +65,13 @@ module _ (builder v w : List ℕ) where
   pub hf_raw_builder_build_unique : v ≡ started_place builder → w ≡ started_place builder → v ≡ w
   hf_raw_builder_build_unique = determined
 
+-- lent memory whose parts are equal is equal
+frames_same : (a b : FrameMemory) → a.bytes ≡ b.bytes → a.numbers ≡ b.numbers → a.place ≡ b.place → a ≡ b
+frames_same a b x y z =
+    ap (λ (u : List ℕ). record { bytes = u; numbers = a.numbers; place = a.place }) x
+    ∙ ap (λ (u : List ℕ). record { bytes = b.bytes; numbers = u; place = a.place }) y
+    ∙ ap (λ (u : List ℕ). record { bytes = b.bytes; numbers = b.numbers; place = u }) z
+
 pub hf_raw_next_frame_unique : (builder : List ℕ) (index sent : ℕ) (payload : List ℕ) (r s : ℕ) (a b : FrameMemory)
     → NextFrameLeft builder index sent payload r a → NextFrameLeft builder index sent payload s b → (r ≡ s) × (a ≡ b)
 hf_raw_next_frame_unique builder index sent payload r s a b p q = (
@@ -114,6 +121,16 @@ module _ (size mode kind : ℕ) (pgns : List ℕ) (before : CallMemory) (r s : �
   pub hf_raw_process_frame_by_id_with_length_unique : (x : ArrivalByIdWithLength)
       → FrameByIdWithLengthLeft size mode kind pgns x before r a → FrameByIdWithLengthLeft size mode kind pgns x before s b → (r ≡ s) × (a ≡ b)
   hf_raw_process_frame_by_id_with_length_unique x = leave_unique _ before r s a b
+
+batches_same : (a b : BatchMemory) → a.heads ≡ b.heads → a.bytes ≡ b.bytes → a.counters ≡ b.counters → a.kinds ≡ b.kinds → a.lengths ≡ b.lengths → a.arena ≡ b.arena → a.counts ≡ b.counts → a ≡ b
+batches_same a b h y c k l r t =
+    ap (λ (x : List ℕ). record { heads = x; bytes = a.bytes; counters = a.counters; kinds = a.kinds; lengths = a.lengths; arena = a.arena; counts = a.counts }) h
+    ∙ ap (λ (x : List ℕ). record { heads = b.heads; bytes = x; counters = a.counters; kinds = a.kinds; lengths = a.lengths; arena = a.arena; counts = a.counts }) y
+    ∙ ap (λ (x : List ℕ). record { heads = b.heads; bytes = b.bytes; counters = x; kinds = a.kinds; lengths = a.lengths; arena = a.arena; counts = a.counts }) c
+    ∙ ap (λ (x : List ℕ). record { heads = b.heads; bytes = b.bytes; counters = b.counters; kinds = x; lengths = a.lengths; arena = a.arena; counts = a.counts }) k
+    ∙ ap (λ (x : List ℕ). record { heads = b.heads; bytes = b.bytes; counters = b.counters; kinds = b.kinds; lengths = x; arena = a.arena; counts = a.counts }) l
+    ∙ ap (λ (x : List ℕ). record { heads = b.heads; bytes = b.bytes; counters = b.counters; kinds = b.kinds; lengths = b.lengths; arena = x; counts = a.counts }) r
+    ∙ ap (λ (x : List ℕ). record { heads = b.heads; bytes = b.bytes; counters = b.counters; kinds = b.kinds; lengths = b.lengths; arena = b.arena; counts = x }) t
 
 pub hf_raw_process_frames_unique : (size mode kind : ℕ) (pgns : List ℕ) (rows : Rows) (before : BatchMemory) (r s : ℕ) (a b : BatchMemory)
     → FramesLeft size mode kind pgns rows before r a → FramesLeft size mode kind pgns rows before s b → (r ≡ s) × (a ≡ b)
