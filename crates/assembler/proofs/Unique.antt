@@ -8,6 +8,7 @@ use Rattle.base.specs.Answer.{Answer, gives, refuses}
 use Rattle.can_id.specs.declared.CanIdReadError.{CanIdReadError}
 use Rattle.can_id.specs.declared.CanIdReadError.TheVariants.{TooWide}
 use Rattle.session.specs.declared.Counters.{Counters}
+use Rattle.session.specs.declared.Found.{Found}
 use Rattle.session.specs.declared.Heard.{Heard}
 use Rattle.session.specs.declared.Mode.{Mode}
 use Rattle.session.specs.declared.Mode.TheVariants.{AsOriginal}
@@ -23,7 +24,8 @@ use Rattle.assembler.specs.declared.Processed.{Processed}
 use Rattle.assembler.specs.declared.Received.{Received}
 use Rattle.assembler.specs.Making.{fresh_pool, MakesPoolOf, MakesPoolIn, MakesPool}
 use Rattle.assembler.specs.Arrivals.{of_heard, heard_of, heard_with_length, heard_by_id, heard_by_id_with_length}
-use Rattle.assembler.specs.Promises.{at_original, at_addressed, ReceivesHeard, ProcessesHeard, Receives, ReceivesWithLength, ReceivesById, ReceivesByIdWithLength, Processes, ProcessesWithLength, ProcessesById, ProcessesByIdWithLength}
+use Rattle.session.specs.inner.Search.{found_in}
+use Rattle.assembler.specs.Promises.{rules_of, at_original, at_addressed, ReceivesHeard, ProcessesHeard, Receives, ReceivesWithLength, ReceivesById, ReceivesByIdWithLength, Processes, ProcessesWithLength, ProcessesById, ProcessesByIdWithLength}
 use Rattle.assembler.proofs.Promised.{made_by, received_by, processed_by}
 
 -- ---- making a pool
@@ -84,6 +86,10 @@ module _ (pgns : List ℕ) (pool : Pool) (counters : Counters) where
   pub process_frame_by_id_with_length_unique : (x : ArrivalByIdWithLength) (r s : Processed) (j k : Counters) → ProcessesByIdWithLength pgns x pool counters r j
       → ProcessesByIdWithLength pgns x pool counters s k → (r ≡ s) × (j ≡ k)
   process_frame_by_id_with_length_unique x = heard_lent_unique (at_addressed pool (heard_by_id_with_length x))
+
+-- ---- `Pool::found`
+pub found_unique : (p : Pool) (f : Heard) {r s : Found} → r ≡ found_in (rules_of p) f p.size p.heads → s ≡ found_in (rules_of p) f p.size p.heads → r ≡ s
+found_unique p f = determined
 
 -- ---- what a form of the call hears
 

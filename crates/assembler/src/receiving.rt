@@ -17,8 +17,9 @@ use session::{
 };
 
 impl Pool {
-    // What one walk over the heads finds, from the last to the first. Of a pool that is too large nothing is looked at.
-    fn found(&self, heard: Heard) -> Found
+    // What one walk over the heads finds, from the last to the first. Of a pool that is too large nothing is looked at. The single call asks it at every frame, a
+    // batch once.
+    pub fn found(&self, heard: Heard) -> Found
         ensures { result ≡ found_in (rules_of self.now) heard self.now.size self.now.heads }
     {
         if POOL_LIMIT < self.size {

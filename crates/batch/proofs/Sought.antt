@@ -18,11 +18,10 @@ use Rattle.session.specs.declared.Counter.TheVariants as counter
 use Rattle.session.specs.declared.Counters.{Counters}
 use Rattle.session.specs.declared.Mode.{Mode}
 use Rattle.session.specs.declared.PoolKind.{PoolKind}
-use Rattle.session.specs.declared.Found.{Found}
-use Rattle.session.specs.Rules.{Rules, rules_by, pool_limit, silent_by, three_equal, keys_equal}
+use Rattle.session.specs.Rules.{rules_by, pool_limit, silent_by, three_equal, keys_equal}
 use Rattle.session.specs.Frames.{sequence_of, index_of, size_of, bad_size, bad_first, key_of}
 use Rattle.session.specs.Heads.{copied_head, head_key, has_key, is_silent, is_free, is_free_of_source, has_live_key}
-use Rattle.session.specs.inner.Search.{nothing_found, seen, seen_if, found_in, first_of, place_of, within_limit}
+use Rattle.session.specs.inner.Search.{seen, seen_if, found_in, first_of, place_of, within_limit}
 use Rattle.session.specs.inner.Plan.{Silent, idle, plan_open, plan_short, plan_sized, plan_first, plan_copy, plan_turn, plan_next, plan_index, plan_sent, plan_listed, plan_of}
 use Rattle.base.proofs.Bools.{or_left, or_right}
 use Rattle.session.proofs.Cuts.{eight_sent, eight_bad}
@@ -226,12 +225,6 @@ turn_short f h false = refl
 next_short : (f : Heard) (h : Head) → (plan_next true f h).short ≡ 0
 unfolding plan_next
 next_short f h = turn_short f h _
-
--- ---- a pool that is too large: nothing is looked at
-
-pub none_looked_at : (R : Rules) (f : Heard) (n : ℕ) (hs : List Head) (s : Found) → pool_limit < n → s ≡ nothing_found true → s ≡ found_in R f n hs
-unfolding found_in seen_if
-none_looked_at R f n hs s h e = e ∙ rw (lt-ltb pool_limit n h)
 
 -- ---- the search's place carries the frame out
 

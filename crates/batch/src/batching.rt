@@ -1,8 +1,8 @@
 // The batch call.
 ghost use Rattle.std.specs.Prelude.{◌≡◌, not, ◌||◌, length};
 ghost use Rattle.session.specs.declared.PoolKind.TheVariants.{Original};
-ghost use Rattle.session.specs.Rules.{rules_by};
 ghost use Rattle.session.specs.inner.Search.{found_in};
+ghost use Rattle.session.specs.Rules.{rules_by};
 ghost use Rattle.assembler.specs.Promises.{same_kind};
 ghost use Rattle.batch.specs.Lengths.{too_short};
 ghost use Rattle.batch.specs.Rows.{Batches};
@@ -13,13 +13,10 @@ use crate::list_memory::ListMemory;
 use crate::mirror::Mirror;
 use crate::room::no_room;
 use crate::rows::FrameRows;
-use crate::search::walk;
 use crate::ways::{missed, ran_on, runs_on, short_in};
 use crate::{Batch, BatchError, Taken};
 use assembler::Pool;
-use session::{
-    Counter, Counters, FIRST_DATA, Head, Heard, Kind, Mode, POOL_LIMIT, PoolKind, count, decide,
-};
+use session::{Counter, Counters, FIRST_DATA, Heard, Kind, Mode, PoolKind, count, decide};
 
 // A blank frame: what the pool is looked at with, before the first.
 #[tactic(auto, unfolding(crate::specs::inner::Ways::blank_heard))]
@@ -37,19 +34,11 @@ fn blank() -> Heard
 }
 
 // The refusal, if there is one: of an impossible pool, or one that is handed identifiers, before that of a row that is too short.
-fn refusal(
-    kind: PoolKind,
-    mode: Mode,
-    heads: [Head; POOL_LIMIT],
-    size: usize,
-    frames: FrameRows,
-    kinds: usize,
-    lengths: usize,
-) -> Result<(), BatchError>
-    ensures { result ≡ refusal_of (not (same_kind Original kind) || (found_in (rules_by kind mode) blank_heard size heads).bad) (too_short (length frames.entry.times.now) (length frames.entry.pgns.now) (length frames.entry.sources.now) (length frames.entry.«data».now) kinds lengths) }
+fn refusal(pool: &Pool, frames: FrameRows, kinds: usize, lengths: usize) -> Result<(), BatchError>
+    ensures { result ≡ refusal_of (not (same_kind Original pool.now.kind) || (found_in (rules_by pool.now.kind pool.now.mode) blank_heard pool.now.size pool.now.heads).bad) (too_short (length frames.entry.times.now) (length frames.entry.pgns.now) (length frames.entry.sources.now) (length frames.entry.«data».now) kinds lengths) }
 {
-    let before = walk(kind, mode, heads, size, blank());
-    if (kind != PoolKind::Original) | before.bad {
+    let before = pool.found(blank());
+    if (pool.kind != PoolKind::Original) | before.bad {
         return Err(BatchError::ImpossiblePool);
     }
     if frames.too_short(kinds, lengths) {
@@ -72,27 +61,17 @@ pub fn process_frames(
         kinds.old lengths.old arena.old result kinds.new lengths.new arena.new }
 {
     let mut q = pool;
-    // no frame changes the kind or the mode
-    let kind = q.kind;
-    let mode = q.mode;
-    let heads = q.heads;
-    if let Err(error) = refusal(
-        kind,
-        mode,
-        heads,
-        q.size,
-        frames,
-        kinds.len(),
-        lengths.len(),
-    ) {
+    if let Err(error) = refusal(&q, frames, kinds.len(), lengths.len()) {
         return Batch {
             result: Err(error),
             counters,
             pool: q,
         };
     }
+    // no frame changes the mode
+    let mode = q.mode;
     // what is searched in stands beside the heads, and what the list said is remembered
-    let mut mirror = Mirror::of(heads, q.size);
+    let mut mirror = Mirror::of(q.heads, q.size);
     let mut list = ListMemory::of(pgns);
     let mut c = counters;
     let mut used = 0;

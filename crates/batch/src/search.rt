@@ -1,35 +1,11 @@
 // The search for a slot.
 ghost use Rattle.std.specs.Prelude.{◌≡◌, ◌<◌, true, IfSome, slice_index_or, unwrap_or};
-ghost use Rattle.session.specs.Rules.{rules_by, pool_limit};
-ghost use Rattle.session.specs.inner.Search.{found_in};
+ghost use Rattle.session.specs.Rules.{pool_limit};
 ghost use Rattle.batch.specs.inner.Mirror.{InRange, frame_key, sought};
 
 use crate::mirror::{Mirror, key_of_frame};
 use fast_packet::MAX_FAST_PACKET_PAYLOAD;
-use session::{
-    FIRST_FRAME_PAYLOAD, Found, Head, Heard, Mode, POOL_LIMIT, PoolKind, look, nothing_found,
-};
-
-// What the single call's walk sees. The batch asks it once, whether the pool is possible. Each call has its own walk, which its edit `pool_of_32_not_heard` changes.
-#[tactic(auto, using(crate::proofs::Sought::none_looked_at))]
-pub(crate) fn walk(
-    kind: PoolKind,
-    mode: Mode,
-    heads: [Head; POOL_LIMIT],
-    size: usize,
-    heard: Heard,
-) -> Found
-    ensures { result ≡ found_in (rules_by kind mode) heard size heads }
-{
-    if POOL_LIMIT < size {
-        return nothing_found(true);
-    }
-    let mut s = nothing_found(false);
-    for i in (0..size).rev() {
-        s = look(kind, mode, heads[i], s, i, heard);
-    }
-    s
-}
+use session::{FIRST_FRAME_PAYLOAD, Heard, Mode};
 
 impl Mirror {
     // The place that a frame of a listed PGN takes, if it takes one.

@@ -79,12 +79,12 @@ pub(crate) fn continuations<W: Write>(out: &mut W) -> io::Result<()> {
 // ---- making a pool
 
 // The pool that is made, or the fresh one of size 0 beside the refusal.
-pub(crate) fn either(made: Result<Pool, ImpossiblePool>) -> Pool {
+pub(crate) fn pool_of(made: Result<Pool, ImpossiblePool>) -> Pool {
     made.unwrap_or_else(|refused| refused.pool)
 }
 
 pub(crate) fn made(size: usize, mode: Mode, kind: PoolKind) -> Pool {
-    either(Pool::with_kind(size, mode, kind))
+    pool_of(Pool::with_kind(size, mode, kind))
 }
 
 fn show_made<W: Write>(
@@ -97,7 +97,7 @@ fn show_made<W: Write>(
         Ok(_) => write!(out, "fresh")?,
         Err(_) => write!(out, "refusal 1")?,
     }
-    let pool = either(made);
+    let pool = pool_of(made);
     write!(out, ", size {}", pool.size)?;
     Ok(pool)
 }

@@ -9,7 +9,7 @@ use Rattle.batch.proofs.RowLaws.{refused_bad, refused_short, refused_none}
 use denote.Enum.Bare.{sameb}
 use Rattle.session.specs.contracts.PoolKind.{the_type}
 use Rattle.session.specs.declared.PoolKind.{PoolKind}
-use Rattle.assembler.specs.Promises.{same_kind}
+use Rattle.assembler.specs.Promises.{rules_of, same_kind}
 use Rattle.session.specs.declared.PoolKind.TheVariants.{Original, Addressed}
 use mathlib.Core.Bool.{not}
 use Rattle.batch.proofs.batching.refusal.Goals as goal
@@ -25,10 +25,13 @@ differs Original e = e
 differs Addressed e = e
 
 pub returns-then-ne-before : goal.returns-then-ne-before
-returns-then-ne-before c = refused_bad _ _ _ (looked _ _ _ (differs c.args.kind c.ne.ensures) c.walk-before.ensures c.blank.ensures) c.if-ne-before.true
+unfolding rules_of
+returns-then-ne-before c = refused_bad _ _ _ (looked _ _ _ (differs c.args.pool.now.kind c.ne.ensures) c.found-before.ensures c.blank.ensures) c.if-ne-before.true
 
 pub returns-then-too_short : goal.returns-then-too_short
-returns-then-too_short c = refused_short _ _ _ (looked _ _ _ (differs c.args.kind c.ne.ensures) c.walk-before.ensures c.blank.ensures) c.if-ne-before.false _ c.too_short.ensures c.if-too_short.true
+unfolding rules_of
+returns-then-too_short c = refused_short _ _ _ (looked _ _ _ (differs c.args.pool.now.kind c.ne.ensures) c.found-before.ensures c.blank.ensures) c.if-ne-before.false _ c.too_short.ensures c.if-too_short.true
 
 pub returns : goal.returns
-returns c = refused_none _ _ _ (looked _ _ _ (differs c.args.kind c.ne.ensures) c.walk-before.ensures c.blank.ensures) c.if-ne-before.false _ c.too_short.ensures c.if-too_short.false
+unfolding rules_of
+returns c = refused_none _ _ _ (looked _ _ _ (differs c.args.pool.now.kind c.ne.ensures) c.found-before.ensures c.blank.ensures) c.if-ne-before.false _ c.too_short.ensures c.if-too_short.false
