@@ -16,7 +16,7 @@ use Rattle.ffi.specs.Ids.{builder_of_parts, set_of, both_of}
 use Rattle.ffi.specs.Frames.{next_with, turn_with}
 use Rattle.ffi.specs.Batches.{batch_in}
 use Rattle.no_three.specs.NoThree.{NotThree, NoneIsThree, NoThree}
-use Rattle.no_three.proofs.Sending.{Other, OtherStep, wide_other, error_other, read_other, read_case_other, build_other, next_other, built_case_other, next_case_other}
+use Rattle.no_three.proofs.Sending.{Other, OtherStep, wide_other, error_other, read_other, read_case_other, heard_case_other, build_other, next_other, built_case_other, next_case_other}
 use Rattle.no_three.proofs.Receiving.{size_other, made_other, kind_other, batch_other}
 use Rattle.no_three.proofs.Bench.{counted_other, split_other, delivered_other, check_other, split_case_other, reassembled_case_other, checked_case_other}
 
@@ -56,6 +56,7 @@ no_three =
       can_id_builder_build = λ b r h. by_answer h (build_other b);
       can_id_read_error_number = λ e r h. by h (wide_other e);
       can_id_build_error_number = λ e r h. by h (error_other e);
+      arrive_heard = λ a r h. heard_case_other r;
       fast_packet_builder_next_frame = λ b index sent payload r h. by_step h (next_other b index sent payload);
       frame_iterator_next = λ t payload r h. by_step (ap (λ (x : Turn). x.answer) h) (next_other t.builder t.frame_index t.bytes_sent payload);
       pool_new = λ wanted r h. by_answer h.answer (size_other wanted);

@@ -15,6 +15,8 @@ use Rattle.can_id.specs.declared.CanId.{CanId}
 use Rattle.can_id.specs.declared.CanFrame.{CanFrame}
 use Rattle.can_id.specs.declared.CanIdParts.{CanIdParts}
 use Rattle.can_id.specs.declared.CanIdReadError.{CanIdReadError}
+use Rattle.session.specs.declared.Heard.{Heard}
+use Rattle.assembler.specs.Arrivals.{of_heard}
 use Rattle.can_id.specs.declared.CanIdReadError.TheVariants.{TooWide}
 use Rattle.builder.specs.Builder.{id_builder}
 use Rattle.builder.specs.Next.{Step, of_answer, framed_step, built_step, next_of}
@@ -37,6 +39,10 @@ wide_other TooWide = omega arith
 pub read_case_other : (r : Result CanIdParts CanIdReadError) → Other (of_read r)
 read_case_other (Ok p) = omega arith
 read_case_other (Err e) = wide_other e
+
+pub heard_case_other : (r : Result Heard CanIdReadError) → Other (of_heard r)
+heard_case_other (Ok f) = omega arith
+heard_case_other (Err e) = wide_other e
 
 -- ---- building
 to_other : (t : Option ℕ) (b : CanIdBuilder) → Other (build_to t b)

@@ -32,7 +32,7 @@ use Rattle.assembler.specs.Promises.{entered, ReceivesHeard, ProcessesHeard}
 use Rattle.assembler.specs.declared.Pool.{Pool}
 use Rattle.assembler.specs.declared.Arrival.{Arrival}
 use Rattle.assembler.specs.declared.ArrivalById.{ArrivalById}
-use Rattle.assembler.specs.Arrivals.{ArrivalByIdWithLength}
+use Rattle.assembler.specs.Arrivals.{ArrivalByIdWithLength, of_heard}
 use Rattle.assembler.specs.Arrivals.{ArrivalWithLength}
 use Rattle.assembler.specs.declared.Received.{Received}
 use Rattle.assembler.specs.declared.Processed.{Processed}
@@ -70,6 +70,7 @@ pub record NoThree : Type 0 where
   pub can_id_builder_build : (b : CanIdBuilder) (r : Result CanId CanIdBuildError) → of_built r ≡ build_of b → NotThree (code_of (of_built r))
   pub can_id_read_error_number : (e : CanIdReadError) (r : ℕ) → r ≡ read_number e → NotThree r
   pub can_id_build_error_number : (e : CanIdBuildError) (r : ℕ) → r ≡ error_number e → NotThree r
+  pub arrive_heard : (a : Answer Heard) (r : Result Heard CanIdReadError) → of_heard r ≡ a → NotThree (code_of (of_heard r))
   pub fast_packet_builder_next_frame : (b : FastPacketBuilder) (index sent : ℕ) (payload : List ℕ) (r : Next)
       → of_next r ≡ next_of b index sent payload → NotThree (next_code (of_answer r.answer))
   pub frame_iterator_next : (t : FrameIterator) (payload : List ℕ) (r : Item) → turn_of r ≡ next_turn t payload → NotThree (next_code (of_answer r.answer))
@@ -140,7 +141,7 @@ pub record NoThree : Type 0 where
 -- `CanId::builder`, `CanIdBuilder::new`, `CanIdBuilder::with_priority`, `CanIdBuilder::to_destination`, `CanIdBuilder::priority`, `CanIdBuilder::destination`,
 -- `is_listed`, `fill_short`, `FastPacketBuilder::new`, `FastPacketBuilder::with_sequence_id`, `FastPacketBuilder::with_priority`,
 -- `FastPacketBuilder::to_destination`, `FastPacketBuilder::build`, `count`, `fresh_head`, `look`, `nothing_found`, `place_for`, `within_limit`, `Pool::default`,
--- `Pool::found`,
+-- `Pool::found`, `FrameRow::count`, `FrameRow::frame`,
 -- `frame_count`; the entries `hf_fill_short`, `hf_raw_builder_new`, `hf_raw_builder_with_sequence_id`, `hf_raw_builder_with_priority`,
 -- `hf_raw_builder_to_destination`, `hf_raw_builder_build`, `hf_frame_count`; and below them `split_count`, `builder_from`, `builder_numbers`, `lay_made`,
 -- `after_numbers`, `iterator_from`, `place_numbers`, `go_on`, `destination_from`, `address_number`, `put_heads`, `pool_from`, `counters_from`,

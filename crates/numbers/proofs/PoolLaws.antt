@@ -1,6 +1,6 @@
 -- Heads and pools from numbers, and heads laid on numbers. Assumes nothing.
 use Prim.Native.Nat.{ℕ, ◌+◌, ◌*◌, ◌%◌, ◌<◌}
-use mathlib.Core.List.{List}
+use mathlib.Core.List.{List, [], ◌∷◌}
 use mathlib.Core.Path.{◌≡◌, refl, sym, ap, ◌∙◌}
 use lib.ListN.{get_or, set, take, length}
 use lib.Seq.{sets, take-suc-set, take_all}
@@ -11,8 +11,9 @@ use Rattle.session.specs.Heads.{fresh_head}
 use Rattle.session.specs.declared.Head.{Head}
 use Rattle.session.specs.declared.Mode.{Mode}
 use Rattle.session.specs.declared.PoolKind.{PoolKind}
-use Rattle.numbers.specs.Numbers.{is_set}
+use Rattle.numbers.specs.Numbers.{is_set, laid_on}
 use Rattle.numbers.specs.Pool.{head_numbers, pool_kind_from, head_at, head_over, heads_to, heads_from, laid_to, laid_over, mode_from, size_under, pool_from}
+use Rattle.base.specs.Pick.{pick}
 
 -- ---- a head and a pool read field by field
 pub head_by : (n : List ℕ) (at : ℕ) {b c d e p w f g h : ℕ}
@@ -37,6 +38,16 @@ read_turn n k hs h e l f = rw (add-one k, take-suc-set hs k h l, e, f)
 pub read_done : (n : List ℕ) (k : ℕ) (hs : List Head) → k ≡ pool_limit → length hs ≡ pool_limit → take k hs ≡ heads_to k n → hs ≡ heads_from n
 unfolding heads_from
 read_done n k hs e l t = sym (take_all k hs (omega (arith, e, l))) ∙ t ∙ ap (λ (j : ℕ). heads_to j n) e
+
+-- ---- a head's numbers, one by one
+pub over_by : (n : List ℕ) (at : ℕ) (h : Head) {a b c d e p : ℕ}
+    → a ≡ laid_on (get_or n at 0) (pick (is_set (get_or n at 0)) 1 0) (pick h.in_progress 1 0) → b ≡ laid_on (get_or n (at + 1) 0) (get_or n (at + 1) 0 % 0x100) h.source_address
+    → c ≡ laid_on (get_or n (at + 2) 0) (get_or n (at + 2) 0 % 0x100) h.sequence_id → d ≡ laid_on (get_or n (at + 3) 0) (get_or n (at + 3) 0 % 0x100) h.last_frame_index
+    → e ≡ laid_on (get_or n (at + 4) 0) (get_or n (at + 4) 0 % 0x1_0000_0000) h.pgn
+    → p ≡ laid_on (get_or n (at + 5) 0) (get_or n (at + 5) 0 % 0x1_0000) h.part
+    → a ∷ b ∷ c ∷ d ∷ e ∷ p ∷ h.expected_size ∷ h.current_size ∷ h.last_seen_ms ∷ [] ≡ head_over n at h
+unfolding head_over
+over_by n at h a b c d e p = rw (a, b, c, d, e, p) refl
 
 -- ---- heads laid one after the other
 pub laid_none : (heads : List Head) (n : List ℕ) → n ≡ laid_to 0 n heads

@@ -8,7 +8,7 @@ use lib.ListN.{length, get_or, drop}
 use lib.Seq.{get_or-drop, sets}
 use Rattle.std.proofs.lemmas.List.{at_drop_more}
 use Rattle.splitter.specs.Frames.{eight, count_in}
-use Rattle.oracle.specs.Rows.{frame_in, frames_in, row_in}
+use Rattle.oracle.specs.Rows.{no_frame, frame_in, frames_in, row_in}
 use Rattle.oracle.specs.inner.Scan.{scan_frame, scan_of, added_of, row_of, bytes_laid, rows_laid, Counted}
 use Rattle.oracle.specs.inner.Tx.{tx_of, tx_all}
 use Rattle.splitter.specs.declared.Frame.{Frame}
@@ -66,9 +66,9 @@ pub counts_tx : (i : ℕ) (s : Tx) {t : Tx} (f : Frame) → Counted i s.scan →
 counts_tx i s f c e = rw e (kept_count i s f c)
 
 -- ---- along a row: what is left of it at place i, and one frame on
-module _ (fs : List Frame) (i : ℕ) (f : Frame) {n : ℕ} (en : n ≡ length fs) (h : i < n) (ef : f ≡ get_or fs i f) where
+module _ (fs : List Frame) (i : ℕ) (f : Frame) {n : ℕ} (en : n ≡ length fs) (h : i < n) (ef : f ≡ get_or fs i no_frame) where
   one_more : {A : Type 0} (P : List Frame → A) → P (drop i fs) ≡ P (f ∷ drop (i + 1) fs)
-  one_more P = at_drop_more P fs i f (omega arith) ∙ ap (λ (g : Frame). P (g ∷ drop (i + 1) fs)) (sym ef)
+  one_more P = at_drop_more P fs i no_frame (omega arith) ∙ ap (λ (g : Frame). P (g ∷ drop (i + 1) fs)) (sym ef)
 
   pub scan_on : (s₀ s : Scan) {t : Scan} → t ≡ scan_frame s f → scan_of s (drop i fs) ≡ scan_of s₀ fs → scan_of t (drop (i + 1) fs) ≡ scan_of s₀ fs
   scan_on s₀ s et e = ap (λ (u : Scan). scan_of u (drop (i + 1) fs)) et ∙ sym (one_more (scan_of s)) ∙ e

@@ -1,7 +1,11 @@
 -- The row of frames that separate number slices stand for.
-use Rattle.std.specs.Prelude.{ℕ, zero, suc, ◌+◌, ◌*◌, List, [], ◌∷◌, length, get_or, drop}
+use Rattle.std.specs.Prelude.{ℕ, zero, suc, ◌+◌, ◌*◌, List, [], ◌∷◌, length, get_or, drop, replicate}
 use Rattle.splitter.specs.Frames.{eight, count_in}
 use Rattle.splitter.specs.declared.Frame.{Frame}
+
+-- where a row has no frame there are zeros in its place
+abbrev pub no_frame : Frame
+no_frame = record { id = 0; «data» = replicate 8 0; len = 0 }
 
 -- frame i has the identifier at i, the eight bytes from 8 × i on, and the length at i
 unfoldable pub frame_in : List ℕ → List ℕ → List ℕ → ℕ → Frame

@@ -2,9 +2,16 @@
 ghost use Rattle.std.specs.Prelude.{◌≡◌, ◌≤◌, ◌<◌, ◌+◌, List, length, drop, get_or};
 ghost use Rattle.splitter.specs.Frames.{eight};
 ghost use Rattle.splitter.specs.declared.Frame.{Frame};
-ghost use Rattle.oracle.specs.Rows.{row_in};
+ghost use Rattle.oracle.specs.Rows.{no_frame, row_in};
 
 use splitter::{FRAME_BYTES, Frame, frame_count};
+
+// What stands for a frame that a row does not have.
+const NO_FRAME: Frame = Frame {
+    id: 0,
+    data: [0; 8],
+    len: 0,
+};
 
 // A lent row of frames, whichever way its memory holds them.
 pub trait FrameRow {
@@ -14,9 +21,9 @@ pub trait FrameRow {
     fn count(&self) -> usize
         ensures { (result ≡ length (frames self.now)) × (result ≤ 0x2000_0000_0000_0000) };
 
+    // The frame at place i; zeros where the row has none there.
     fn frame(&self, i: usize) -> Frame
-        requires { i < length (frames self.now) }
-        ensures { result ≡ get_or (frames self.now) i result };
+        ensures { result ≡ get_or (frames self.now) i no_frame };
 }
 
 impl<'a> FrameRow for &'a [Frame] {
@@ -27,7 +34,7 @@ impl<'a> FrameRow for &'a [Frame] {
     }
 
     fn frame(&self, i: usize) -> Frame {
-        self[i]
+        if i < self.len() { self[i] } else { NO_FRAME }
     }
 }
 
@@ -63,6 +70,9 @@ impl<'a> FrameRow for SliceRow<'a> {
     }
 
     fn frame(&self, i: usize) -> Frame {
+        if self.count() <= i {
+            return NO_FRAME;
+        }
         Frame {
             id: self.ids[i],
             data: eight_in(self.bytes, FRAME_BYTES * i),

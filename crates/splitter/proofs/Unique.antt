@@ -39,3 +39,8 @@ pub fast_packet_rows_unique : (id sequence : ℕ) (payload ids bytes lens : List
     → SplitsIntoSlices id sequence payload ids bytes lens r i b l → SplitsIntoSlices id sequence payload ids bytes lens s j c m → (r ≡ s) × (i ≡ j) × (b ≡ c) × (l ≡ m)
 fast_packet_rows_unique id sequence payload ids bytes lens p q =
     (determined_by of_split back_split split_back p.answer q.answer, determined p.ids_after q.ids_after, determined p.bytes_after q.bytes_after, determined p.lens_after q.lens_after)
+
+-- of a local that is lent: an answer and a row, as of any other
+pub fast_packet_frames_into_unique : (id sequence : ℕ) (payload : List ℕ) (row : List Frame) {r s : Result ℕ SplitError} {l m : List Frame}
+    → SplitsInto id sequence payload row r l → SplitsInto id sequence payload row s m → (r ≡ s) × (l ≡ m)
+fast_packet_frames_into_unique = fast_packet_frames_unique
