@@ -41,14 +41,32 @@ fn public(text: &str) -> Vec<Public<'_>> {
     let definitions: BTreeSet<&str> = imported.flat_map(|l| words(l.split_once('{').unwrap().1)).collect();
     let lines: Vec<&str> = text.lines().collect();
     let mut of = String::new();
+    let mut in_trait = false;
     let mut found = vec![];
     for (at, line) in lines.iter().enumerate() {
         if let Some(name) = line.strip_prefix("impl ") {
             of = name.trim_end_matches(['{', ' ']).to_string() + "::";
+        } else if let Some(name) = line.strip_prefix("pub trait ") {
+            of = name.split([':', '<', ' ']).next().unwrap().to_string() + "::";
+            in_trait = true;
         } else if *line == "}" {
             of.clear();
+            in_trait = false;
         }
         let head = line.trim_start();
+        // a method of a public trait is a public call too; it has no body here, and its contract ends the item
+        if let (true, Some(rest)) = (in_trait, head.strip_prefix("fn ")) {
+            let last = lines[at..].iter().position(|l| l.trim_end().ends_with(';')).unwrap();
+            let contract = lines[at..=at + last].join("\n");
+            let said = words(contract.split_once("ensures").map_or("", |c| c.1));
+            found.push(Public {
+                call: of.clone() + rest.split(['(', '<']).next().unwrap(),
+                is_export: false,
+                stated: in_one_line(contract.split_once("fn ").unwrap().1),
+                body: String::new(),
+                cited: definitions.iter().copied().filter(|d| said.contains(d)).collect(),
+            });
+        }
         let exported = head.strip_prefix("pub extern \"C\" fn ");
         if let Some(rest) = head.strip_prefix("pub fn ").or(exported) {
             // its body opens on a line of its own, and ends on one
