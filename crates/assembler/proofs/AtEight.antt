@@ -55,14 +55,14 @@ module _ (a : Arrival) (eight : length a.«data» ≡ 8) (n : ℕ) (all : 8 ≤ 
       rw (most, take_all 8 a.«data» (omega (arith, eight)), fill_all 8 a.«data» eight)
 
   module _ (pgns : List ℕ) (pool : Pool) (counters : Counters) where
-    -- `receive_with_length` and `process_frame_with_length_through` promise what `receive` and `process_frame_through` do, and the other way round
+    -- `receive` of an `ArrivalWithLength` promises what `receive` of an `Arrival` does, and the other way round
     pub received_at_eight : (r : Received) → ReceivesWithLength pgns sent pool counters r → Receives pgns a pool counters r
     received_at_eight r h = subst (λ (f : Heard). ReceivesHeard pgns (at_original pool f) pool counters r) heard_eight h
 
     pub received_as_eight : (r : Received) → Receives pgns a pool counters r → ReceivesWithLength pgns sent pool counters r
     received_as_eight r h = subst (λ (f : Heard). ReceivesHeard pgns (at_original pool f) pool counters r) (sym heard_eight) h
 
-    -- and so do `process_frame_with_length` and `process_frame`
+    -- and so does `process_frame`
     pub processed_at_eight : (r : Processed) (after : Counters) → ProcessesWithLength pgns sent pool counters r after → Processes pgns a pool counters r after
     processed_at_eight r after h = subst (λ (f : Heard). ProcessesHeard pgns (at_original pool f) pool counters r after) heard_eight h
 

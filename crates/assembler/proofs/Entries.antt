@@ -17,6 +17,7 @@ use Rattle.can_id.specs.Layout.{pgn_pf, reserved_of, data_page_of, pf_of, ps_of,
 use Rattle.can_id.specs.Read.{parts_of, read_of}
 use Rattle.session.specs.declared.Counters.{Counters}
 use Rattle.session.specs.declared.Heard.{Heard}
+use Rattle.session.specs.declared.Kind.{Kind}
 use Rattle.session.specs.declared.Kind.TheVariants.{ImpossiblePool}
 use denote.Enum.Bare.{sameb}
 use Rattle.session.specs.contracts.PoolKind.{the_type}
@@ -150,6 +151,12 @@ ok_by_id_with_length p pgns x ok = go (leb 0x2000_0000 x.arrival.id.0)
     go : (b : Bool) → FrameOk (rules_of p) pgns (at_addressed p (all_cut_to x.length (heard_from x.arrival (pick b (refuses 8 []) (gives (parts_of x.arrival.id.0))))))
     go true = unfold entered in refused
     go false = ok_entered Addressed p pgns _ (filled_ok x.length x.arrival.«data» ok) (part_fits_lem x.arrival.id.0)
+
+-- ---- a refusal, as the code tells it
+
+pub told_refused : {kind told : Kind} {payload : List ℕ} {length : ℕ} {p : Pool} {k : Counters} → (told ≡ kind) × (payload ≡ zeros) × (length ≡ 0)
+    → ◌≡◌ {A = Received} (record { kind = told; payload = payload; length = length; pool = p; counters = k }) (refused_as kind p k)
+told_refused e = rw (e.0, e.1, e.2)
 
 -- ---- the entry of a kind, as the code tests it
 

@@ -14,3 +14,4 @@ pub mod Unsent
 pub mod OneWalk
 pub mod OldKind
 pub mod MakingLaws
+pub mod Crowded

@@ -1,6 +1,7 @@
 -- Two outcomes that satisfy a call's contract are equal. Assumes nothing.
 use Prim.Native.Nat.{ℕ}
 use mathlib.Core.Path.{◌≡◌, refl}
+use mathlib.Core.Bool.{Bool}
 use Rattle.std.proofs.Common.{Result as ResultOf, Ok, Err}
 use mathlib.Core.List.{List}
 use Rattle.base.proofs.Cases.{determined, determined_by}
@@ -8,6 +9,8 @@ use Rattle.base.specs.Answer.{Answer, gives, refuses}
 use Rattle.can_id.specs.declared.CanIdReadError.{CanIdReadError}
 use Rattle.can_id.specs.declared.CanIdReadError.TheVariants.{TooWide}
 use Rattle.session.specs.declared.Counters.{Counters}
+use Rattle.assembler.specs.Slots.{impossible}
+use Rattle.assembler.specs.View.{slots_of}
 use Rattle.session.specs.declared.Found.{Found}
 use Rattle.session.specs.declared.Heard.{Heard}
 use Rattle.session.specs.declared.Mode.{Mode}
@@ -87,7 +90,10 @@ module _ (pgns : List ℕ) (pool : Pool) (counters : Counters) where
       → ProcessesByIdWithLength pgns x pool counters s k → (r ≡ s) × (j ≡ k)
   process_frame_by_id_with_length_unique x = heard_lent_unique (at_addressed pool (heard_by_id_with_length x))
 
--- ---- `Pool::found`
+-- ---- `Pool::is_impossible`, and the walk below it
+pub is_impossible_unique : (p : Pool) {r s : Bool} → r ≡ impossible (rules_of p) (slots_of p) → s ≡ impossible (rules_of p) (slots_of p) → r ≡ s
+is_impossible_unique p = determined
+
 pub found_unique : (p : Pool) (f : Heard) {r s : Found} → r ≡ found_in (rules_of p) f p.size p.heads → s ≡ found_in (rules_of p) f p.size p.heads → r ≡ s
 found_unique p f = determined
 

@@ -30,6 +30,7 @@ use Rattle.assembler.specs.View.{slots_from, slots_of, receive_of}
 use Rattle.assembler.specs.Promises.{same_kind}
 use Rattle.assembler.proofs.Views.{Whole, any_view}
 use Rattle.assembler.proofs.Carries.{carried, Does, slot_long}
+use Rattle.assembler.proofs.Crowded.{looked_at}
 use Rattle.batch.proofs.WayLaws.{short_plan, run_plan}
 use Rattle.std.specs.Prelude.{Result, Ok, Err, is_err}
 use Rattle.batch.specs.declared.BatchError.{BatchError}
@@ -97,17 +98,6 @@ fitting n w ks ls e =
       kinds = ltb-false _ _ (or_left (ltb (length ks) n) _ e3);
       lengths = ltb-false _ _ e4;
     }
-
--- ---- the pool is looked at before the first frame
-
-pub looked_at : (R : Rules) (f : Heard) (p : Pool) → R.limit ≡ pool_limit → (found_in R f p.size p.heads).bad ≡ impossible R (slots_of p)
-unfolding found_in seen_if nothing_found impossible slots_of
-looked_at R f p limit = go (ltb pool_limit p.size) refl R.limit limit
-  where
-    go : (b : Bool) → ltb pool_limit p.size ≡ b → (n : ℕ) → n ≡ pool_limit
-        → (seen_if b R f p.size p.heads).bad ≡ (ltb n p.size || any (on_head (impossible_head R)) (take p.size (slots_from p.heads p.bytes)))
-    go true e n en = rw (en, e)
-    go false e n en = rw (en, e, any_view (impossible_head R) p.size p.heads p.bytes) (seen_bad R f (take p.size p.heads) 0)
 
 -- ---- plans
 

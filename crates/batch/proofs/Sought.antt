@@ -41,7 +41,7 @@ use Rattle.assembler.proofs.Carries.{carried, Fits, Does, receives}
 use Rattle.batch.specs.inner.Mirror.{packed, key_number, frame_key, InRange, Keyed, Shows, Mirrors, first_from, key_at, open_at, own_at, live_at, chosen_in, live_in, quiet, sought}
 use Rattle.batch.specs.inner.Ways.{short_in, miss_kind, miss_mark, runs_on}
 use Rattle.batch.proofs.WayLaws.{plan_missed, short_plan, plan_short_lem, run_plan, plan_runs}
-use Rattle.batch.proofs.Runs.{looked_at}
+use Rattle.assembler.proofs.Crowded.{looked_at}
 
 -- ---- a packed key tells its four parts apart, where one of the two has none or a destination
 
@@ -232,8 +232,7 @@ pub small_of : (kind : PoolKind) (mode : Mode) (p : Pool) → impossible (rules_
 unfolding impossible slots_of rules_by
 small_of kind mode p fine = ltb-false pool_limit p.size (or_left (ltb pool_limit p.size) _ fine)
 
-module _ (kind : PoolKind) (mode : Mode) (l : List ℕ) (f : Heard) (p : Pool) (k : Counters) (w : Whole p) (eight : length f.«data» ≡ 8) (all : f.length ≡ 8) (e : Head) (fine : impossible (rules_by kind mode) (slots_of p) ≡ false) (ks os ts : List ℕ) (m : Mirrors pool_limit p.heads ks os ts)
-    (r : Keyed f) where
+module _ (kind : PoolKind) (mode : Mode) (l : List ℕ) (f : Heard) (p : Pool) (k : Counters) (w : Whole p) (eight : length f.«data» ≡ 8) (all : f.length ≡ 8) (e : Head) (fine : impossible (rules_by kind mode) (slots_of p) ≡ false) where
   -- with a possible pool, the plan made at place i and carried out there is the call
   abbrev At : Bool → ℕ → Type 0
   At t i = Does f p k (plan_of false t (ltb i pool_limit) (silent_by mode) f (get_or p.heads (within_limit i) e)) (within_limit i) (receive_of (rules_by kind mode) l f p k)
@@ -251,6 +250,11 @@ module _ (kind : PoolKind) (mode : Mode) (l : List ℕ) (f : Heard) (p : Pool) (
   at_unlisted : (i : ℕ) → At false real → At false i
   unfolding plan_of plan_listed
   at_unlisted i x = moves f p k e (still_idle f p k e NotListed (Some counter.Unknown)) (within_limit real) (within_limit i) x
+
+  -- a PGN that is not listed: no key is asked
+  pub seeks_unlisted : false ≡ listed_in f.pgn l → Does f p k (idle NotListed (Some counter.Unknown) (get_or p.heads 0 e)) 0 (receive_of (rules_by kind mode) l f p k)
+  unfolding plan_of plan_listed within_limit pick
+  seeks_unlisted et = at_unlisted 0 (at_real false et)
 
   at_rejected : (i : ℕ) → eqb (index_of f) 0 ≡ true → bad_size f ≡ true → At true real → At true i
   unfolding plan_of plan_listed plan_sent plan_index plan_first plan_sized
@@ -277,72 +281,73 @@ module _ (kind : PoolKind) (mode : Mode) (l : List ℕ) (f : Heard) (p : Pool) (
       go true b = at_rejected i z b x
       go false b = at_short i z b (quiet_short b y) x
 
-  real_first : eqb (index_of f) 0 ≡ true → chosen_in mode ks os ts p.size (frame_key f) f.source_address f.now_ms ≡ real
-  unfolding place_of pick
-  real_first z = rw z (chosen_is kind mode f p.size p.heads ks os ts w.heads (small_of kind mode p fine) m r e)
+  module _ (ks os ts : List ℕ) (m : Mirrors pool_limit p.heads ks os ts) (r : Keyed f) where
+    real_first : eqb (index_of f) 0 ≡ true → chosen_in mode ks os ts p.size (frame_key f) f.source_address f.now_ms ≡ real
+    unfolding place_of pick
+    real_first z = rw z (chosen_is kind mode f p.size p.heads ks os ts w.heads (small_of kind mode p fine) m r e)
 
-  real_next : eqb (index_of f) 0 ≡ false → live_in mode ks ts p.size (frame_key f) f.now_ms ≡ real
-  unfolding place_of pick
-  real_next z = rw z (live_is kind mode f p.size p.heads ks os ts w.heads (small_of kind mode p fine) m r e)
+    real_next : eqb (index_of f) 0 ≡ false → live_in mode ks ts p.size (frame_key f) f.now_ms ≡ real
+    unfolding place_of pick
+    real_next z = rw z (live_is kind mode f p.size p.heads ks os ts w.heads (small_of kind mode p fine) m r e)
 
-  at_index : (b : Bool) → eqb (index_of f) 0 ≡ b → (y : Bool) → quiet f ≡ y → At true real
-      → At true (pick b (pick y pool_limit (chosen_in mode ks os ts p.size (frame_key f) f.source_address f.now_ms)) (live_in mode ks ts p.size (frame_key f) f.now_ms))
-  unfolding pick
-  at_index true z true q x = at_quiet pool_limit z q x
-  at_index true z false q x = subst (At true) (sym (real_first z)) x
-  at_index false z y q x = subst (At true) (sym (real_next z)) x
+    at_index : (b : Bool) → eqb (index_of f) 0 ≡ b → (y : Bool) → quiet f ≡ y → At true real
+        → At true (pick b (pick y pool_limit (chosen_in mode ks os ts p.size (frame_key f) f.source_address f.now_ms)) (live_in mode ks ts p.size (frame_key f) f.now_ms))
+    unfolding pick
+    at_index true z true q x = at_quiet pool_limit z q x
+    at_index true z false q x = subst (At true) (sym (real_first z)) x
+    at_index false z y q x = subst (At true) (sym (real_next z)) x
 
-  at_sought : (t : Bool) → t ≡ listed_in f.pgn l → At t (sought mode ks os ts p.size t (frame_key f) f)
-  unfolding sought pick
-  at_sought true et = at_index (eqb (index_of f) 0) refl (quiet f) refl (at_real true et)
-  at_sought false et = at_unlisted pool_limit (at_real false et)
+    at_sought : (t : Bool) → t ≡ listed_in f.pgn l → At t (sought mode ks os ts p.size t (frame_key f) f)
+    unfolding sought pick
+    at_sought true et = at_index (eqb (index_of f) 0) refl (quiet f) refl (at_real true et)
+    at_sought false et = at_unlisted pool_limit (at_real false et)
 
-  -- as the code comes by it
-  module _ (t : Bool) (et : t ≡ listed_in f.pgn l) (key : ℕ) (ek : key ≡ frame_key f) (i : ℕ) (ei : i ≡ sought mode ks os ts p.size t key f) where
-    at_place : At t i
-    at_place = let at : i ≡ sought mode ks os ts p.size t (frame_key f) f = ei ∙ rw ek in rw at (at_sought t et)
+    -- as the code comes by it
+    module _ (t : Bool) (et : t ≡ listed_in f.pgn l) (key : ℕ) (ek : key ≡ frame_key f) (i : ℕ) (ei : i ≡ sought mode ks os ts p.size t key f) where
+      at_place : At t i
+      at_place = let at : i ≡ sought mode ks os ts p.size t (frame_key f) f = ei ∙ rw ek in rw at (at_sought t et)
 
-    -- no slot
-    at_none : pool_limit ≤ i → Does f p k (plan_of false t false (silent_by mode) f (get_or p.heads 0 e)) 0 (receive_of (rules_by kind mode) l f p k)
-    unfolding within_limit pick
-    at_none past = rw (le-ltb i pool_limit past) at at_place
-
-    pub seeks_missed : pool_limit ≤ i → (s : ℕ) → s ≡ short_in t f → s ≡ 0 → Does f p k (idle (miss_kind t f) (miss_mark t f) (get_or p.heads 0 e)) 0 (receive_of (rules_by kind mode) l f p k)
-    seeks_missed past s es z = rw (plan_missed (silent_by mode) f all (get_or p.heads 0 e) t (sym z ∙ es)) at (at_none past)
-
-    pub seeks_short : pool_limit ≤ i → (s : ℕ) → s ≡ short_in t f → (s ≡ 0 → ⊥) → Does f p k (short_plan f (get_or p.heads 0 e) s) 0 (receive_of (rules_by kind mode) l f p k)
-    seeks_short past s es n = rw es (rw (plan_short_lem (silent_by mode) f all (get_or p.heads 0 e) t (λ z. n (es ∙ z))) at (at_none past))
-
-    -- a slot: then the PGN is listed, and the frame is no message by itself
-    module _ (low : i < pool_limit) where
-      slot_listed : (b : Bool) → t ≡ b → b ≡ true
-      unfolding sought pick
-      slot_listed true e = refl
-      slot_listed false e = absurd (omega (arith, low, rw e at ei))
-
-      at_slot : Does f p k (plan_of false true true (silent_by mode) f (get_or p.heads i e)) i (receive_of (rules_by kind mode) l f p k)
+      -- no slot
+      at_none : pool_limit ≤ i → Does f p k (plan_of false t false (silent_by mode) f (get_or p.heads 0 e)) 0 (receive_of (rules_by kind mode) l f p k)
       unfolding within_limit pick
-      at_slot = rw (lt-ltb i pool_limit low, slot_listed t refl) at at_place
+      at_none past = rw (le-ltb i pool_limit past) at at_place
 
-      pub seeks_slot : (d : Plan) → d ≡ plan_of false true true (silent_by mode) f (get_or p.heads i e) → Does f p k d i (receive_of (rules_by kind mode) l f p k)
-      seeks_slot d ed = rw ed at_slot
+      pub seeks_missed : pool_limit ≤ i → (s : ℕ) → s ≡ short_in t f → s ≡ 0 → Does f p k (idle (miss_kind t f) (miss_mark t f) (get_or p.heads 0 e)) 0 (receive_of (rules_by kind mode) l f p k)
+      seeks_missed past s es z = rw (plan_missed (silent_by mode) f all (get_or p.heads 0 e) t (sym z ∙ es)) at (at_none past)
 
-      pub seeks_running : (b : Bool) → b ≡ runs_on f (get_or p.heads i e) → b ≡ true → Does f p k (run_plan f (get_or p.heads i e)) i (receive_of (rules_by kind mode) l f p k)
-      seeks_running b eb y = rw (plan_runs (silent_by mode) f all (get_or p.heads i e) (sym eb ∙ y)) at at_slot
+      pub seeks_short : pool_limit ≤ i → (s : ℕ) → s ≡ short_in t f → (s ≡ 0 → ⊥) → Does f p k (short_plan f (get_or p.heads 0 e) s) 0 (receive_of (rules_by kind mode) l f p k)
+      seeks_short past s es n = rw es (rw (plan_short_lem (silent_by mode) f all (get_or p.heads 0 e) t (λ z. n (es ∙ z))) at (at_none past))
 
-      slot_loud : eqb (index_of f) 0 ≡ true → (y : Bool) → quiet f ≡ y → y ≡ false
-      unfolding sought pick
-      slot_loud z true q = absurd (omega (arith, low, rw (slot_listed t refl, z, q) at ei))
-      slot_loud z false q = refl
+      -- a slot: then the PGN is listed, and the frame is no message by itself
+      module _ (low : i < pool_limit) where
+        slot_listed : (b : Bool) → t ≡ b → b ≡ true
+        unfolding sought pick
+        slot_listed true e = refl
+        slot_listed false e = absurd (omega (arith, low, rw e at ei))
 
-      slot_index : (h : Head) (b : Bool) → eqb (index_of f) 0 ≡ b → (plan_index b true (silent_by mode) f h).short ≡ 0
-      unfolding plan_index plan_first
-      slot_index h true z = loud_sized (silent_by mode) f h (slot_loud z (quiet f) refl) (bad_first f)
-      slot_index h false z = next_short f h
+        at_slot : Does f p k (plan_of false true true (silent_by mode) f (get_or p.heads i e)) i (receive_of (rules_by kind mode) l f p k)
+        unfolding within_limit pick
+        at_slot = rw (lt-ltb i pool_limit low, slot_listed t refl) at at_place
 
-      pub slot_alone : (d : Plan) (h : Head) → d ≡ plan_of false true true (silent_by mode) f h → d.short ≡ 0
-      unfolding plan_of plan_listed plan_sent
-      slot_alone d h ed = ap (λ (x : Plan). x.short) ed ∙ rw (eight_sent f all) (slot_index h (eqb (index_of f) 0) refl)
+        pub seeks_slot : (d : Plan) → d ≡ plan_of false true true (silent_by mode) f (get_or p.heads i e) → Does f p k d i (receive_of (rules_by kind mode) l f p k)
+        seeks_slot d ed = rw ed at_slot
+
+        pub seeks_running : (b : Bool) → b ≡ runs_on f (get_or p.heads i e) → b ≡ true → Does f p k (run_plan f (get_or p.heads i e)) i (receive_of (rules_by kind mode) l f p k)
+        seeks_running b eb y = rw (plan_runs (silent_by mode) f all (get_or p.heads i e) (sym eb ∙ y)) at at_slot
+
+        slot_loud : eqb (index_of f) 0 ≡ true → (y : Bool) → quiet f ≡ y → y ≡ false
+        unfolding sought pick
+        slot_loud z true q = absurd (omega (arith, low, rw (slot_listed t refl, z, q) at ei))
+        slot_loud z false q = refl
+
+        slot_index : (h : Head) (b : Bool) → eqb (index_of f) 0 ≡ b → (plan_index b true (silent_by mode) f h).short ≡ 0
+        unfolding plan_index plan_first
+        slot_index h true z = loud_sized (silent_by mode) f h (slot_loud z (quiet f) refl) (bad_first f)
+        slot_index h false z = next_short f h
+
+        pub slot_alone : (d : Plan) (h : Head) → d ≡ plan_of false true true (silent_by mode) f h → d.short ≡ 0
+        unfolding plan_of plan_listed plan_sent
+        slot_alone d h ed = ap (λ (x : Plan). x.short) ed ∙ rw (eight_sent f all) (slot_index h (eqb (index_of f) 0) refl)
 
 -- ---- a possible pool stays possible
 

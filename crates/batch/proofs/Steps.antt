@@ -1,6 +1,6 @@
 -- One frame, from what the code has found out about it: after each of its four ways the run has gone on by one, the pool is possible and the rows
 -- beside the heads show them. Assumes nothing.
-use Rattle.std.proofs.Common.{◌≡◌, ℕ, ◌+◌, ◌*◌, ◌<◌, ◌≤◌, Bool, true, false, ltb, List, length, get_or, drop, set, refl, ap, ◌∙◌, arith}
+use Rattle.std.proofs.Common.{◌≡◌, ℕ, ◌+◌, ◌*◌, ◌<◌, ◌≤◌, Bool, true, false, ltb, List, length, get_or, slice_index, Some, drop, set, refl, ap, ◌∙◌, arith}
 use lib.Seq.{paste}
 use Rattle.base.specs.Answer.{gives}
 use Rattle.fast_packet.specs.FastPacket.{listed_in}
@@ -11,7 +11,8 @@ use Rattle.session.specs.declared.Counters.{Counters}
 use Rattle.session.specs.declared.Kind.{Kind}
 use Rattle.session.specs.Kinds.{kind_number}
 use Rattle.session.specs.declared.Mode.{Mode}
-use Rattle.session.specs.declared.Kind.TheVariants.{FragmentConsumed, MessageComplete}
+use Rattle.session.specs.declared.Kind.TheVariants.{FragmentConsumed, MessageComplete, NotListed}
+use Rattle.session.specs.declared.Counter.TheVariants.{Unknown}
 use Rattle.session.specs.declared.PoolKind.{PoolKind}
 use Rattle.session.specs.declared.PoolKind.TheVariants.{Original}
 use Rattle.session.specs.Rules.{rules_by, pool_limit, silent_by}
@@ -28,7 +29,7 @@ use Rattle.batch.specs.inner.Mirror.{InRange, Keyed, Mirrors, key_number, frame_
 use Rattle.batch.specs.inner.Ways.{short_in, miss_kind, miss_mark, runs_on}
 use Rattle.batch.proofs.WayLaws.{run_plan}
 use Rattle.batch.proofs.Runs.{Running, goes_missed, goes_short, goes_running, goes_by, stops_short, stops_by, frame_long, row_part, row_fits}
-use Rattle.batch.proofs.Sought.{seeks_missed, seeks_short, seeks_slot, seeks_running, slot_alone, stays_possible, runs_possible}
+use Rattle.batch.proofs.Sought.{seeks_unlisted, seeks_missed, seeks_short, seeks_slot, seeks_running, slot_alone, stays_possible, runs_possible}
 use Rattle.batch.proofs.Mirrors.{mirrors_set, mirrors_run}
 
 module _ (kind : PoolKind) (mode : Mode) (l : List ℕ) (w : Rows) (p₀ : Pool) (k₀ : Counters) (ks₀ ls₀ ar₀ : List ℕ) where
@@ -42,6 +43,21 @@ module _ (kind : PoolKind) (mode : Mode) (l : List ℕ) (w : Rows) (p₀ : Pool)
   -- the batch ends here
   abbrev Ends : List ℕ → List ℕ → List ℕ → Pool → Counters → ℕ → ℕ → Type 0
   Ends ks ls ar q c used i = record { answer = gives i; used = used; counters = c; pool = q; kinds = ks; lengths = ls; arena = ar } ≡ leaves (run_of (rules_by kind mode) l w (length ar₀) p₀ k₀) ks₀ ls₀ ar₀
+
+  -- a PGN that is not listed: nothing is looked for, and of the frame nothing more is read
+  pub step_unlisted : (ks ls ar : List ℕ) (q : Pool) (keys owners lasts : List ℕ) (c : Counters) (used i : ℕ) → Stands ks ls ar q keys owners lasts c used i → i < length w.times → false ≡ listed_in (slice_index w.pgns i) l
+      → (v : ℕ) → v ≡ kind_number NotListed → (m : Counters) → m ≡ raised (Some Unknown) c → Stands (set ks i v) (set ls i 0) ar q keys owners lasts m used (i + 1)
+  unfolding frame_in_rows
+  step_unlisted ks ls ar q keys owners lasts c used i s turn missing v ev m em =
+      let f : Heard = frame_in_rows w i in
+      let long : length f.«data» ≡ 8 = frame_long w i (length w.times) f turn s.run.fit.bytes refl in
+      let does = seeks_unlisted kind mode l f q c s.run.whole long refl fresh_head s.possible missing in
+      record {
+        run = goes_missed (rules_by kind mode) l w p₀ k₀ ks₀ ls₀ ar₀ ks ls ar q c used i s.run turn f refl 0 (omega arith) long fresh_head NotListed (Some Unknown) does m em v ev;
+        own = s.own;
+        possible = s.possible;
+        mirrors = s.mirrors;
+      }
 
   module _ (ks ls ar : List ℕ) (q : Pool) (keys owners lasts : List ℕ) (c : Counters) (used i : ℕ) (s : Stands ks ls ar q keys owners lasts c used i) (turn : i < length w.times) (f : Heard) (row : f ≡ frame_in_rows w i) (t : Bool) (et : t ≡ listed_in f.pgn l)
       (range : InRange f.source_address f.pgn (get_or f.«data» 0 0)) (g : ℕ) (eg : g ≡ sought mode keys owners lasts q.size t (frame_key f) f) where

@@ -10,7 +10,7 @@ use fast_packet::MAX_FAST_PACKET_PAYLOAD;
 use session::{CONTINUATION_PAYLOAD, FIRST_DATA, FIRST_FRAME_PAYLOAD, NEXT_DATA, Plan};
 
 // Puts the `n` bytes of `from` from place `start` on at place `at` of `to`. The assembler has the same for itself: no public call has a `requires`.
-pub(crate) fn copy(to: &mut [u8], at: usize, from: &[u8], start: usize, n: usize)
+fn copy(to: &mut [u8], at: usize, from: &[u8], start: usize, n: usize)
     requires { (at + n ≤ length to.old) × (start + n ≤ length from.now) }
     ensures { to.new ≡ paste to.old at (drop start from.now) n }
 {
@@ -36,6 +36,14 @@ fn store(out: &mut [u8; POOL_BYTES], at: usize, frame: [u8; 8], from: usize, n: 
         }
     }
     copy(out, at, &frame, from, n);
+}
+
+// Puts the message of a short first frame at place `at` of the arena.
+pub(crate) fn deliver(arena: &mut [u8], at: usize, frame: [u8; 8], n: usize)
+    requires { (at + n ≤ length arena.old) × (n ≤ 6) }
+    ensures { arena.new ≡ paste arena.old at (drop 2 frame) n }
+{
+    copy(arena, at, &frame, FIRST_DATA, n);
 }
 
 // Keeps the seven bytes of a continuation at place `at` of the buffer of slot g.
@@ -66,5 +74,8 @@ pub(crate) fn carry(
 {
     let start = g * MAX_FAST_PACKET_PAYLOAD;
     store(bytes, start + d.at, frame, d.from, d.count);
-    copy(arena, used, bytes, start, d.whole);
+    // a frame that opens a session brings no message
+    if d.whole != 0 {
+        copy(arena, used, bytes, start, d.whole);
+    }
 }

@@ -17,8 +17,10 @@ impl Mirror {
         if data[0] % 32 != 0 {
             return self.first_live(mode, key, heard.now_ms);
         }
-        let announced = usize::from(data[1]);
-        if (announced <= FIRST_FRAME_PAYLOAD) | (MAX_FAST_PACKET_PAYLOAD < announced) {
+        let announced = data[1];
+        if (announced <= FIRST_FRAME_PAYLOAD as u8)
+            | ((MAX_FAST_PACKET_PAYLOAD as u8) < announced)
+        {
             return None;
         }
         self.choose(mode, key, heard.source_address, heard.now_ms)

@@ -1,7 +1,10 @@
 // The bench: refusals 20 to 28 of strict reassembly and the splitter, 30 to 37 of the transmit check; 8 and 29 are in wide.rt. Each row is given twice, in
 // separate slices and as frames, and what the second says follows on a line of its own.
 use crate::frame_rows::{ROW_FRAMES, blank_row, count_of, row_of};
-use oracle::{CheckError, Fault, ReassembleError, SliceRow, check_tx, reassemble};
+use oracle::{
+    CheckError, Fault, ReassembleError, SliceRow, check_tx, check_tx_row, reassemble,
+    reassemble_row,
+};
 use splitter::{Frame, SplitError, fast_packet_frames, fast_packet_rows};
 use std::io::{self, Write};
 
@@ -49,7 +52,7 @@ pub(crate) fn judge<W: Write>(
     arena: &mut [u8],
 ) -> io::Result<()> {
     write!(out, "{words}: ")?;
-    show_reassembled(out, reassemble(slices, SOURCE, PGN, list, arena))?;
+    show_reassembled(out, reassemble_row(slices, SOURCE, PGN, list, arena))?;
     let row = row_of(slices);
     let frames = &row[..count_of(slices)];
     write!(out, "  as frames: ")?;
@@ -189,7 +192,7 @@ pub(crate) fn check<W: Write>(
     base: u32,
 ) -> io::Result<()> {
     write!(out, "{words}: ")?;
-    show_checked(out, check_tx(slices, SOURCE, expected, base))?;
+    show_checked(out, check_tx_row(slices, SOURCE, expected, base))?;
     let row = row_of(slices);
     write!(out, "  as frames: ")?;
     show_checked(
@@ -269,7 +272,7 @@ fn check_two<W: Write>(
         lens: &sent.lens,
     };
     write!(out, "{words}: ")?;
-    show_checked(out, check_tx(slices, SOURCE, expected, base))?;
+    show_checked(out, check_tx_row(slices, SOURCE, expected, base))?;
     let row = sent_frames(first, sequence, second);
     write!(out, "  as frames: ")?;
     show_checked(out, check_tx(&row[..], SOURCE, expected, base))

@@ -1,8 +1,11 @@
 -- The laws that the proofs of `fast_packet` go by: what the list has, and the bytes of a frame cut short. Assumes nothing.
-use Rattle.std.proofs.Common.{◌≡◌, ℕ, zero, suc, ◌≤◌, min, Bool, eqb, List, [], ◌∷◌, ◌++◌, length, take, drop, replicate, sym, refl, ap, ◌∙◌, arith, ne_eqb}
+use Rattle.std.proofs.Common.{◌≡◌, ℕ, zero, suc, ◌+◌, ◌-◌, ◌<◌, ◌≤◌, min, Bool, eqb, List, [], ◌∷◌, ◌++◌, length, get_or, take, drop, set, replicate, sym, refl, ap, ◌∙◌, arith, ne_eqb}
 use Rattle.std.specs.List.{list_any}
 use Rattle.base.proofs.Cases.{same?}
 use Rattle.base.specs.Lists.{any, fill}
+use Rattle.base.proofs.Fills.{get_or_in, pasted, fill_none, fill_turn, fill_done}
+use lib.ListN.{length-take, get_or-eq_default}
+use lib.Seq.{get_or-take}
 use Rattle.fast_packet.specs.FastPacket.{listed_in, filled_from}
 
 -- ---- the list
@@ -34,18 +37,23 @@ fill_parts (suc n) zero s h = absurd (omega arith)
 fill_parts (suc n) (suc m) [] h = absurd (omega arith)
 fill_parts (suc n) (suc m) (x ∷ s) h = ap (λ (t : List ℕ). x ∷ t) (fill_parts n m s (omega arith))
 
-take_twice : (n : ℕ) (s : List ℕ) → take n (take n s) ≡ take n s
-take_twice zero s = refl
-take_twice (suc n) [] = refl
-take_twice (suc n) (x ∷ s) = ap (λ (t : List ℕ). x ∷ t) (take_twice n s)
+-- ---- the bytes of a frame cut short
+module _ (bytes : List ℕ) (len i : ℕ) (eight : length bytes ≡ 8) (inside : i < 8) where
+  pub kept_byte : i < len → get_or bytes i 0 ≡ get_or (take (min len 8) bytes) i 255
+  kept_byte h = get_or_in bytes i 0 255 (omega arith) ∙ sym (get_or-take (min len 8) bytes i 255 (omega arith))
 
-length_kept : (n : ℕ) (s : List ℕ) → n ≤ length s → length (take n s) ≡ n
-length_kept zero s h = refl
-length_kept (suc n) [] h = absurd (omega arith)
-length_kept (suc n) (x ∷ s) h = ap suc (length_kept n s (omega arith))
+  pub filled_byte : len ≤ i → 255 ≡ get_or (take (min len 8) bytes) i 255
+  filled_byte h = sym (get_or-eq_default (take (min len 8) bytes) 255 (simp length-take (omega arith)))
 
-pub cut_short : (bytes : List ℕ) (len k : ℕ) {l : List ℕ} → length bytes ≡ 8 → k ≡ min len 8 → l ≡ take k bytes → l ++ drop k (replicate 8 255) ≡ filled_from len bytes
-unfolding filled_from
-cut_short bytes len k eight e el =
-    let m : k ≡ min 8 (length (take k bytes)) = rw (length_kept k bytes (omega arith)) (omega arith) in
-    rw (el, ← e, ← fill_parts k 8 (take k bytes) m, take_twice k bytes) refl
+-- ---- the loop that writes the frame, `d` being what it starts from: a turn, and the last list is the definition's
+module _ (bytes d : List ℕ) (len k : ℕ) (out : List ℕ) (eight : length d ≡ 8) (e : out ≡ pasted d 0 (take (min len 8) bytes) k) where
+  pub cut_turn : (x : ℕ) → k < 8 → x ≡ get_or (take (min len 8) bytes) k 255 → set out k x ≡ pasted d 0 (take (min len 8) bytes) (k + 1)
+  cut_turn x h g =
+      let z : k - 0 ≡ k = omega arith in
+      fill_turn d 0 (take (min len 8) bytes) k x out eight (omega arith) h e (rw z g)
+
+  pub cut_done : k ≤ 8 → 8 ≤ k → out ≡ filled_from len bytes
+  unfolding filled_from
+  cut_done h g = fill_done d 0 (take (min len 8) bytes) k out eight (omega arith) g (omega arith) e
+
+pub ruleset cutting = (fill_none, cut_turn, cut_done)

@@ -1,7 +1,7 @@
 // NMEA 2000 Fast Packet: what the builder and the assembler share.
 #![tactic(auto)]
 
-ghost use Rattle.std.specs.Prelude.{◌≡◌};
+ghost use Rattle.std.specs.Prelude.{◌≡◌, ◌<◌, min, get_or, take};
 ghost use Rattle.fast_packet.specs.FastPacket.{listed_in, filled_from};
 
 // Maximum payload a Fast Packet can transport once reassembled.
@@ -18,13 +18,23 @@ pub fn is_listed(pgns: &[u32], pgn: u32) -> bool
     pgns.contains(&pgn)
 }
 
-// The first min(len, 8) bytes of a frame, and 0xFF after them.
-#[tactic(auto, using(crate::proofs::Laws::cut_short))]
+// The byte at place i of a frame of which `len` bytes were sent.
+#[tactic(auto, using(crate::proofs::Laws::kept_byte, crate::proofs::Laws::filled_byte))]
+fn byte_or_fill(data: [u8; 8], len: usize, i: usize) -> u8
+    requires { i < 8 }
+    ensures { result ≡ get_or (take (min len 8) «data») i 255 }
+{
+    if i < len { data[i] } else { FILL }
+}
+
+// The first min(len, 8) bytes of a frame, and 0xFF after them. No copy_from_slice: eight places are filled without a call, where a copy of a length not known
+// is one, and takes half as long again.
 pub fn fill_short(data: [u8; 8], len: usize) -> [u8; 8]
     ensures { result ≡ filled_from len «data» }
 {
-    let kept = len.min(8);
     let mut out = [FILL; 8];
-    out[..kept].copy_from_slice(&data[..kept]);
+    for k in 0..8 {
+        out[k] = byte_or_fill(data, len, k);
+    }
     out
 }

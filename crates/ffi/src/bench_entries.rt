@@ -4,7 +4,7 @@ ghost use Rattle.splitter.specs.Frames.{count_in};
 ghost use Rattle.ffi.specs.BenchEntries.{ReassemblesInNumbers, SplitsInNumbers, ChecksTxInNumbers};
 
 use numbers::{split_count, split_number, told_checked, told_reassembled};
-use oracle::{SliceRow, check_tx, reassemble};
+use oracle::{SliceRow, check_tx_row, reassemble_row};
 use splitter::{fast_packet_rows, frame_count};
 
 // The frames are rows of identifiers, eight bytes a frame, and lengths; the shortest row decides. 0 and in values[0] the number of messages, or a
@@ -22,7 +22,7 @@ pub fn hf_reassemble(
     ensures { ReassemblesInNumbers ids.now bytes.now lens.now source pgn list.old arena.old
         result list.new arena.new values.new }
 {
-    let r = reassemble(SliceRow { ids, bytes, lens }, source, pgn, list, arena);
+    let r = reassemble_row(SliceRow { ids, bytes, lens }, source, pgn, list, arena);
     told_reassembled(r, values)
 }
 
@@ -63,6 +63,6 @@ pub fn hf_check_tx(
 ) -> u32
     ensures { ChecksTxInNumbers ids.now bytes.now lens.now source expected hours_base result values.new }
 {
-    let c = check_tx(SliceRow { ids, bytes, lens }, source, expected, hours_base);
+    let c = check_tx_row(SliceRow { ids, bytes, lens }, source, expected, hours_base);
     told_checked(c, values)
 }

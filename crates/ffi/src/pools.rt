@@ -6,7 +6,7 @@ ghost use Rattle.ffi.specs.inner.Calls.{HeardLeft};
 
 use assembler::{
     Arrival, ArrivalById, ArrivalByIdWithLength, ArrivalWithLength, Arrive, POOL_BYTES, Pool,
-    Processed, Received, process_frame, receive,
+    Received, process_frame, receive,
 };
 use can_id::CanId;
 use fast_packet::MAX_FAST_PACKET_PAYLOAD;
@@ -100,17 +100,13 @@ fn processed<A: Arrive>(
 {
     let pool = pool_from(size, mode, kind, heads, bytes);
     let mut after = counters_from(counters);
-    let Processed {
-        kind: answered,
-        payload: message,
-        length: sent,
-        pool: left,
-    } = process_frame(pool, &mut after, pgns, arrival);
+    let answer = process_frame(pool, &mut after, pgns, arrival);
+    let message = answer.payload;
     let r = Received {
-        kind: answered,
+        kind: answer.kind,
         payload: message,
-        length: sent,
-        pool: left,
+        length: answer.length,
+        pool: answer.pool,
         counters: after,
     };
     leave(r, heads, bytes, counters, payload, length)

@@ -1,4 +1,4 @@
--- A run of mixed calls: `process_frame` hears the first frame of a message of twenty bytes, `receive_with_length` its first continuation, `process_frames` its
+-- A run of mixed calls: `process_frame` hears the first frame of a message of twenty bytes, `receive` of an `ArrivalWithLength` its first continuation, `process_frames` its
 -- second, and the batch delivers it in its arena. The run exists, and what it says is computed.
 -- Assumes nothing.
 use mathlib.Core.List.{List, [], ◌∷◌, ◌++◌}

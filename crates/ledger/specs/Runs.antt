@@ -86,7 +86,7 @@ unfoldable pub calls_of : List ℕ → Rows → ℕ → ℕ → List Call
 calls_of list w zero i = []
 calls_of list w (suc n) i = call list (frame_in_rows w i) ∷ calls_of list w n (suc i)
 
--- the kind of answer that has this number; a batch writes the first six and no other (`told` of the crate batch), so that no refusal is read off a row
+-- the kind of answer that has this number; a batch writes the first six and no other (`missed`, `Kind::number` of what `process_frames` writes), so that no refusal is read off a row
 unfoldable pub kind_of_number : ℕ → Kind
 kind_of_number n =
     pick (eqb n 102) FragmentConsumed
@@ -115,7 +115,7 @@ pub data Called (z : State) : List Call → State → Type 0 where
   -- `receive`, of an `ArrivalWithLength`
   received_with_length : (pgns : List ℕ) (x : ArrivalWithLength) {r : Received} → EightBytes x.arrival.«data» → ReceivesWithLength pgns x z.pool z.counters r
       → Called z (calls_heard pgns (at_original z.pool (heard_with_length x))) (after_entry (at_original z.pool (heard_with_length x)) z r)
-  -- `process_frame`, and `process_frame_with_length`
+  -- `process_frame`, of an `Arrival` and of an `ArrivalWithLength`
   processed : (pgns : List ℕ) (a : Arrival) {r : Processed} {after : Counters} → EightBytes a.«data» → Processes pgns a z.pool z.counters r after
       → Called z (calls_heard pgns (at_original z.pool (heard_of a))) (after_lent (at_original z.pool (heard_of a)) z r after)
   processed_with_length : (pgns : List ℕ) (x : ArrivalWithLength) {r : Processed} {after : Counters} → EightBytes x.arrival.«data» → ProcessesWithLength pgns x z.pool z.counters r after
@@ -126,7 +126,7 @@ pub data Called (z : State) : List Call → State → Type 0 where
   -- `receive`, of an `ArrivalByIdWithLength`
   received_by_id_with_length : (pgns : List ℕ) (x : ArrivalByIdWithLength) {r : Received} → EightBytes x.arrival.«data» → ReceivesByIdWithLength pgns x z.pool z.counters r
       → Called z (calls_heard pgns (at_addressed z.pool (heard_by_id_with_length x))) (after_entry (at_addressed z.pool (heard_by_id_with_length x)) z r)
-  -- `process_frame_by_id`, and `process_frame_by_id_with_length`
+  -- `process_frame`, of an `ArrivalById` and of an `ArrivalByIdWithLength`
   processed_by_id : (pgns : List ℕ) (a : ArrivalById) {r : Processed} {after : Counters} → EightBytes a.«data» → ProcessesById pgns a z.pool z.counters r after
       → Called z (calls_heard pgns (at_addressed z.pool (heard_by_id a))) (after_lent (at_addressed z.pool (heard_by_id a)) z r after)
   processed_by_id_with_length : (pgns : List ℕ) (x : ArrivalByIdWithLength) {r : Processed} {after : Counters} → EightBytes x.arrival.«data» → ProcessesByIdWithLength pgns x z.pool z.counters r after

@@ -95,6 +95,9 @@ pub record NoThree : Type 0 where
       → SplitsIntoSlices id sequence payload ids bytes lens r ids' bytes' lens' → NotThree (code_of (of_split r))
   pub reassemble : (frames : List Frame) (source pgn : ℕ) (list arena list' arena' : List ℕ) (r : Result ℕ ReassembleError)
       → Reassembles frames source pgn list arena r list' arena' → NotThree (code_of (of_reassembled r))
+  pub reassemble_row : (frames : List Frame) (source pgn : ℕ) (list arena list' arena' : List ℕ) (r : Result ℕ ReassembleError)
+      → Reassembles frames source pgn list arena r list' arena' → NotThree (code_of (of_reassembled r))
+  pub check_tx_row : (frames : List Frame) (source expected hours : ℕ) (r : Result (Unit {0}) CheckError) → ChecksTx frames source expected hours r → NotThree (code_of (of_checked r))
   pub check_tx : (frames : List Frame) (source expected hours : ℕ) (r : Result (Unit {0}) CheckError) → ChecksTx frames source expected hours r → NotThree (code_of (of_checked r))
   -- ---- the entries, by what each returns
   pub hf_can_id_read : (id code : ℕ) (before after : List ℕ) → IdRead id before code after → NotThree code
@@ -141,7 +144,7 @@ pub record NoThree : Type 0 where
 -- `CanId::builder`, `CanIdBuilder::new`, `CanIdBuilder::with_priority`, `CanIdBuilder::to_destination`, `CanIdBuilder::priority`, `CanIdBuilder::destination`,
 -- `is_listed`, `fill_short`, `FastPacketBuilder::new`, `FastPacketBuilder::with_sequence_id`, `FastPacketBuilder::with_priority`,
 -- `FastPacketBuilder::to_destination`, `FastPacketBuilder::build`, `count`, `fresh_head`, `look`, `nothing_found`, `place_for`, `within_limit`, `Pool::default`,
--- `Pool::found`, `FrameRow::count`, `FrameRow::frame`,
+-- `Pool::is_impossible`, `FrameRow::count`, `FrameRow::frame`,
 -- `frame_count`; the entries `hf_fill_short`, `hf_raw_builder_new`, `hf_raw_builder_with_sequence_id`, `hf_raw_builder_with_priority`,
 -- `hf_raw_builder_to_destination`, `hf_raw_builder_build`, `hf_frame_count`; and below them `split_count`, `builder_from`, `builder_numbers`, `lay_made`,
 -- `after_numbers`, `iterator_from`, `place_numbers`, `go_on`, `destination_from`, `address_number`, `put_heads`, `pool_from`, `counters_from`,

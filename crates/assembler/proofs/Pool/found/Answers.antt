@@ -1,11 +1,11 @@
 -- `Pool::found` meets its contract: what is seen from place i on. Assumes nothing.
-use Rattle.std.proofs.Common.{◌≡◌, ◌≤◌, length, refl, sym, ap, ◌∙◌, arith, rules, le-ltb}
+use Rattle.std.proofs.Common.{◌≡◌, ◌≤◌, length, sym, ap, ◌∙◌, arith, rules, le-ltb}
 use Rattle.base.specs.Pick.{pick}
 use Rattle.session.specs.Rules.{pool_limit}
 use Rattle.session.specs.inner.Search.{nothing_found}
 use Rattle.assembler.specs.Promises.{rules_of}
 use Rattle.assembler.proofs.Copies.{length_unmap}
-use Rattle.session.proofs.Walks.{Walk, crowded, walk_start, walk_turn, walk_done}
+use Rattle.session.proofs.Walks.{Walk, walk_start, walk_turn, walk_done}
 use Rattle.assembler.proofs.Pool.found.Goals as goal
 
 pub loop-i-init : goal.loop-i-init
@@ -25,8 +25,3 @@ loop-i-preserved c = let inv = c.loop-i.invariant in
 
 pub returns : goal.returns
 returns c = walk_done _ _ _ _ _ _ c.loop-i.invariant.2 c.loop-i-test.false
-
-pub returns-then-self-gt-POOL_LIMIT : goal.returns-then-self-gt-POOL_LIMIT
-returns-then-self-gt-POOL_LIMIT c = let p = c.args.self.now in
-    let walk : Walk (rules_of p) c.args.heard p.size p.heads c.nothing_found.result 0 = crowded c.if-self-gt-POOL_LIMIT.true c.nothing_found.ensures refl in
-    walk_done _ _ _ _ _ _ walk (omega arith)

@@ -14,54 +14,54 @@ use Rattle.assembler.proofs.receiving.receive_heard.Goals as goal
 pub overflow_add-start : goal.overflow_add-start
 unfolding rules_of rules_by
 overflow_add-start c = let a = c.args in
-    let whole : Whole a.pool = record { heads = search (rules, length_unmap); bytes = search rules } in
+    let whole : Whole a.pool.now = record { heads = search (rules, length_unmap); bytes = search rules } in
     let eight : length a.heard.«data» ≡ 8 = search rules in
-    let fits = (planned (rules_by a.pool.kind a.pool.mode) (same_limit a.pool.kind a.pool.mode) _ a.heard a.pool a.counters whole eight _ _ _ _ _ _ c.found-seen.ensures c.is_listed-listed.ensures c.place_for-place.ensures c.within_limit-g.ensures.0 c.decide-plan.ensures).fits in
+    let fits = (planned (rules_by a.pool.now.kind a.pool.now.mode) (same_limit a.pool.now.kind a.pool.now.mode) _ a.heard a.pool.now a.counters.now whole eight _ _ _ _ _ _ c.found-seen.ensures c.is_listed-listed.ensures c.place_for-place.ensures c.within_limit-g.ensures.0 c.decide-plan.ensures).fits in
     let low = c.within_limit-g.ensures.1 in
     omega (arith, fits.room, low)
 
 pub copy-requires : goal.copy-requires
 unfolding rules_of rules_by
 copy-requires c = let a = c.args in
-    let whole : Whole a.pool = record { heads = search (rules, length_unmap); bytes = search rules } in
+    let whole : Whole a.pool.now = record { heads = search (rules, length_unmap); bytes = search rules } in
     let eight : length a.heard.«data» ≡ 8 = search rules in
-    let fits = (planned (rules_by a.pool.kind a.pool.mode) (same_limit a.pool.kind a.pool.mode) _ a.heard a.pool a.counters whole eight _ _ _ _ _ _ c.found-seen.ensures c.is_listed-listed.ensures c.place_for-place.ensures c.within_limit-g.ensures.0 c.decide-plan.ensures).fits in
+    let fits = (planned (rules_by a.pool.now.kind a.pool.now.mode) (same_limit a.pool.now.kind a.pool.now.mode) _ a.heard a.pool.now a.counters.now whole eight _ _ _ _ _ _ c.found-seen.ensures c.is_listed-listed.ensures c.place_for-place.ensures c.within_limit-g.ensures.0 c.decide-plan.ensures).fits in
     let low = c.within_limit-g.ensures.1 in
     (omega (arith, fits.room, low, whole.bytes), omega (arith, fits.there, eight))
 
 pub copy-requires-2 : goal.copy-requires-2
 unfolding rules_of rules_by
 copy-requires-2 c = let a = c.args in
-    let whole : Whole a.pool = record { heads = search (rules, length_unmap); bytes = search rules } in
+    let whole : Whole a.pool.now = record { heads = search (rules, length_unmap); bytes = search rules } in
     let eight : length a.heard.«data» ≡ 8 = search rules in
-    let fits = (planned (rules_by a.pool.kind a.pool.mode) (same_limit a.pool.kind a.pool.mode) _ a.heard a.pool a.counters whole eight _ _ _ _ _ _ c.found-seen.ensures c.is_listed-listed.ensures c.place_for-place.ensures c.within_limit-g.ensures.0 c.decide-plan.ensures).fits in
+    let fits = (planned (rules_by a.pool.now.kind a.pool.now.mode) (same_limit a.pool.now.kind a.pool.now.mode) _ a.heard a.pool.now a.counters.now whole eight _ _ _ _ _ _ c.found-seen.ensures c.is_listed-listed.ensures c.place_for-place.ensures c.within_limit-g.ensures.0 c.decide-plan.ensures).fits in
     let low = c.within_limit-g.ensures.1 in
-    let long = slot_long _ a.heard a.pool whole eight _ _ low fits c.copy.ensures in
+    let long = slot_long _ a.heard a.pool.now whole eight _ _ low fits c.copy.ensures in
     (omega (arith, fits.whole), omega (arith, fits.whole, low, long))
 
 pub copy-requires-3 : goal.copy-requires-3
 unfolding rules_of rules_by
 copy-requires-3 c = let a = c.args in
-    let whole : Whole a.pool = record { heads = search (rules, length_unmap); bytes = search rules } in
+    let whole : Whole a.pool.now = record { heads = search (rules, length_unmap); bytes = search rules } in
     let eight : length a.heard.«data» ≡ 8 = search rules in
-    let fits = (planned (rules_by a.pool.kind a.pool.mode) (same_limit a.pool.kind a.pool.mode) _ a.heard a.pool a.counters whole eight _ _ _ _ _ _ c.found-seen.ensures c.is_listed-listed.ensures c.place_for-place.ensures c.within_limit-g.ensures.0 c.decide-plan.ensures).fits in
+    let fits = (planned (rules_by a.pool.now.kind a.pool.now.mode) (same_limit a.pool.now.kind a.pool.now.mode) _ a.heard a.pool.now a.counters.now whole eight _ _ _ _ _ _ c.found-seen.ensures c.is_listed-listed.ensures c.place_for-place.ensures c.within_limit-g.ensures.0 c.decide-plan.ensures).fits in
     let low = c.within_limit-g.ensures.1 in
-    let long = slot_long _ a.heard a.pool whole eight _ _ low fits c.copy.ensures in
+    let long = slot_long _ a.heard a.pool.now whole eight _ _ low fits c.copy.ensures in
     let message = payload_long _ _ _ _ low fits long c.copy-2.ensures in
     (omega (arith, fits.short, message), omega (arith, fits.short, eight))
 
 pub overflow_add-result : goal.overflow_add-result
 unfolding rules_of rules_by
 overflow_add-result c = let a = c.args in
-    let whole : Whole a.pool = record { heads = search (rules, length_unmap); bytes = search rules } in
+    let whole : Whole a.pool.now = record { heads = search (rules, length_unmap); bytes = search rules } in
     let eight : length a.heard.«data» ≡ 8 = search rules in
-    let fits = (planned (rules_by a.pool.kind a.pool.mode) (same_limit a.pool.kind a.pool.mode) _ a.heard a.pool a.counters whole eight _ _ _ _ _ _ c.found-seen.ensures c.is_listed-listed.ensures c.place_for-place.ensures c.within_limit-g.ensures.0 c.decide-plan.ensures).fits in
+    let fits = (planned (rules_by a.pool.now.kind a.pool.now.mode) (same_limit a.pool.now.kind a.pool.now.mode) _ a.heard a.pool.now a.counters.now whole eight _ _ _ _ _ _ c.found-seen.ensures c.is_listed-listed.ensures c.place_for-place.ensures c.within_limit-g.ensures.0 c.decide-plan.ensures).fits in
     let low = c.within_limit-g.ensures.1 in
     omega (arith, fits.whole, fits.short)
 
 pub returns : goal.returns
 unfolding rules_of rules_by
 returns c = let a = c.args in
-    let whole : Whole a.pool = record { heads = search (rules, length_unmap); bytes = search rules } in
+    let whole : Whole a.pool.now = record { heads = search (rules, length_unmap); bytes = search rules } in
     let eight : length a.heard.«data» ≡ 8 = search rules in
-    answered (rules_by a.pool.kind a.pool.mode) (same_limit a.pool.kind a.pool.mode) _ a.heard a.pool a.counters whole eight _ _ _ _ _ _ c.found-seen.ensures c.is_listed-listed.ensures c.place_for-place.ensures c.within_limit-g.ensures.0 c.decide-plan.ensures _ _ _ _ c.copy.ensures c.count.ensures c.copy-2.ensures c.copy-3.ensures
+    answered (rules_by a.pool.now.kind a.pool.now.mode) (same_limit a.pool.now.kind a.pool.now.mode) _ a.heard a.pool.now a.counters.now whole eight _ _ _ _ _ _ c.found-seen.ensures c.is_listed-listed.ensures c.place_for-place.ensures c.within_limit-g.ensures.0 c.decide-plan.ensures _ _ _ _ c.copy.ensures c.count.ensures c.copy-2.ensures c.copy-3.ensures

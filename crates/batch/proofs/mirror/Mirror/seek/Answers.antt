@@ -13,12 +13,12 @@ returns-then-data-ne0 c = let live = c.first_live.ensures in
 pub returns-then-announced : goal.returns-then-announced
 unfolding quiet size_of
 returns-then-announced c =
-    (sought_quiet _ _ _ _ _ _ _ _ refl c.if-data-ne0.false (rw c.from-announced.ensures at c.if-announced.true), tt, c.key_of_frame-key.ensures.1)
+    (sought_quiet _ _ _ _ _ _ _ _ refl c.if-data-ne0.false c.if-announced.true, tt, c.key_of_frame-key.ensures.1)
 
 pub returns : goal.returns
 unfolding quiet size_of
 returns c = let chosen = c.choose.ensures in (
-  sought_first _ _ _ _ _ _ _ _ refl c.if-data-ne0.false _ (rw c.from-announced.ensures at c.if-announced.false) (rw c.key_of_frame-key.ensures.0 at chosen.0),
+  sought_first _ _ _ _ _ _ _ _ refl c.if-data-ne0.false _ c.if-announced.false (rw c.key_of_frame-key.ensures.0 at chosen.0),
   low_within _ _ c.args.self.now.small chosen.1,
   c.key_of_frame-key.ensures.1,
 )

@@ -1,8 +1,8 @@
--- `reassemble` meets its contract: what the row comes to picks the law of that case. Assumes nothing.
+-- `reassemble_row` meets its contract: what the row comes to picks the law of that case. Assumes nothing.
 use Rattle.std.proofs.Common.{sym, ◌∙◌}
 use Rattle.std.proofs.lemmas.Result.{err_from_is_err_and}
 use Rattle.oracle.proofs.Bridge.{strict_stops, strict_goes_on}
-use Rattle.oracle.proofs.reassemble.Goals as goal
+use Rattle.oracle.proofs.reassemble_row.Goals as goal
 
 pub returns-in_err-count : goal.returns-in_err-count
 returns-in_err-count g c =
