@@ -4,7 +4,6 @@ use lib.Seq.{paste, paste-zero, take-paste, drop-paste, set-get_or, length-paste
 use native.Mathlib.Nat.{sub-zero}
 use Rattle.base.specs.Answer.{gives}
 use Rattle.base.specs.Pick.{pick}
-use Rattle.base.specs.Lists.{any}
 use Rattle.session.specs.declared.Heard.{Heard}
 use Rattle.session.specs.declared.Head.{Head}
 use Rattle.session.specs.declared.Plan.{Plan}
@@ -16,19 +15,18 @@ use Rattle.session.specs.declared.PoolKind.{PoolKind}
 use Rattle.session.specs.declared.PoolKind.TheVariants.{Original, Addressed}
 use Rattle.session.specs.declared.Kind.{Kind}
 use Rattle.session.specs.declared.Kind.TheVariants.{FragmentConsumed, MessageComplete}
-use Rattle.session.specs.Heads.{impossible_head, copied_head}
+use Rattle.session.specs.Heads.{copied_head}
 use Rattle.session.specs.Counting.{Mark, raised}
-use Rattle.session.specs.inner.Search.{nothing_found, seen_if, found_in}
+use Rattle.session.specs.inner.Search.{found_in}
 use Rattle.session.specs.inner.Plan.{idle}
-use Rattle.session.proofs.Seen.{seen_bad}
 use Rattle.base.proofs.Bools.{or_left, or_right}
 use Rattle.assembler.specs.declared.Pool.{Pool}
 use Rattle.assembler.specs.Call.{part_fits}
-use Rattle.assembler.specs.Slots.{on_head, impossible}
+use Rattle.assembler.specs.Slots.{impossible}
 use Rattle.assembler.specs.Making.{pool_bytes}
-use Rattle.assembler.specs.View.{slots_from, slots_of, receive_of}
+use Rattle.assembler.specs.View.{slots_of, receive_of}
 use Rattle.assembler.specs.Promises.{same_kind}
-use Rattle.assembler.proofs.Views.{Whole, any_view}
+use Rattle.assembler.proofs.Views.{Whole}
 use Rattle.assembler.proofs.Carries.{carried, Does, slot_long}
 use Rattle.assembler.proofs.Crowded.{looked_at}
 use Rattle.batch.proofs.WayLaws.{short_plan, run_plan}

@@ -1,5 +1,5 @@
 -- `batching::process_frames` meets its contract: after i frames the code's state is the run's, and each frame more is a step of it. Assumes nothing.
-use Rattle.std.proofs.Common.{◌≡◌, ℕ, Bool, List, slice_index, sym, refl, ◌∙◌, arith}
+use Rattle.std.proofs.Common.{◌≡◌, ℕ, Bool, List, slice_index, sym, ◌∙◌, arith}
 use Rattle.session.specs.Rules.{rules_by}
 use Rattle.session.proofs.SearchLaws.{same_limit}
 use Rattle.assembler.proofs.Copies.{length_unmap}
