@@ -7,6 +7,7 @@ pub mod Runs
 pub mod View
 pub mod Arrivals
 pub mod Promises
+pub mod Firsts
 pub mod Possible
 pub mod OldKind
 pub mod inner

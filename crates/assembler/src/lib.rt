@@ -6,6 +6,8 @@ mod bytes;
 mod lending;
 mod making;
 mod receiving;
+#[cfg(test)]
+mod tests;
 
 pub use arrivals::Arrive;
 use can_id::CanId;

@@ -18,11 +18,12 @@ use session::{
 };
 
 impl Pool {
-    // What one walk over the heads finds, from the last to the first. Of a pool that is too large nothing is looked at.
+    // What one walk over the heads finds, from the last to the first. Of a pool that is too large nothing is looked at. By document 01's steps it is `first_slots`
+    // of the pool (`walk_finds` in proofs/Crowded).
     // Inlined, since what asks whether a pool is impossible needs none of the places: by a call, a batch of one frame on a pool of 32 takes a fifth more time.
     #[inline(always)]
     #[tactic(auto, using(crate::proofs::Crowded::none_looked_at))]
-    fn found(&self, heard: Heard) -> Found
+    pub fn found(&self, heard: Heard) -> Found
         ensures { result ≡ found_in (rules_of self.now) heard self.now.size self.now.heads }
     {
         if POOL_LIMIT < self.size {

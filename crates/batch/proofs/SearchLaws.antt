@@ -21,6 +21,10 @@ key_idle h b = rw b
 -- ---- where a frame goes
 
 module _ (mode : Mode) (keys owners lasts : List ℕ) (n : ℕ) (listed : Bool) (key : ℕ) (f : Heard) where
+  pub sought_unlisted : listed ≡ false → pool_limit ≡ sought mode keys owners lasts n listed key f
+  unfolding sought pick
+  sought_unlisted e = rw e
+
   module _ (e : listed ≡ true) where
     pub sought_next : (r : ℕ) → (get_or f.«data» 0 0 % 32 ≡ 0 → ⊥) → r ≡ live_in mode keys lasts n key f.now_ms → r ≡ sought mode keys owners lasts n listed key f
     unfolding sought pick index_of

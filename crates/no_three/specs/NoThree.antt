@@ -144,7 +144,7 @@ pub record NoThree : Type 0 where
 -- `CanId::builder`, `CanIdBuilder::new`, `CanIdBuilder::with_priority`, `CanIdBuilder::to_destination`, `CanIdBuilder::priority`, `CanIdBuilder::destination`,
 -- `is_listed`, `fill_short`, `FastPacketBuilder::new`, `FastPacketBuilder::with_sequence_id`, `FastPacketBuilder::with_priority`,
 -- `FastPacketBuilder::to_destination`, `FastPacketBuilder::build`, `count`, `fresh_head`, `look`, `nothing_found`, `place_for`, `within_limit`, `Pool::default`,
--- `Pool::is_impossible`, `FrameRow::count`, `FrameRow::frame`,
+-- `Pool::found`, `Pool::is_impossible`, `FrameRow::count`, `FrameRow::frame`,
 -- `frame_count`; the entries `hf_fill_short`, `hf_raw_builder_new`, `hf_raw_builder_with_sequence_id`, `hf_raw_builder_with_priority`,
 -- `hf_raw_builder_to_destination`, `hf_raw_builder_build`, `hf_frame_count`; and below them `split_count`, `builder_from`, `builder_numbers`, `lay_made`,
 -- `after_numbers`, `iterator_from`, `place_numbers`, `go_on`, `destination_from`, `address_number`, `put_heads`, `pool_from`, `counters_from`,
