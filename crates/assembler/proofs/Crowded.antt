@@ -1,4 +1,5 @@
--- What the walk over a pool's heads says of the pool: of one that is too large nothing is looked at, and what is bad is impossible. Assumes nothing.
+-- What the walk over a pool's heads says of the pool: of one that is too large nothing is looked at, what is bad is impossible, and the places are those of the
+-- first slots that document 01's steps look for. Assumes nothing.
 use Rattle.std.proofs.Common.{◌≡◌, ℕ, ◌<◌, Bool, true, false, ◌||◌, ltb, List, take, refl, sym, ap, ◌∙◌, lt-ltb}
 use Rattle.std.proofs.Math.Option.{Option, none, some}
 use Rattle.base.specs.Pick.{pick}

@@ -1,4 +1,5 @@
-// What one walk over a pool finds: values written from document 01's steps 1, 3 and 4, and not from what the walk gave.
+// What one walk over a pool finds: values written from document 01's steps 1, 3 and 4, and not from what the walk gave. That 32 stands for none, and that nothing
+// is looked at in a pool that is too large, is what `Pool::found` says.
 use crate::Pool;
 use session::{Found, Head, Heard, fresh_head};
 
