@@ -11,22 +11,23 @@ use Rattle.session.specs.Rules.{Rules}
 use Rattle.session.specs.Heads.{has_key, is_free, is_free_of_source, has_live_key}
 use Rattle.assembler.specs.Slots.{Slot, Slots, within, on_head, impossible}
 
--- the slots that are looked at: those within the size, and none of a pool whose size is over the limit
+-- the slots that are looked at: those within the size; none where the size is over the limit, since step 1 refuses such a pool before a slot is looked for
 unfoldable pub looked_over : Rules → Slots → List Slot
 looked_over R p = pick (ltb R.limit p.size) [] (within p)
 
--- the place of the first slot that passes, or the limit for none
+-- a place, or the limit for none
 unfoldable pub place_or : ℕ → Option ℕ → ℕ
 place_or limit none = limit
 place_or limit (some i) = i
 
+-- the place of the first slot that passes
 unfoldable pub first_slot : Rules → (Head → Bool) → Slots → ℕ
 first_slot R t p = place_or R.limit (first_at (on_head t) (looked_over R p))
 
 unfoldable pub first_slots : Rules → Heard → Slots → Found
 first_slots R f p =
     record {
-      -- step 1
+      -- step 1: whether the pool is one that it refuses
       bad = impossible R p;
       -- step 3: "the first slot in progress with this key, expired or not"
       key = first_slot R (has_key R f) p;
